@@ -1,0 +1,53 @@
+-- The laws of picking by a decision: by yes, by no, and for whatever both choices share. Decisions over all numbers
+-- below a bound are made here too.
+use mathlib.Core.Path.{_≡_, refl, sym, subst}
+use mathlib.Core.Bool.{Bool, true, false}
+use mathlib.Core.Logic.{_⊎_, inl, inr, ⊎-elim}
+use Prim.Native.Nat.{ℕ, zero, suc, _<_}
+use native.Mathlib.Nat.{not-suc-le-zero, le-of-suc-le-suc, eq-or-lt-of-le, lt-suc-self, le-step}
+use Rattle.algebra.specs.Choice.{pick}
+
+pub pick-yes : {P A : Type 0} (d : Dec P) (a b : A) → P → pick d a b ≡ a
+unfolding pick
+pick-yes (yes h) a b p = refl
+pick-yes (no h) a b p = absurd (h p)
+
+pub pick-no : {P A : Type 0} (d : Dec P) (a b : A) → (P → ⊥) → pick d a b ≡ b
+unfolding pick
+pick-no (yes h) a b n = absurd (n h)
+pick-no (no h) a b n = refl
+
+-- what holds of a under P and of b otherwise holds of the choice
+pub pick-elim : {P A : Type 0} (Q : A → Type 0) (d : Dec P) (a b : A) → (P → Q a) → ((P → ⊥) → Q b) → Q (pick d a b)
+unfolding pick
+pick-elim Q (yes h) a b f g = f h
+pick-elim Q (no h) a b f g = g h
+
+-- a test that is picked says which way the decision went
+pub pick-true : {P : Type 0} (d : Dec P) → pick d true false ≡ true → P
+unfolding pick
+pick-true (yes h) e = h
+pick-true (no h) e = absurd (subst is-false e tt)
+  where
+    is-false : Bool → Type 0
+    is-false true = ⊥
+    is-false false = Unit {0}
+
+pub pick-false : {P : Type 0} (d : Dec P) → pick d true false ≡ false → P → ⊥
+unfolding pick
+pick-false (no h) e = h
+pick-false (yes h) e = absurd (subst is-true e tt)
+  where
+    is-true : Bool → Type 0
+    is-true true = Unit {0}
+    is-true false = ⊥
+
+-- what is decided of each number is decided of all numbers below a bound
+pub all-below? : (P : ℕ → Type 0) → ((k : ℕ) → Dec (P k)) → (n : ℕ) → Dec ((k : ℕ) → k < n → P k)
+all-below? P d zero = yes (λ k h. absurd (not-suc-le-zero h))
+all-below? P d (suc n) = go (all-below? P d n) (d n)
+  where
+    go : Dec ((k : ℕ) → k < n → P k) → Dec (P n) → Dec ((k : ℕ) → k < suc n → P k)
+    go (no f) q = no (λ g. f (λ k h. g k (le-step h)))
+    go (yes f) (no g) = no (λ a. g (a n (lt-suc-self n)))
+    go (yes f) (yes q) = yes (λ k h. ⊎-elim (λ e. subst P (sym e) q) (λ l. f k l) (eq-or-lt-of-le (le-of-suc-le-suc h)))

@@ -1,0 +1,10 @@
+pub mod Choice
+pub mod Rings
+pub mod Sums
+pub mod Matrices
+pub mod Blocks
+pub mod Counts
+pub mod Elimination
+pub mod Step
+pub mod Base
+pub mod Exists

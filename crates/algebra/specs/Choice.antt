@@ -1,0 +1,13 @@
+-- Choosing by a test or by a decision. A definition picks with these, and proofs go by the laws of `proofs/Choice.antt`,
+-- so that nothing computes a decision.
+use mathlib.Core.Bool.{Bool, true, false}
+
+-- the first of two where the test is true, else the second
+abbrev pub choose : {A : Type 0} → Bool → A → A → A
+choose true a b = a
+choose false a b = b
+
+-- the first of two where the decision is yes, else the second
+unfoldable pub pick : {P A : Type 0} → Dec P → A → A → A
+pick (yes h) a b = a
+pick (no h) a b = b

@@ -1,0 +1,5 @@
+pub mod Choice
+pub mod Ring
+pub mod Matrix
+pub mod Span
+pub mod Quasiinverse

@@ -1,0 +1,15 @@
+-- 01, "The field and the tables": the modulus is a prime from 2 to 2,147,483,647.
+use mathlib.Core.Bool.{Bool, true, false}
+use Prim.Native.Nat.{ℕ, zero, suc, _≤_, _<_, _∣_}
+use native.Mathlib.Decide.{decLe, decLt, decDvd}
+use Rattle.algebra.specs.Choice.{pick}
+
+-- at least 2, with no divisor strictly between 1 and itself
+pub record Prime (p : ℕ) : Type 0 where
+  pub two-or-more : 2 ≤ p
+  pub no-divisor : (d : ℕ) → 1 < d → d < p → d ∣ p → ⊥
+
+-- what every call takes for a modulus
+pub record IsModulus (p : ℕ) : Type 0 where
+  pub prime : Prime p
+  pub in-range : p ≤ 2147483647
