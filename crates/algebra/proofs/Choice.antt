@@ -1,11 +1,12 @@
 -- The laws of picking by a decision: by yes, by no, and for whatever both choices share. Decisions over all numbers
 -- below a bound are made here too.
-use mathlib.Core.Path.{_≡_, refl, sym, subst}
+use mathlib.Core.Path.{_≡_, refl, sym, ap, subst}
 use mathlib.Core.Bool.{Bool, true, false}
 use mathlib.Core.Logic.{_⊎_, inl, inr, ⊎-elim}
 use Prim.Native.Nat.{ℕ, zero, suc, _<_}
+use lib.Dec.{T}
 use native.Mathlib.Nat.{not-suc-le-zero, le-of-suc-le-suc, eq-or-lt-of-le, lt-suc-self, le-step}
-use Rattle.algebra.specs.Choice.{pick}
+use Rattle.algebra.specs.Choice.{pick, pickBy}
 
 pub pick-yes : {P A : Type 0} (d : Dec P) (a b : A) → P → pick d a b ≡ a
 unfolding pick
@@ -22,6 +23,17 @@ pub pick-elim : {P A : Type 0} (Q : A → Type 0) (d : Dec P) (a b : A) → (P �
 unfolding pick
 pick-elim Q (yes h) a b f g = f h
 pick-elim Q (no h) a b f g = g h
+
+-- by a yes that has at most one proof
+pub pick-by-yes : {P A : Type 0} (d : Dec P) (f : P → A) (b : A) → IsProp P → (h : P) → pickBy d f b ≡ f h
+unfolding pickBy
+pick-by-yes (yes g) f b prop h = ap f (prop g h)
+pick-by-yes (no g) f b prop h = absurd (g h)
+
+pub pick-by-no : {P A : Type 0} (d : Dec P) (f : P → A) (b : A) → (P → ⊥) → pickBy d f b ≡ b
+unfolding pickBy
+pick-by-no (yes g) f b n = absurd (n g)
+pick-by-no (no g) f b n = refl
 
 -- a test that is picked says which way the decision went
 pub pick-true : {P : Type 0} (d : Dec P) → pick d true false ≡ true → P
@@ -51,3 +63,8 @@ all-below? P d (suc n) = go (all-below? P d n) (d n)
     go (no f) q = no (λ g. f (λ k h. g k (le-step h)))
     go (yes f) (no g) = no (λ a. g (a n (lt-suc-self n)))
     go (yes f) (yes q) = yes (λ k h. ⊎-elim (λ e. subst P (sym e) q) (λ l. f k l) (eq-or-lt-of-le (le-of-suc-le-suc h)))
+
+-- a test that passes exactly if P holds is the one that the decision of P makes
+pub test-is-pick : {P : Type 0} {t : Bool} (d : Dec P) → (P → T t) → (T t → P) → t ≡ pick d true false
+test-is-pick {t = true} d f g = sym (pick-yes d true false (g tt))
+test-is-pick {t = false} d f g = sym (pick-no d true false f)

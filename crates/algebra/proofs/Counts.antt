@@ -7,12 +7,8 @@ use native.Mathlib.Omega.{arith}
 use lib.Dec.{ltb}
 use Rattle.algebra.specs.Choice.{choose}
 use Rattle.algebra.specs.Quasiinverse.{Marks, count, either, follow}
+use Rattle.algebra.proofs.Marks.{by-test}
 use Rattle.algebra.proofs.Blocks.{choose-upper, choose-lower}
-
--- a test is true or false
-pub both-ways : (b : Bool) {P : Type 0} → (b ≡ true → P) → (b ≡ false → P) → P
-both-ways true f g = f refl
-both-ways false f g = g refl
 
 -- no test is both
 pub true-not-false : {b : Bool} → b ≡ true → b ≡ false → ⊥
@@ -54,11 +50,11 @@ count-either (suc n) I K h =
 pub either-false : (I K : Marks) (c : ℕ) → either I K c ≡ false → (I c ≡ false) × (K c ≡ false)
 unfolding either
 either-false I K c e =
-    both-ways (I c) (λ t. absurd (true-not-false (ap (λ b. choose b true (K c)) t) e)) (λ f. (f, sym (ap (λ b. choose b true (K c)) f) ∙ e))
+    by-test (I c) (λ t. absurd (true-not-false (ap (λ b. choose b true (K c)) t) e)) (λ f. (f, sym (ap (λ b. choose b true (K c)) f) ∙ e))
 
 pub either-true : (I K : Marks) (c : ℕ) {P : Type 0} → either I K c ≡ true → (I c ≡ true → P) → (I c ≡ false → K c ≡ true → P) → P
 unfolding either
-either-true I K c e f g = both-ways (I c) f (λ h. g h (sym (ap (λ b. choose b true (K c)) h) ∙ e))
+either-true I K c e f g = by-test (I c) f (λ h. g h (sym (ap (λ b. choose b true (K c)) h) ∙ e))
 
 pub follow-upper : (m : ℕ) (J K : Marks) (y : ℕ) → y < m → follow m J K y ≡ J y
 unfolding follow

@@ -14,6 +14,7 @@ use Rattle.algebra.proofs.Sums as sums
 use Rattle.algebra.proofs.Matrices as matrices
 use Rattle.algebra.proofs.Blocks as blocks
 use Rattle.algebra.proofs.Blocks.{Part, upper, lower, part}
+use Rattle.algebra.proofs.Marks.{by-test}
 use Rattle.algebra.proofs.Counts as counts
 use Rattle.algebra.proofs.Elimination as elimination
 
@@ -110,7 +111,7 @@ module _ (R : Ring) (L : IsCommutativeRing R) where
       -- so no column is chosen twice
       disjoint : (c : ℕ) → I₁ c ≡ true → I₂ c ≡ false
       disjoint c h =
-          counts.both-ways (I₂ c)
+          by-test (I₂ c)
           (λ t.
           absurd
           (one-not-zero

@@ -11,3 +11,8 @@ choose false a b = b
 unfoldable pub pick : {P A : Type 0} → Dec P → A → A → A
 pick (yes h) a b = a
 pick (no h) a b = b
+
+-- what a yes gives by its proof, else the second
+unfoldable pub pickBy : {P A : Type 0} → Dec P → (P → A) → A → A
+pickBy (yes h) f b = f h
+pickBy (no h) f b = b

@@ -3,3 +3,5 @@ pub mod Ring
 pub mod Matrix
 pub mod Span
 pub mod Quasiinverse
+pub mod Kernel
+pub mod Solve

@@ -15,7 +15,7 @@ abbrev μ-loop : tie.MeasureT-loop
 
 -- in a turn d is far below p
 far : (c : tie.In-loop Inv-loop μ-loop) → 5 * c .before .loop .d ≤ c .before .before .before .before .before .before .before .args .p
-far c = room _ _ (c .before .loop .inv .0) (c .loop-test .taken)
+far c = room _ _ (c .before .loop .inv .0) (omega arith)
 
 returns : tie.Need-returns Inv-loop μ-loop
 returns c = fails _ (λ m. omega arith)
@@ -66,7 +66,7 @@ loop-again c =
     (omega arith, omega arith, next-turn _ _ (i .1) (start .before .if4 .left) (start .if5 .left) (c .before .if6 .left) (c .if7 .left) (i .2))
 
 returns-8 : tie.Need-returns-8 Inv-loop μ-loop
-returns-8 c = passes _ (undivided (c .before .loop .d) _ (omega arith) (c .loop-test .left) (omega arith) (omega arith) (c .before .loop .inv .2))
+returns-8 c = passes _ (undivided (c .before .loop .d) _ (omega arith) (omega arith) (omega arith) (omega arith) (c .before .loop .inv .2))
 
 pub is-modulus-spec : {M : Type 1} → statement M
 is-modulus-spec =

@@ -1,0 +1,64 @@
+-- Over a field it is decided whether a vector is a combination of rows: it is one exactly if (vD)X = v for a quasiinverse D
+-- of the rows.
+use mathlib.Core.Path.{_≡_, refl, sym, ap, _∙_}
+use mathlib.Core.Bool.{Bool, true, false}
+use Prim.Native.Nat.{ℕ, _≤_, _<_}
+use lib.Dec.{ltb}
+use borrow.Author.Tests.{lt-ltb, le-ltb}
+use Rattle.algebra.specs.Choice.{choose}
+use Rattle.algebra.specs.Ring.{Ring, IsField}
+use Rattle.algebra.specs.Matrix.{Vector, Matrix, Sized, sum, mixed}
+use Rattle.algebra.specs.Span.{Combines, IsCombination}
+use Rattle.algebra.proofs.Choice.{all-below?}
+use Rattle.algebra.proofs.Sums as sums
+use Rattle.algebra.proofs.Exists.{solved}
+use Rattle.algebra.proofs.Independent.{combination-found}
+
+module _ (R : Ring) where
+  -- X cut to m rows and n columns
+  unfoldable pub cut : (m n : ℕ) → Matrix R → Matrix R
+  cut m n X i j = choose (ltb i m) (choose (ltb j n) (X i j) (R .zero)) (R .zero)
+
+  cut-inside : (m n : ℕ) (X : Matrix R) (i j : ℕ) → i < m → j < n → cut m n X i j ≡ X i j
+  unfolding cut
+  cut-inside m n X i j h l =
+      ap (λ b. choose b (choose (ltb j n) (X i j) (R .zero)) (R .zero)) (lt-ltb i m h)
+      ∙ ap (λ b. choose b (X i j) (R .zero)) (lt-ltb j n l)
+
+  pub cut-sized : (m n : ℕ) (X : Matrix R) → Sized R m n (cut m n X)
+  unfolding cut
+  cut-sized m n X =
+      record {
+        rows-end = λ i j h. ap (λ b. choose b (choose (ltb j n) (X i j) (R .zero)) (R .zero)) (le-ltb i m h);
+        columns-end = λ i j h. ap (λ b. choose (ltb i m) (choose b (X i j) (R .zero)) (R .zero)) (le-ltb j n h) ∙ same (ltb i m);
+      }
+    where
+      same : (b : Bool) → choose b (R .zero) (R .zero) ≡ R .zero
+      same true = refl
+      same false = refl
+
+  -- the rows that are cut combine as the whole ones do
+  mixed-cut : (m n : ℕ) (X : Matrix R) (u : Vector R) (j : ℕ) → j < n → mixed R m u (cut m n X) j ≡ mixed R m u X j
+  unfolding mixed
+  mixed-cut m n X u j l =
+      sums.sum-same R m (λ t. R .times (u t) (cut m n X t j)) (λ t. R .times (u t) (X t j))
+      (λ t h. ap (R .times (u t)) (cut-inside m n X t j h l))
+
+module _ (R : Ring) (F : IsField R) where
+  -- whether v, n numbers, is a combination of the first k rows of X
+  pub combination? : (k n : ℕ) (X : Matrix R) (v : Vector R) → Dec (IsCombination R k n X v)
+  combination? k n X v =
+      go (all-below? (λ j. v j ≡ mixed R k u X j) (λ j. F .equal? (v j) (mixed R k u X j)) n)
+    where
+      u : Vector R
+      u = mixed R n v (solved R F k n (cut R k n X) (cut-sized R k n X) .D)
+
+      go : Dec (Combines R k n X u v) → Dec (IsCombination R k n X v)
+      go (yes h) = yes (u, h)
+      go (no f) =
+          no
+          (λ (w, h). f
+          (λ j l.
+          combination-found R (F .ring) (solved R F k n (cut R k n X) (cut-sized R k n X) .holds) v w
+          (λ i b. h i b ∙ sym (mixed-cut R k n X w i b)) j l
+          ∙ mixed-cut R k n X u j l))

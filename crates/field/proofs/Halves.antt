@@ -1,0 +1,151 @@
+-- The laws of halves: adding the halves of a product apart adds the product, k halves stay within k times the largest half,
+-- and so there is room for 4096 of them. `Within` is opened here alone, so that no invariant shows its large number.
+use mathlib.Core.Path.{_≡_, refl, sym, ap, _∙_}
+use mathlib.Core.List.{List}
+use Prim.Native.Nat.{ℕ, zero, suc, _+_, _*_, _/_, _%_, _<_, _≤_}
+use native.Mathlib.Nat.{mod-lt, mod-add-div, mod-add-mod, mul-le-mul, mul-zero, add-zero}
+use native.Mathlib.Omega.{arith}
+use lib.ListN.{length, getD, replicate, List·getD-eq-default}
+use mir.Val.{Fits}
+use mir.Syntax.{w32, w64}
+use Rattle.field.specs.Halves.{low, high, whole, Room}
+use Rattle.field.proofs.Residues.{mod-times}
+
+-- the halves of nothing
+pub low-zero : low 0 ≡ 0
+unfolding low
+low-zero = refl
+
+pub high-zero : high 0 ≡ 0
+unfolding high
+high-zero = refl
+
+pub whole-zero : whole 0 0 ≡ 0
+unfolding whole
+whole-zero = refl
+
+-- the halves of x added apart add x
+pub whole-add : (lo hi x : ℕ) → whole (lo + low x) (hi + high x) ≡ whole lo hi + x
+unfolding low high whole
+whole-add lo hi x = omega (arith, mod-add-div x 4294967296)
+
+-- what is added to the low sum is added
+pub whole-low : (n m lo hi : ℕ) → n ≡ m → whole (lo + n) hi ≡ m + whole lo hi
+unfolding whole
+whole-low n m lo hi e = omega arith
+
+-- the product of two numbers of 32 bits has 64
+pub product-fits : (a b : ℕ) → Fits w32 a → Fits w32 b → Fits w64 (a * b)
+product-fits a b f g =
+    let ha : a ≤ 4294967295 = omega arith in
+    let hb : b ≤ 4294967295 = omega arith in
+    omega (arith, mul-le-mul ha hb)
+
+-- where there is room, a half fits
+pub low-fits : (n x : ℕ) → Room n → Fits w64 (n + low x)
+unfolding Room low
+low-fits n x r = omega arith
+
+pub high-fits : (n x : ℕ) → Room n → Fits w64 x → Fits w64 (n + high x)
+unfolding Room high
+high-fits n x r f = omega arith
+
+-- a number of 32 bits fits too
+pub word-fits : (n x : ℕ) → Room n → Fits w32 x → Fits w64 (n + x)
+unfolding Room
+word-fits n x r f = omega arith
+
+-- n is no more than k times the largest half
+pub Within : ℕ → ℕ → Type 0
+Within k n = n ≤ k * 4294967295
+
+pub within-zero : Within 0 0
+unfolding Within
+within-zero = omega arith
+
+pub within-low : (k n x : ℕ) → Within k n → Within (k + 1) (n + low x)
+unfolding Within low
+within-low k n x h = omega arith
+
+pub within-high : (k n x : ℕ) → Within k n → Fits w64 x → Within (k + 1) (n + high x)
+unfolding Within high
+within-high k n x h f = omega arith
+
+pub within-room : (k n : ℕ) → k ≤ 4096 → Within k n → Room n
+unfolding Within Room
+within-room k n h w = omega arith
+
+pub within-more : (k n : ℕ) → Within k n → Within (k + 1) n
+unfolding Within
+within-more k n h = omega arith
+
+-- a residue modulo a number of 32 bits has 32 bits
+pub mod-fits : (p n : ℕ) → 0 < p → Fits w32 p → Fits w32 (n % p)
+mod-fits p n pos f = omega (arith, mod-lt n pos)
+
+-- a high half reduced modulo p, put above a low half, has 64 bits
+pub joined-fits : (p h l : ℕ) → 0 < p → Fits w32 p → Fits w64 (h % p * 4294967296 + low l)
+unfolding low
+joined-fits p h l pos f = omega (arith, mod-lt h pos)
+
+-- and is, modulo p, the number itself
+pub joined-mod : (p lo hi : ℕ) → ((hi + high lo) % p * 4294967296 + low lo) % p ≡ whole lo hi % p
+unfolding low high whole
+joined-mod p lo hi =
+    sym (mod-add-mod (top % p * 4294967296) p (lo % 4294967296))
+    ∙ ap (λ n. (n + lo % 4294967296) % p) (mod-times top 4294967296 p)
+    ∙ mod-add-mod (top * 4294967296) p (lo % 4294967296)
+    ∙ ap (λ n. n % p) same
+  where
+    top : ℕ
+    top = hi + lo / 4294967296
+
+    same : top * 4294967296 + lo % 4294967296 ≡ lo + 4294967296 * hi
+    same = omega (arith, mod-add-div lo 4294967296)
+
+-- lo and hi are the sums of the halves of no more than k products, which together make v
+pub record Sums (k lo hi v : ℕ) : Type 0 where
+  pub low-within : Within k lo
+  pub high-within : Within k hi
+  pub same : whole lo hi ≡ v
+
+pub sums-none : Sums 0 0 0 0
+sums-none = record { low-within = within-zero; high-within = within-zero; same = whole-zero }
+
+-- one product more
+pub sums-more : (k lo hi v x : ℕ) → Sums k lo hi v → Fits w64 x → Sums (k + 1) (lo + low x) (hi + high x) (v + x)
+sums-more k lo hi v x s f =
+    record {
+      low-within = within-low k lo x (s .low-within);
+      high-within = within-high k hi x (s .high-within) f;
+      same = whole-add lo hi x ∙ ap (λ n. n + x) (s .same);
+    }
+
+-- a product of 0 need not be added
+pub sums-skip : (k lo hi v : ℕ) → Sums k lo hi v → Sums (k + 1) lo hi v
+sums-skip k lo hi v s =
+    record {
+      low-within = within-more k lo (s .low-within);
+      high-within = within-more k hi (s .high-within);
+      same = s .same;
+    }
+
+-- there is room for 4096 products
+pub sums-room-low : (k lo hi v : ℕ) → k ≤ 4096 → Sums k lo hi v → Room lo
+sums-room-low k lo hi v h s = within-room k lo h (s .low-within)
+
+pub sums-room-high : (k lo hi v : ℕ) → k ≤ 4096 → Sums k lo hi v → Room hi
+sums-room-high k lo hi v h s = within-room k hi h (s .high-within)
+
+-- a list of zeros has 0 at every place, and past its end
+pub zeros-at : (n j : ℕ) → _≡_ {A = ℕ} (getD (replicate n 0) j 0) 0
+zeros-at zero j = refl
+zeros-at (suc n) zero = refl
+zeros-at (suc n) (suc j) = zeros-at n j
+
+-- the halves of c times a number past the end of the row
+pub low-past : (c : ℕ) (row : List ℕ) (n j : ℕ) → length row ≤ j → n ≡ n + low (c * getD row j 0)
+low-past c row n j h = rw (List·getD-eq-default row 0 h, mul-zero, low-zero, add-zero)
+
+pub high-past : (c : ℕ) (row : List ℕ) (n j : ℕ) → length row ≤ j → n ≡ n + high (c * getD row j 0)
+high-past c row n j h = rw (List·getD-eq-default row 0 h, mul-zero, high-zero, add-zero)

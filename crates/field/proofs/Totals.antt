@@ -1,0 +1,53 @@
+-- Sums of products of natural numbers, and that their residue is the ring's sum of products of residues: what the code adds
+-- up in ℕ is, reduced once, what the contracts say in the residues.
+use mathlib.Core.Path.{_≡_, refl, sym, ap, fun-ext, _∙_}
+use mathlib.Core.List.{List}
+use Prim.Native.Nat.{ℕ, zero, suc, _+_, _*_}
+use native.Mathlib.Nat.{mul-one, zero-add}
+use native.Mathlib.Numerals.{add-one}
+use lib.ListN.{getD}
+use Rattle.algebra.specs.Matrix.{sum}
+use Rattle.algebra.proofs.Sums.{sum-none, sum-next}
+use Rattle.field.specs.Residue.{Residue, reduce, residues, _⊕_, _⊗_}
+use Rattle.field.specs.View.{line}
+use Rattle.field.proofs.Residues.{reduce-plus, reduce-times}
+
+-- f 0 + .. + f (n - 1)
+pub total : ℕ → (ℕ → ℕ) → ℕ
+total zero f = 0
+total (suc n) f = total n f + f n
+
+pub total-zero : (f : ℕ → ℕ) → total 0 f ≡ 0
+unfolding total
+total-zero f = refl
+
+pub total-suc : (n : ℕ) (f : ℕ → ℕ) → total (suc n) f ≡ total n f + f n
+unfolding total
+total-suc n f = refl
+
+-- the same, as a loop counts
+pub total-more : (n : ℕ) (f : ℕ → ℕ) → total (n + 1) f ≡ total n f + f n
+total-more n f = rw add-one (total-suc n f)
+
+-- the residue of a sum of numbers is the sum of their residues
+pub reduce-total : (p n : ℕ) (f : ℕ → ℕ) → reduce p (total n f) ≡ sum (residues p) n (λ t. reduce p (f t))
+reduce-total p zero f = ap (reduce p) (total-zero f) ∙ sym (sum-none (residues p) (λ t. reduce p (f t)))
+reduce-total p (suc n) f =
+    ap (reduce p) (total-suc n f) ∙ reduce-plus p (total n f) (f n)
+    ∙ ap (λ (a : Residue p). a ⊕ reduce p (f n)) (reduce-total p n f)
+    ∙ sym (sum-next (residues p) n (λ t. reduce p (f t)))
+
+-- the products of the numbers of xs and of those of ys at start, start + step, ..
+unfoldable pub products : List ℕ → List ℕ → ℕ → ℕ → ℕ → ℕ
+products xs ys start step t = getD xs t 0 * getD ys (start + t * step) 0
+
+reduce-product : (p : ℕ) (xs ys : List ℕ) (start step t : ℕ) → reduce p (products xs ys start step t) ≡ line p xs 0 1 t ⊗ line p ys start step t
+unfolding products line
+reduce-product p xs ys start step t =
+    reduce-times p (getD xs t 0) (getD ys (start + t * step) 0)
+    ∙ ap (λ k. reduce p (getD xs k 0) ⊗ reduce p (getD ys (start + t * step) 0)) (sym (zero-add (t * 1) ∙ mul-one t))
+
+-- the residue of the sum of products is the sum of the products of the lines of residues
+pub reduce-products : (p n : ℕ) (xs ys : List ℕ) (start step : ℕ) → reduce p (total n (products xs ys start step)) ≡ sum (residues p) n (λ t. line p xs 0 1 t ⊗ line p ys start step t)
+reduce-products p n xs ys start step =
+    reduce-total p n (products xs ys start step) ∙ ap (sum (residues p) n) (fun-ext (reduce-product p xs ys start step))

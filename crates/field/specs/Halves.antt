@@ -1,0 +1,50 @@
+-- Numbers below 2^64 as a low and a high half of 32 bits, and two sums kept apart for the halves. What the loops of `sums`
+-- say of their sums is said in these words.
+use mathlib.Core.Path.{_≡_}
+use mathlib.Core.List.{List}
+use Prim.Native.Nat.{ℕ, _+_, _*_, _/_, _%_, _^_, _<_, _≤_}
+use lib.ListN.{length, getD}
+use Rattle.field.specs.Residue.{reduce}
+
+-- the halves of a number
+unfoldable pub low : ℕ → ℕ
+low x = x % 4294967296
+
+unfoldable pub high : ℕ → ℕ
+high x = x / 4294967296
+
+-- the number that two sums of halves stand for
+unfoldable pub whole : ℕ → ℕ → ℕ
+whole lo hi = lo + 4294967296 * hi
+
+-- one more half can be added to n within 64 bits
+unfoldable pub Room : ℕ → Type 0
+Room n = n + 4294967296 ≤ 2 ^ 64
+
+-- there is room at every place
+abbrev pub Rooms : List ℕ → Type 0
+Rooms xs = (j : ℕ) → Room (getD xs j 0)
+
+-- 64 zeros
+pub record Zeros (xs : List ℕ) : Type 0 where
+  pub long : length xs ≡ 64
+  pub zero-at : (j : ℕ) → getD xs j 0 ≡ 0
+
+-- a row fits two lists of sums of halves that have room at every place
+pub record Ready (row lo hi : List ℕ) : Type 0 where
+  pub long-lo : length row ≤ length lo
+  pub long-hi : length row ≤ length hi
+  pub room-lo : Rooms lo
+  pub room-hi : Rooms hi
+
+-- los and his are lo and hi, with the halves of c times the number of the row added at each place of the row
+pub record Added (c : ℕ) (row lo hi los his : List ℕ) : Type 0 where
+  pub long-lo : length los ≡ length lo
+  pub long-hi : length his ≡ length hi
+  pub low-at : (j : ℕ) → getD los j 0 ≡ getD lo j 0 + low (c * getD row j 0)
+  pub high-at : (j : ℕ) → getD his j 0 ≡ getD hi j 0 + high (c * getD row j 0)
+
+-- after is before with, at each place, the number of the halves added modulo p
+pub record Summed (p : ℕ) (lo hi before after : List ℕ) : Type 0 where
+  pub long : length after ≡ length before
+  pub summed-at : (j : ℕ) → j < length before → getD after j 0 ≡ (reduce p (getD before j 0 + whole (getD lo j 0) (getD hi j 0))) .value

@@ -1,0 +1,4 @@
+pub mod Residue
+pub mod View
+pub mod Written
+pub mod Halves

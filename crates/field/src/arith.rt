@@ -1,0 +1,43 @@
+// Sum, difference, product and inverse of residues.
+ghost use mathlib.Core.Path.{_≡_};
+ghost use Prim.Native.Nat.{_<_, _≤_};
+ghost use Rattle.modulus.specs.Prime.{IsModulus};
+ghost use Rattle.field.specs.Residue.{reduce, _⊕_, _⊗_, negated};
+
+pub fn plus(p: u32, a: u32, b: u32) -> u32
+    requires { ⌜ (a < p) × (b < p) × (p ≤ 2147483647) ⌝ }
+    ensures { λ r. ⌜ r ≡ (reduce p a ⊕ reduce p b) .value ⌝ }
+{
+    let s = a + b;
+    if p <= s { s - p } else { s }
+}
+
+pub fn minus(p: u32, a: u32, b: u32) -> u32
+    requires { ⌜ (a < p) × (b < p) × (p ≤ 2147483647) ⌝ }
+    ensures { λ r. ⌜ r ≡ (reduce p a ⊕ negated (reduce p b)) .value ⌝ }
+{
+    if b <= a { a - b } else { a + (p - b) }
+}
+
+// The product needs 64 bits before it is reduced.
+pub fn times(p: u32, a: u32, b: u32) -> u32
+    requires { ⌜ (a < p) × (b < p) × (p ≤ 2147483647) ⌝ }
+    ensures { λ r. ⌜ r ≡ (reduce p a ⊗ reduce p b) .value ⌝ }
+{
+    ((a as u64) * (b as u64) % (p as u64)) as u32
+}
+
+// The r with a × r = 1. The invariant is a × s = x; x becomes p mod x, and s is multiplied by -(p / x); p is prime, so x
+// ends at 1.
+pub fn inverse(p: u32, a: u32) -> u32
+    requires { ⌜ IsModulus p × (0 < a) × (a < p) ⌝ }
+    ensures { λ r. ⌜ (r < p) × (reduce p a ⊗ reduce p r ≡ reduce p 1) ⌝ }
+{
+    let mut x = a;
+    let mut s = 1;
+    while 1 < x {
+        s = minus(p, 0, times(p, p / x, s));
+        x = p % x;
+    }
+    s
+}

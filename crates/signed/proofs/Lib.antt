@@ -1,0 +1,3 @@
+pub mod Readings
+pub mod Words
+pub mod Calls
