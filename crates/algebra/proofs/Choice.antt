@@ -30,6 +30,12 @@ unfolding pickBy
 pick-by-yes (yes g) f b prop h = ap f (prop g h)
 pick-by-yes (no g) f b prop h = absurd (g h)
 
+-- by a yes all of whose proofs give the same
+pub pick-by-same : {P A : Type 0} (d : Dec P) (f : P → A) (b : A) → ((g h : P) → f g ≡ f h) → (h : P) → pickBy d f b ≡ f h
+unfolding pickBy
+pick-by-same (yes g) f b same h = same g h
+pick-by-same (no g) f b same h = absurd (g h)
+
 pub pick-by-no : {P A : Type 0} (d : Dec P) (f : P → A) (b : A) → (P → ⊥) → pickBy d f b ≡ b
 unfolding pickBy
 pick-by-no (yes g) f b n = absurd (n g)

@@ -1,25 +1,25 @@
 -- Over a field it is decided whether a vector is a combination of rows: it is one exactly if (vD)X = v for a quasiinverse D
--- of the rows.
+-- of the rows; and whether rows are independent: if J has them all.
 use mathlib.Core.Path.{_≡_, refl, sym, ap, _∙_}
-use mathlib.Core.Bool.{Bool, true, false}
+use mathlib.Core.Bool.{Bool, true, false, true≢false}
 use Prim.Native.Nat.{ℕ, _≤_, _<_}
 use lib.Dec.{ltb}
 use borrow.Author.Tests.{lt-ltb, le-ltb}
 use Rattle.algebra.specs.Choice.{choose}
 use Rattle.algebra.specs.Ring.{Ring, IsField}
 use Rattle.algebra.specs.Matrix.{Vector, Matrix, Sized, sum, mixed}
-use Rattle.algebra.specs.Span.{Combines, IsCombination}
+use Rattle.algebra.specs.Span.{Combines, IsCombination, Independent}
 use Rattle.algebra.proofs.Choice.{all-below?}
 use Rattle.algebra.proofs.Sums as sums
-use Rattle.algebra.proofs.Exists.{solved}
-use Rattle.algebra.proofs.Independent.{combination-found}
+use Rattle.algebra.proofs.Exists.{Solved, solved}
+use Rattle.algebra.proofs.Independent.{combination-found, independent-chosen, chosen-independent}
 
 module _ (R : Ring) where
   -- X cut to m rows and n columns
   unfoldable pub cut : (m n : ℕ) → Matrix R → Matrix R
   cut m n X i j = choose (ltb i m) (choose (ltb j n) (X i j) (R .zero)) (R .zero)
 
-  cut-inside : (m n : ℕ) (X : Matrix R) (i j : ℕ) → i < m → j < n → cut m n X i j ≡ X i j
+  pub cut-inside : (m n : ℕ) (X : Matrix R) (i j : ℕ) → i < m → j < n → cut m n X i j ≡ X i j
   unfolding cut
   cut-inside m n X i j h l =
       ap (λ b. choose b (choose (ltb j n) (X i j) (R .zero)) (R .zero)) (lt-ltb i m h)
@@ -62,3 +62,22 @@ module _ (R : Ring) (F : IsField R) where
           combination-found R (F .ring) (solved R F k n (cut R k n X) (cut-sized R k n X) .holds) v w
           (λ i b. h i b ∙ sym (mixed-cut R k n X w i b)) j l
           ∙ mixed-cut R k n X u j l))
+
+  -- whether the first k rows of X are independent
+  pub independent? : (k n : ℕ) (X : Matrix R) → Dec (Independent R k n X)
+  independent? k n X = go (all-below? (λ y. S .J y ≡ true) (λ y. true? (S .J y)) k)
+    where
+      S : Solved R k n (cut R k n X)
+      S = solved R F k n (cut R k n X) (cut-sized R k n X)
+
+      true? : (b : Bool) → Dec (b ≡ true)
+      true? true = yes refl
+      true? false = no (λ e. true≢false (sym e))
+
+      go : Dec ((y : ℕ) → y < k → S .J y ≡ true) → Dec (Independent R k n X)
+      go (yes h) =
+          yes (λ u c. chosen-independent R (F .ring) (S .holds) h u (λ j l. c j l ∙ sym (mixed-cut R k n X u j l)))
+      go (no f) =
+          no
+          (λ g. f
+          (independent-chosen R (F .ring) (F .one-not-zero) (S .holds) (λ u c. g u (λ j l. c j l ∙ mixed-cut R k n X u j l))))

@@ -18,3 +18,4 @@ pub mod Solve
 pub mod Rank
 pub mod Independent
 pub mod Decide
+pub mod Settled

@@ -32,3 +32,7 @@ module _ (R : Ring) where
   -- A x = w
   abbrev pub Solves : ℕ → ℕ → Matrix R → Vector R → Vector R → Type 0
   Solves m n A x w = (i : ℕ) → i < m → apply R n A x i ≡ w i
+
+  -- all solutions of A x = w have v at j
+  abbrev pub AgreeAt : ℕ → ℕ → Matrix R → Vector R → ℕ → R .Carrier → Type 0
+  AgreeAt m n A w j v = (x : Vector R) → Solves m n A x w → x j ≡ v
