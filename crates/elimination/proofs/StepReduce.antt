@@ -1,0 +1,91 @@
+-- The step between the halves: what `reduce_rows` asks of its callees, and that what they leave is -T and C.
+use mathlib.Core.Path.{_≡_, ap, _∙_}
+use mathlib.Core.List.{List}
+use Prim.Native.Nat.{ℕ, _+_, _*_, _≤_, _<_}
+use native.Mathlib.Nat.{mul-le-mul}
+use native.Mathlib.Decide.{decLt}
+use native.Mathlib.Omega.{arith}
+use lib.ListN.{length, getD}
+use Rattle.algebra.specs.Matrix.{add, negative, product}
+use Rattle.field.specs.Residue.{residues}
+use Rattle.field.specs.View.{table, Below}
+use Rattle.elimination.specs.Places.{Factors, Multiplied, Copied}
+use Rattle.elimination.specs.Eliminated.{Halves, Reduced}
+use Rattle.elimination.proofs.Places.{copied-table}
+use Rattle.elimination.proofs.StepNegative.{row-inside, rows-block, columns-block}
+
+-- zeros are below p
+pub blank-below : (p : ℕ) (xs : List ℕ) → 0 < p → ((j : ℕ) → getD xs j 0 ≡ 0) → Below p xs
+blank-below p xs positive blank i h = rw (blank i) positive
+
+-- a modulus is not 0, and the rooms for T and for C are large enough
+module _ {p m₁ m₂ n : ℕ} {a d : List ℕ} {at stride : ℕ} {t c : List ℕ} (h : Halves p m₁ m₂ n a d at stride t c) where
+  pub modulus-positive : 0 < p
+  modulus-positive = omega (arith, h .is-modulus .prime .two-or-more)
+
+  pub quarter-room : m₂ * m₁ ≤ length t
+  quarter-room = omega (arith, mul-le-mul (h .lower-most) (h .upper-most), h .t-long)
+
+  pub half-room : m₂ * n ≤ length c
+  half-room = omega (arith, mul-le-mul (h .lower-most) (h .n-most), h .c-long)
+
+module _ {p m₁ m₂ n : ℕ} {a d : List ℕ} {at stride : ℕ} {t c : List ℕ} (k : List ℕ)
+    (h : Halves p m₁ m₂ n a d at stride t c)
+    (k-long : length k ≡ m₂ * n)
+    (k-below : Below p k)
+    (t-blank : (j : ℕ) → getD t j 0 ≡ 0)
+    (c-blank : (j : ℕ) → getD c j 0 ≡ 0)
+  where
+    -- K E into t
+    pub reduce-first : Factors p m₂ n m₁ k 0 n d at stride t 0 m₁
+    reduce-first =
+        record {
+          positive = modulus-positive h;
+          in-range = h .is-modulus .in-range;
+          inner = h .n-most;
+          columns = omega (arith, h .upper-most);
+          left = rows-block k m₂ n (omega arith);
+          right = columns-block d at stride n m₁ (h .d-long) (omega (arith, h .fits));
+          target = rows-block t m₂ m₁ (quarter-room h);
+          below = blank-below p t (modulus-positive h) t-blank;
+        }
+
+    module _ (t′ : List ℕ) (t-long : length t′ ≡ length t) (c′ : List ℕ) (copied : Copied k 0 (m₂ * n) c c′) where
+      -- K + (-T) B into c
+      pub reduce-second : Factors p m₂ m₁ n t′ 0 m₁ a 0 n c′ 0 n
+      reduce-second =
+          record {
+            positive = modulus-positive h;
+            in-range = h .is-modulus .in-range;
+            inner = omega (arith, h .upper-most);
+            columns = h .n-most;
+            left = rows-block t′ m₂ m₁ (omega (arith, quarter-room h));
+            right = rows-block a m₁ n (h .a-long);
+            target = rows-block c′ m₂ n (omega (arith, half-room h, copied .same-length));
+            below = λ i l. by-place i (decLt i (m₂ * n));
+          }
+        where
+          by-place : (i : ℕ) → Dec (i < m₂ * n) → getD c′ i 0 < p
+          by-place i (yes l) = rw (copied .front i l) (k-below (0 + i) (omega arith))
+          by-place i (no l) = rw (copied .rest i (omega arith), c-blank i) (modulus-positive h)
+
+      -- what they leave
+      pub reduced :
+          Below p t′ →
+          table p t′ 0 m₁ m₂ m₁ ≡ negative (residues p) (product (residues p) n (table p k 0 n m₂ n) (table p d at stride n m₁)) →
+          {c″ : List ℕ} →
+          Multiplied p m₂ m₁ n t′ 0 m₁ a 0 n c′ c″ 0 n →
+          Reduced p m₁ m₂ n a k d at stride t c t′ c″
+      reduced t-below is-T multiplied =
+          record {
+            t-long = t-long;
+            c-long = multiplied .kept .same-length ∙ copied .same-length;
+            t-below = t-below;
+            c-below = multiplied .kept .below;
+            is-T = is-T;
+            is-C =
+                multiplied .result
+                ∙ ap
+                (λ K. add (residues p) K (product (residues p) m₁ (table p t′ 0 m₁ m₂ m₁) (table p a 0 n m₁ n)))
+                (copied-table p n m₂ n copied (λ i l. omega (arith, row-inside m₂ n i l)));
+          }

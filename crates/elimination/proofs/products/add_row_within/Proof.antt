@@ -1,0 +1,47 @@
+-- `elimination::products::add_row_within` meets its contract: the copy has the multipliers that stood in z.
+use native.Mathlib.Omega.{arith}
+use borrow.Author.Needs.{needs}
+use Rattle.elimination.proofs.PlaceRows.{row-fits, factors-front, copied-row, multiplied-left}
+use Rattle.elimination.proofs.products.add_row_within.Statement.{statement}
+use Rattle.elimination.proofs.products.add_row_within.Tie as tie
+
+multipliers-requires : tie.Need-multipliers-requires
+multipliers-requires c κs = search needs
+
+slice-aggregate-copy : tie.Need-slice-aggregate-copy
+slice-aggregate-copy c = search needs
+
+copy-requires : tie.Need-copy-requires
+copy-requires c κs =
+    let s = c .before .before .before .before .before in
+    (row-fits (s .pre .left), omega (arith, c .before .before .multipliers .ensures, s .pre .inner))
+
+slice-aggregate-add-row : tie.Need-slice-aggregate-add-row
+slice-aggregate-add-row c = search needs
+
+add-row-requires : tie.Need-add-row-requires
+add-row-requires c κs =
+    let s = c .before .before .before .before .before .before .before .before .before in
+    factors-front (omega (arith, c .before .before .before .before .before .before .multipliers .ensures, c .before .before .before .copy .ensures .same-length, s .pre .inner)) (s .pre)
+
+same-length : tie.Need-same-length
+same-length c = search needs
+
+returns : tie.Need-returns
+returns c =
+    let s = c .before .before .before .before .before .before .before .before .before .before .before .before in
+    multiplied-left (s .args .z .now) (s .args .x-at) (s .args .k)
+    (copied-row (s .args .p) (s .args .k) (c .before .before .before .before .before .before .copy .ensures))
+    (c .before .before .add-row .ensures)
+
+pub add-row-within-spec : {M : Type 1} → statement M
+add-row-within-spec =
+    tie.close
+    (tie.spec
+    multipliers-requires
+    slice-aggregate-copy
+    copy-requires
+    slice-aggregate-add-row
+    add-row-requires
+    same-length
+    returns)

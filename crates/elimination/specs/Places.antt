@@ -1,0 +1,48 @@
+-- Blocks of numbers in memory, and what a call that writes one leaves: the leaves' contracts, not document 01's.
+use mathlib.Core.Path.{_≡_}
+use mathlib.Core.List.{List}
+use Prim.Native.Nat.{ℕ, _+_, _*_, _≤_, _<_}
+use lib.ListN.{length, getD}
+use Rattle.algebra.specs.Matrix.{Matrix, add, negative, product}
+use Rattle.field.specs.Residue.{residues}
+use Rattle.field.specs.View.{table, Below}
+
+-- m rows of n numbers that begin at start, start + stride, .. lie in xs, one row behind the other
+pub record Block (xs : List ℕ) (start stride m n : ℕ) : Type 0 where
+  pub apart : n ≤ stride
+  pub inside : (i : ℕ) → i < m → start + i * stride + n ≤ length xs
+
+-- q is no place of that block
+abbrev pub Elsewhere : (start stride m n q : ℕ) → Type 0
+Elsewhere start stride m n q = (i j : ℕ) → i < m → j < n → q ≡ start + i * stride + j → ⊥
+
+-- only the numbers of the block may have changed, and all are still below p
+pub record Kept (p : ℕ) (xs ys : List ℕ) (start stride m n : ℕ) : Type 0 where
+  pub same-length : length ys ≡ length xs
+  pub elsewhere : (q : ℕ) → Elsewhere start stride m n q → getD ys q 0 ≡ getD xs q 0
+  pub below : Below p ys
+
+-- what a product of blocks asks: X of m rows and k columns, Y of k rows and n columns, Z of m rows and n columns
+pub record Factors (p m k n : ℕ) (x : List ℕ) (x-start x-stride : ℕ) (y : List ℕ) (y-start y-stride : ℕ) (z : List ℕ) (z-start z-stride : ℕ) : Type 0 where
+  pub positive : 0 < p
+  pub in-range : p ≤ 2147483647
+  pub inner : k ≤ 64
+  pub columns : n ≤ 64
+  pub left : Block x x-start x-stride m k
+  pub right : Block y y-start y-stride k n
+  pub target : Block z z-start z-stride m n
+  pub below : Below p z
+
+-- Z has become Z + X Y
+pub record Multiplied (p m k n : ℕ) (x : List ℕ) (x-start x-stride : ℕ) (y : List ℕ) (y-start y-stride : ℕ) (z z′ : List ℕ) (z-start z-stride : ℕ) : Type 0 where
+  pub kept : Kept p z z′ z-start z-stride m n
+  pub result :
+      table p z′ z-start z-stride m n
+      ≡ add (residues p) (table p z z-start z-stride m n)
+      (product (residues p) k (table p x x-start x-stride m k) (table p y y-start y-stride k n))
+
+-- the n first numbers of zs are those of xs from start on
+pub record Copied (xs : List ℕ) (start n : ℕ) (zs zs′ : List ℕ) : Type 0 where
+  pub same-length : length zs′ ≡ length zs
+  pub front : (j : ℕ) → j < n → getD zs′ j 0 ≡ getD xs (start + j) 0
+  pub rest : (j : ℕ) → n ≤ j → getD zs′ j 0 ≡ getD zs j 0

@@ -1,0 +1,162 @@
+// Algorithm Q of document 001: a quasiinverse of a table from those of its upper rows and of its reduced lower rows.
+ghost use mathlib.Core.Path.{_≡_};
+ghost use Prim.Native.Nat.{ℕ, _+_, _*_, _≤_, _<_};
+ghost use lib.ListN.{length, getD};
+ghost use Rattle.algebra.specs.Matrix.{negative, product};
+ghost use Rattle.field.specs.Residue.{residues};
+ghost use Rattle.field.specs.View.{table, Below};
+ghost use Rattle.modulus.specs.Prime.{IsModulus};
+ghost use Rattle.elimination.specs.Places.{Factors};
+ghost use Rattle.elimination.specs.Eliminated.{Eliminable, Eliminated, Reduced, Joined, Halves};
+use crate::products::add_product;
+use crate::products::add_product_within;
+
+// The least position of a number that is not 0, or the length where there is none.
+pub fn least_nonzero(xs: &[u32]) -> usize
+    ensures { λ r. ⌜ (r ≤ length (now (xs .entry))) × ((t : ℕ) → t < r → getD (now (xs .entry)) t 0 ≡ 0) × (r < length (now (xs .entry)) → getD (now (xs .entry)) r 0 ≡ 0 → ⊥) ⌝ }
+{
+    let mut v = 0;
+    while v < xs.len() {
+        if xs[v] != 0 {
+            return v;
+        }
+        v += 1;
+    }
+    v
+}
+
+// One row: the select step takes the least usable column v, and D has 1 / a(v) there.
+pub fn one_row(
+    p: u32,
+    n: usize,
+    a: &[u32],
+    d: &mut [u32],
+    at: usize,
+    stride: usize,
+    columns: &mut [u32],
+    rows: &mut [u32],
+)
+    requires { ⌜ Eliminable p 1 n (now a) (now d) at stride (now columns) (now rows) ⌝ }
+    ensures { λ _. ⌜ Eliminated p 1 n (now (a .entry)) (now (d .entry)) at stride (now (columns .entry)) (now (rows .entry)) (now (d .exit)) (now (columns .exit)) (now (rows .exit)) ⌝ }
+{
+    let v = least_nonzero(a);
+    if v == n {
+        return;
+    }
+    d[at + v * stride] = field::arith::inverse(p, a[v]);
+    columns[v] = 1;
+    rows[0] = 1;
+}
+
+// -(X Y) for Z, m rows of n numbers one behind the other, where X has k columns; z holds zeros before.
+fn negative_product(
+    p: u32,
+    m: usize,
+    k: usize,
+    n: usize,
+    x: &[u32],
+    x_stride: usize,
+    y: &[u32],
+    y_start: usize,
+    y_stride: usize,
+    z: &mut [u32],
+)
+    requires { ⌜ Factors p m k n (now x) 0 «x_stride» (now y) «y_start» «y_stride» (now z) 0 n × ((j : ℕ) → getD (now z) j 0 ≡ 0) ⌝ }
+    ensures { λ _. ⌜ (length (now (z .exit)) ≡ length (now (z .entry))) × Below p (now (z .exit)) × (table p (now (z .exit)) 0 n m n ≡ negative (residues p) (product (residues p) k (table p (now (x .entry)) 0 «x_stride» m k) (table p (now (y .entry)) «y_start» «y_stride» k n))) ⌝ }
+{
+    add_product(p, m, k, n, x, 0, x_stride, y, y_start, y_stride, z, 0, n);
+    let size = m * n;
+    crate::products::negate(p, &mut z[..size]);
+}
+
+// T = K E and C = K - T B, for the upper rows B and the lower rows K: t becomes -T and c becomes C.
+fn reduce_rows(
+    p: u32,
+    m1: usize,
+    m2: usize,
+    n: usize,
+    a: &[u32],
+    lower: &[u32],
+    d: &[u32],
+    at: usize,
+    stride: usize,
+    t: &mut [u32],
+    c: &mut [u32],
+)
+    requires { ⌜ Halves p m1 m2 n (now a) (now d) at stride (now t) (now c) × (length (now lower) ≡ m2 * n) × Below p (now lower) × ((j : ℕ) → getD (now t) j 0 ≡ 0) × ((j : ℕ) → getD (now c) j 0 ≡ 0) ⌝ }
+    ensures { λ _. ⌜ Reduced p m1 m2 n (now (a .entry)) (now (lower .entry)) (now (d .entry)) at stride (now (t .entry)) (now (c .entry)) (now (t .exit)) (now (c .exit)) ⌝ }
+{
+    negative_product(p, m2, n, m1, lower, n, d, at, stride, t);
+    let size = m2 * n;
+    crate::products::copy(lower, 0, size, c);
+    add_product(p, m2, m1, n, t, 0, m1, a, 0, n, c, 0, n);
+}
+
+// G = F - E (B F) for F, then E - G T for E, with -T in t; c is room for -(B F).
+fn join_halves(
+    p: u32,
+    m1: usize,
+    m2: usize,
+    n: usize,
+    a: &[u32],
+    t: &[u32],
+    c: &mut [u32],
+    d: &mut [u32],
+    at: usize,
+    stride: usize,
+)
+    requires { ⌜ Halves p m1 m2 n (now a) (now d) at stride (now t) (now c) × Below p (now t) ⌝ }
+    ensures { λ _. ⌜ Joined p m1 m2 n (now (a .entry)) (now (t .entry)) (now (d .entry)) (now (d .exit)) at stride ⌝ }
+{
+    let middle = at + m1;
+    crate::products::clear(c);
+    negative_product(p, m1, n, m2, a, n, d, middle, stride, c);
+    add_product_within(p, n, m1, m2, at, c, 0, m2, d, middle, stride);
+    add_product_within(p, n, m2, m1, middle, t, 0, m1, d, at, stride);
+}
+
+// The quasiinverse of the m rows of a: the first half of the rows, then the lower rows by the same method.
+pub fn eliminate(
+    p: u32,
+    m: usize,
+    n: usize,
+    a: &[u32],
+    d: &mut [u32],
+    at: usize,
+    stride: usize,
+    columns: &mut [u32],
+    rows: &mut [u32],
+)
+    requires { ⌜ Eliminable p m n (now a) (now d) at stride (now columns) (now rows) ⌝ }
+    ensures { λ _. ⌜ Eliminated p m n (now (a .entry)) (now (d .entry)) at stride (now (columns .entry)) (now (rows .entry)) (now (d .exit)) (now (columns .exit)) (now (rows .exit)) ⌝ }
+{
+    if m == 0 {
+        return;
+    }
+    if m == 1 {
+        one_row(p, n, a, d, at, stride, columns, rows);
+        return;
+    }
+    let m1 = m / 2;
+    let m2 = m - m1;
+    let cut = m1 * n;
+    eliminate(p, m1, n, &a[..cut], d, at, stride, columns, &mut rows[..m1]);
+    let lower = &a[cut..];
+    let mut t = crate::products::quarter_table();
+    let mut c = crate::products::half_table();
+    reduce_rows(p, m1, m2, n, a, lower, d, at, stride, &mut t, &mut c);
+    let middle = at + m1;
+    let size = m2 * n;
+    eliminate(
+        p,
+        m2,
+        n,
+        &c[..size],
+        d,
+        middle,
+        stride,
+        columns,
+        &mut rows[m1..],
+    );
+    join_halves(p, m1, m2, n, a, &t, &mut c, d, at, stride);
+}

@@ -1,0 +1,17 @@
+pub mod Bits
+pub mod BitMaps
+pub mod ReadNumbers
+pub mod ReadJudging
+pub mod ReadFilling
+pub mod ReadCalls
+pub mod Bytes
+pub mod RoundMap
+pub mod RoundNumbers
+pub mod Round
+pub mod WritePut
+pub mod WriteMap
+pub mod WriteNumbers
+pub mod WriteFrame
+pub mod WriteCalls
+pub mod SealSums
+pub mod SealCalls

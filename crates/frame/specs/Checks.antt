@@ -1,0 +1,30 @@
+-- What the calls on frames check besides the frame itself, and that it is decided. 01: "For these, n is 1 to 64, and the
+-- order is 1, 2, 3, then the checks above (writing: multipliers, then value; sealing: multipliers, then records)."
+use mathlib.Core.Path.{_≡_}
+use mathlib.Core.List.{List}
+use mathlib.Core.Logic.{Dec·and}
+use Prim.Native.Nat.{ℕ, _≤_, _<_}
+use native.Mathlib.Decide.{decLe, decLt}
+use lib.IntN.{ℤ, pos}
+use lib.ListN.{length, getD}
+use Rattle.algebra.proofs.Choice.{all-below?}
+use Rattle.signed.specs.Reading.{IsRecord}
+use Rattle.signed.specs.Decide.{record?}
+
+-- n is 1 to 64
+abbrev pub FrameSize : ℕ → Type 0
+FrameSize n = (1 ≤ n) × (n ≤ 64)
+
+pub frameSize? : (n : ℕ) → Dec (FrameSize n)
+frameSize? n = Dec·and (decLe 1 n) (decLe n 64)
+
+-- every number is below p
+pub below? : (p : ℕ) (xs : List ℕ) → Dec ((i : ℕ) → i < length xs → getD xs i 0 < p)
+below? p xs = all-below? (λ i. getD xs i 0 < p) (λ i. decLt (getD xs i 0) p) (length xs)
+
+-- every number is a signed record
+abbrev pub Records : ℕ → List ℤ → Type 0
+Records p zs = (i : ℕ) → i < length zs → IsRecord p (getD zs i (pos 0))
+
+pub records? : (p : ℕ) (zs : List ℤ) → Dec (Records p zs)
+records? p zs = all-below? (λ i. IsRecord p (getD zs i (pos 0))) (λ i. record? p (getD zs i (pos 0))) (length zs)

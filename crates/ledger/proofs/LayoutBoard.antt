@@ -1,0 +1,150 @@
+-- What stands in the words that a ledger is laid out as, and that those of a proper ledger are a board. The header computes;
+-- the rows are those of `LayoutRows`; zeros follow.
+use mathlib.Core.Path.{_≡_, refl, sym, ap, _∙_}
+use mathlib.Core.List.{List, _++_}
+use Prim.Native.Nat.{ℕ, zero, suc, _+_, _*_, _-_, _≤_, _<_}
+use native.Mathlib.Nat.{add-assoc, mul-le-mul-right}
+use native.Mathlib.Decide.{decLt}
+use native.Mathlib.Omega.{arith}
+use lib.ListN.{length, getD, drop, replicate, length-append, length-replicate, List·getD-append}
+use lib.Seq.{getD-drop, getD-append-add}
+use Rattle.modulus.specs.Prime.{IsModulus}
+use Rattle.field.specs.Residue.{reduce, residues}
+use Rattle.field.specs.View.{table}
+use Rattle.field.proofs.Views.{table-entry}
+use Rattle.frame.specs.Checks.{FrameSize}
+use Rattle.ledger.specs.Ledger.{Entry, noEntry, multiplierRows}
+use Rattle.ledger.specs.Board.{headerLength, rowLength, boardLength, modulusWord, sizeWord, countWord, rowWords, layout, entriesOf, IsBoard}
+use Rattle.ledger.specs.Proper.{Proper}
+use Rattle.ledger.proofs.LayoutRows.{Wide, entryWords, entry-multiplier, entry-value, rows-length, rows-at, row-place, entries-back}
+use Rattle.ledger.proofs.LayoutTables.{independent-agree}
+
+-- a list of zeros reads 0 everywhere
+pub getD-zeros : (m i : ℕ) → _≡_ {A = ℕ} (getD (replicate m 0) i 0) 0
+getD-zeros zero i = refl
+getD-zeros (suc m) zero = refl
+getD-zeros (suc m) (suc i) = getD-zeros m i
+
+-- how many zeros stand behind k rows
+abbrev pub zerosBehind : (n k : ℕ) → ℕ
+zerosBehind n k = boardLength n - (headerLength + k * rowLength n)
+
+module _ (p n : ℕ) (es : List Entry) where
+  -- the header is read back
+  pub layout-modulus : modulusWord (layout p n es) ≡ p
+  unfolding layout
+  layout-modulus = refl
+
+  pub layout-size : sizeWord (layout p n es) ≡ n
+  unfolding layout
+  layout-size = refl
+
+  pub layout-count : countWord (layout p n es) ≡ length es
+  unfolding layout
+  layout-count = refl
+
+  layout-rest : drop headerLength (layout p n es) ≡ rowWords es ++ replicate (zerosBehind n (length es)) 0
+  unfolding layout headerLength
+  layout-rest = refl
+
+  -- a place behind the header
+  layout-behind : (q : ℕ)
+      → getD (layout p n es) (headerLength + q) 0 ≡ getD (rowWords es ++ replicate (zerosBehind n (length es)) 0) q 0
+  layout-behind q = sym (getD-drop headerLength (layout p n es) q 0) ∙ ap (λ ws. getD ws q 0) layout-rest
+
+  module _ (wide : Wide n es) where
+    -- the entries are read back
+    pub layout-entries : entriesOf (layout p n es) ≡ es
+    unfolding entriesOf layout headerLength
+    layout-entries = entries-back n es (replicate (zerosBehind n (length es)) 0) wide
+
+    -- what stands at place t of row i
+    pub layout-at : (i t : ℕ) → i < length es → t < rowLength n
+        → getD (layout p n es) (headerLength + i * rowLength n + t) 0 ≡ getD (entryWords (getD es i noEntry)) t 0
+    layout-at i t h l =
+        let inside : i * rowLength n + t < length (rowWords es) =
+        omega (arith, rows-length n es wide, mul-le-mul-right (rowLength n) h) in
+        ap (λ q. getD (layout p n es) q 0) (add-assoc headerLength (i * rowLength n) t)
+        ∙ layout-behind (i * rowLength n + t)
+        ∙ List·getD-append (rowWords es) (replicate (zerosBehind n (length es)) 0) 0 (i * rowLength n + t) inside
+        ∙ rows-at n es wide i t h l
+
+    pub layout-multiplier : (i j : ℕ) → i < length es → j < n
+        → getD (layout p n es) (headerLength + i * rowLength n + j) 0 ≡ getD (getD es i noEntry .multipliers) j 0
+    unfolding rowLength
+    layout-multiplier i j h l = layout-at i j h (omega arith) ∙ entry-multiplier n (getD es i noEntry) j (wide i h) l
+
+    pub layout-value : (i : ℕ) → i < length es
+        → getD (layout p n es) (headerLength + i * rowLength n + n) 0 ≡ getD es i noEntry .value
+    unfolding rowLength
+    layout-value i h = layout-at i n h (omega arith) ∙ entry-value n (getD es i noEntry) (wide i h)
+
+    -- 0 from the rows' end on
+    pub layout-zero : (q : ℕ) → headerLength + length es * rowLength n ≤ q → getD (layout p n es) q 0 ≡ 0
+    layout-zero q h =
+        let past : ℕ = q - (headerLength + length es * rowLength n) in
+        let place : q ≡ headerLength + (length (rowWords es) + past) = omega (arith, rows-length n es wide) in
+        ap (λ k. getD (layout p n es) k 0) place
+        ∙ layout-behind (length (rowWords es) + past)
+        ∙ getD-append-add (rowWords es) (replicate (zerosBehind n (length es)) 0) past 0
+        ∙ getD-zeros (zerosBehind n (length es)) past
+
+    pub layout-length : length es ≤ n → length (layout p n es) ≡ boardLength n
+    unfolding layout headerLength boardLength
+    layout-length fits =
+        omega (
+          arith,
+          length-append (rowWords es) (replicate (zerosBehind n (length es)) 0),
+          length-replicate {A = ℕ} (zerosBehind n (length es)) 0,
+          rows-length n es wide,
+          mul-le-mul-right (rowLength n) fits,
+        )
+
+-- the multipliers of the entries are the table in the words
+pub layout-table : (p n : ℕ) (es : List Entry) → Wide n es → (i j : ℕ) → i < length es → j < n
+    → multiplierRows p es i j ≡ table p (layout p n es) headerLength (rowLength n) (length es) n i j
+unfolding multiplierRows
+layout-table p n es wide i j h l =
+    ap (reduce p) (sym (layout-multiplier p n es wide i j h l))
+    ∙ sym (table-entry p (layout p n es) headerLength (rowLength n) (length es) n i j h l)
+
+-- the words of an entry are below p
+entry-below : (p n : ℕ) (es : List Entry) → Proper p n es → (i t : ℕ) → i < length es → t < rowLength n
+    → getD (entryWords (getD es i noEntry)) t 0 < p
+unfolding rowLength
+entry-below p n es P i t h l = by-place (decLt t n)
+  where
+    e : Entry
+    e = getD es i noEntry
+
+    by-place : Dec (t < n) → getD (entryWords e) t 0 < p
+    by-place (yes k) = rw (entry-multiplier n e t (P .wide i h) k) (P .below i t h k)
+    by-place (no k) =
+        let last : t ≡ n = omega arith in
+        rw (last, entry-value n e (P .wide i h)) (P .value-below i h)
+
+-- the words of the rows are below p
+layout-below : (p n : ℕ) (es : List Entry) → Proper p n es → (q : ℕ) → q < length es * rowLength n
+    → getD (layout p n es) (headerLength + q) 0 < p
+layout-below p n es P q h =
+    let (i, t, rows, places, same) = row-place n (length es) q h in
+    let place : headerLength + q ≡ headerLength + i * rowLength n + t = omega arith in
+    rw (place, layout-at p n es (P .wide) i t rows places) (entry-below p n es P i t rows places)
+
+-- a proper ledger is laid out as a board
+pub layout-board : (p n : ℕ) (es : List Entry) → IsModulus p → FrameSize n → Proper p n es → IsBoard (layout p n es)
+unfolding layout
+layout-board p n es ok size P =
+    record {
+      three = omega arith;
+      prime = ok;
+      size = size;
+      long = layout-length p n es (P .wide) (P .fits);
+      count = P .fits;
+      below = layout-below p n es P;
+      independent =
+          independent-agree (residues p) (length es) n (multiplierRows p es)
+          (table p (layout p n es) headerLength (rowLength n) (length es) n)
+          (layout-table p n es (P .wide)) (P .independent);
+      zeros = λ q h l. layout-zero p n es (P .wide) q h;
+    }

@@ -1,0 +1,204 @@
+-- How the words of a ledger's layout change when the ledger is opened, gets an entry or loses its last ones, and that words
+-- which change so are that layout: each change says what stands at every place.
+use mathlib.Core.Path.{_≡_, refl, sym, ap, _∙_}
+use mathlib.Core.Logic.{_≢_}
+use mathlib.Core.List.{List, [], _∷_, _++_}
+use Prim.Native.Nat.{ℕ, zero, suc, _+_, _*_, _-_, _≤_, _<_}
+use native.Mathlib.Nat.{le-trans, not-suc-le-zero, mul-le-mul-right}
+use native.Mathlib.Numerals.{add-one}
+use native.Mathlib.Decide.{decLe, decLt, ℕ-discrete}
+use native.Mathlib.Omega.{arith}
+use lib.ListN.{length, getD, take, length-append, List·getD-append}
+use lib.Seq.{length-take-le, getD-take, getD-append-seam, ext-getD}
+use Rattle.ledger.specs.Ledger.{Entry, entry, noEntry}
+use Rattle.ledger.specs.Board.{headerLength, rowLength, layout}
+use Rattle.ledger.specs.Changes.{Fresh, Appended, Dropped}
+use Rattle.ledger.proofs.LayoutRows.{Wide, entryWords, row-place}
+use Rattle.ledger.proofs.LayoutBoard.{layout-modulus, layout-size, layout-count, layout-at, layout-multiplier, layout-value, layout-zero, layout-length}
+
+-- ---- layouts of ledgers that agree in their first k entries
+
+module _ (p n : ℕ) (ds es : List Entry) (wide-ds : Wide n ds) (wide-es : Wide n es)
+    (k : ℕ) (long-ds : k ≤ length ds) (long-es : k ≤ length es)
+    (same : (i : ℕ) → i < k → getD ds i noEntry ≡ getD es i noEntry) where
+  -- a place of the first k rows
+  agree-row : (q : ℕ) → q < k * rowLength n
+      → getD (layout p n ds) (headerLength + q) 0 ≡ getD (layout p n es) (headerLength + q) 0
+  agree-row q h =
+      let (i, t, row, inside, e) = row-place n k q h in
+      let place : headerLength + q ≡ headerLength + i * rowLength n + t = omega arith in
+      rw place
+      (layout-at p n ds wide-ds i t (le-trans row long-ds) inside
+      ∙ ap (λ d. getD (entryWords d) t 0) (same i row)
+      ∙ sym (layout-at p n es wide-es i t (le-trans row long-es) inside))
+
+  -- their words agree up to the end of these rows, but for the count
+  pub agree-front : (q : ℕ) → q ≢ 2 → q < headerLength + k * rowLength n → getD (layout p n ds) q 0 ≡ getD (layout p n es) q 0
+  unfolding headerLength
+  agree-front zero no-count h = layout-modulus p n ds ∙ sym (layout-modulus p n es)
+  agree-front (suc zero) no-count h = layout-size p n ds ∙ sym (layout-size p n es)
+  agree-front (suc (suc zero)) no-count h = absurd (no-count refl)
+  agree-front (suc (suc (suc q))) no-count h =
+      let place : suc (suc (suc q)) ≡ 3 + q = omega arith in rw place (agree-row q (omega arith))
+
+-- ---- a fresh board
+
+pub layout-fresh : (p n : ℕ) → Fresh p n (layout p n [])
+unfolding headerLength
+layout-fresh p n =
+    record {
+      long = layout-length p n [] none (omega arith);
+      modulus = layout-modulus p n [];
+      size = layout-size p n [];
+      zero-at = λ q h. by-place q h (ℕ-discrete q 2);
+    }
+  where
+    none : Wide n []
+    none i h = absurd (not-suc-le-zero h)
+
+    by-place : (q : ℕ) → 2 ≤ q → Dec (q ≡ 2) → getD (layout p n []) q 0 ≡ 0
+    by-place q h (yes e) = rw e (layout-count p n [])
+    by-place q h (no f) = layout-zero p n [] none q (omega arith)
+
+fresh-same : (p n : ℕ) (cs ds : List ℕ) → Fresh p n cs → Fresh p n ds → cs ≡ ds
+fresh-same p n cs ds f g = ext-getD 0 cs ds (f .long ∙ sym (g .long)) (λ q h. at q)
+  where
+    at : (q : ℕ) → getD cs q 0 ≡ getD ds q 0
+    at zero = f .modulus ∙ sym (g .modulus)
+    at (suc zero) = f .size ∙ sym (g .size)
+    at (suc (suc q)) = f .zero-at (suc (suc q)) (omega arith) ∙ sym (g .zero-at (suc (suc q)) (omega arith))
+
+-- words of a fresh board are the layout of the empty ledger
+pub fresh-layout : (p n : ℕ) (ws : List ℕ) → Fresh p n ws → ws ≡ layout p n []
+fresh-layout p n ws f = fresh-same p n ws (layout p n []) f (layout-fresh p n)
+
+-- ---- one entry more
+
+module _ (es : List Entry) (xs : List ℕ) (v : ℕ) where
+  -- the old entries stay, and the new one stands behind them
+  append-old : (i : ℕ) → i < length es → getD (es ++ (entry xs v ∷ [])) i noEntry ≡ getD es i noEntry
+  append-old i h = List·getD-append es (entry xs v ∷ []) noEntry i h
+
+  append-new : getD (es ++ (entry xs v ∷ [])) (length es) noEntry ≡ entry xs v
+  append-new = getD-append-seam es (entry xs v) [] noEntry
+
+  append-count : length (es ++ (entry xs v ∷ [])) ≡ suc (length es)
+  append-count = length-append es (entry xs v ∷ []) ∙ add-one (length es)
+
+  append-wide : (n : ℕ) → Wide n es → length xs ≡ n → Wide n (es ++ (entry xs v ∷ []))
+  append-wide n wide l i h = by-place (decLt i (length es))
+    where
+      by-place : Dec (i < length es) → length (getD (es ++ (entry xs v ∷ [])) i noEntry .multipliers) ≡ n
+      by-place (yes k) = ap (λ e. length (e .multipliers)) (append-old i k) ∙ wide i k
+      by-place (no k) =
+          let last : i ≡ length es = omega (arith, append-count) in
+          rw (last, append-new) l
+
+-- the words of the layout with one entry more
+pub layout-append : (p n : ℕ) (es : List Entry) (xs : List ℕ) (v : ℕ) → Wide n es → length es < n → length xs ≡ n
+    → Appended n (length es) xs v (layout p n es) (layout p n (es ++ (entry xs v ∷ [])))
+layout-append p n es xs v wide room l =
+    record {
+      long = layout-length p n more wide-more (omega (arith, count)) ∙ sym (layout-length p n es wide (omega arith));
+      count = layout-count p n more ∙ count;
+      multiplier = λ j h.
+          layout-multiplier p n more wide-more (length es) j (omega (arith, count)) h
+          ∙ ap (λ e. getD (e .multipliers) j 0) (append-new es xs v);
+      value = layout-value p n more wide-more (length es) (omega (arith, count)) ∙ ap (λ e. e .value) (append-new es xs v);
+      front = agree-front p n more es wide-more wide (length es) (omega (arith, count)) (omega arith) (append-old es xs v);
+      behind = λ q h.
+          layout-zero p n more wide-more q (rw count h) ∙ sym (layout-zero p n es wide q (omega arith));
+    }
+  where
+    more : List Entry
+    more = es ++ (entry xs v ∷ [])
+
+    wide-more : Wide n more
+    wide-more = append-wide es xs v n wide l
+
+    count : length more ≡ suc (length es)
+    count = append-count es xs v
+
+-- what is appended determines the words
+module _ (n k : ℕ) (xs : List ℕ) (v : ℕ) (before cs ds : List ℕ)
+    (a : Appended n k xs v before cs) (b : Appended n k xs v before ds) where
+  appended-at : (q : ℕ) → Dec (q ≡ 2) → Dec (q < headerLength + k * rowLength n) → Dec (headerLength + suc k * rowLength n ≤ q)
+      → Dec (q < headerLength + k * rowLength n + n) → getD cs q 0 ≡ getD ds q 0
+  unfolding rowLength
+  appended-at q (yes e) f l i = rw e (a .count ∙ sym (b .count))
+  appended-at q (no e) (yes f) l i = a .front q e f ∙ sym (b .front q e f)
+  appended-at q (no e) (no f) (yes l) i = a .behind q l ∙ sym (b .behind q l)
+  appended-at q (no e) (no f) (no l) (yes i) =
+      let j : ℕ = q - (headerLength + k * rowLength n) in
+      let place : q ≡ headerLength + k * rowLength n + j = omega arith in
+      rw place (a .multiplier j (omega arith) ∙ sym (b .multiplier j (omega arith)))
+  appended-at q (no e) (no f) (no l) (no i) =
+      let place : q ≡ headerLength + k * rowLength n + n = omega arith in
+      rw place (a .value ∙ sym (b .value))
+
+  appended-same : cs ≡ ds
+  appended-same =
+      ext-getD 0 cs ds (a .long ∙ sym (b .long))
+      (λ q h.
+      appended-at q (ℕ-discrete q 2) (decLt q (headerLength + k * rowLength n))
+      (decLe (headerLength + suc k * rowLength n) q) (decLt q (headerLength + k * rowLength n + n)))
+
+-- words with the new row appended are the layout with one entry more
+pub appended-layout : (p n : ℕ) (es : List Entry) (xs : List ℕ) (v : ℕ) (ws : List ℕ)
+    → Wide n es → length es < n → length xs ≡ n → Appended n (length es) xs v (layout p n es) ws
+    → ws ≡ layout p n (es ++ (entry xs v ∷ []))
+appended-layout p n es xs v ws wide room l a =
+    appended-same n (length es) xs v (layout p n es) ws (layout p n (es ++ (entry xs v ∷ []))) a
+    (layout-append p n es xs v wide room l)
+
+-- ---- only the first m entries
+
+-- the words of the layout with the entries from m on dropped
+pub layout-take : (p n : ℕ) (es : List Entry) (m : ℕ) → Wide n es → length es ≤ n → m ≤ length es
+    → Dropped n (length es) m (layout p n es) (layout p n (take m es))
+layout-take p n es m wide fits h =
+    record {
+      long = layout-length p n fewer wide-fewer (omega (arith, count)) ∙ sym (layout-length p n es wide fits);
+      count = layout-count p n fewer ∙ count;
+      zero-at = λ q l b. zero-from q l;
+      front = agree-front p n fewer es wide-fewer wide m (omega (arith, count)) h same;
+      behind = λ q l.
+          zero-from q (omega (arith, mul-le-mul-right (rowLength n) h)) ∙ sym (layout-zero p n es wide q l);
+    }
+  where
+    fewer : List Entry
+    fewer = take m es
+
+    count : length fewer ≡ m
+    count = length-take-le m es h
+
+    same : (i : ℕ) → i < m → getD fewer i noEntry ≡ getD es i noEntry
+    same i l = getD-take m es i noEntry l
+
+    wide-fewer : Wide n fewer
+    wide-fewer i l =
+        ap (λ e. length (e .multipliers)) (same i (omega (arith, count))) ∙ wide i (omega (arith, count))
+
+    zero-from : (q : ℕ) → headerLength + m * rowLength n ≤ q → getD (layout p n fewer) q 0 ≡ 0
+    zero-from q l = layout-zero p n fewer wide-fewer q (rw count l)
+
+-- what is dropped determines the words
+module _ (n k m : ℕ) (before cs ds : List ℕ) (a : Dropped n k m before cs) (b : Dropped n k m before ds) where
+  dropped-at : (q : ℕ) → Dec (q ≡ 2) → Dec (q < headerLength + m * rowLength n) → Dec (headerLength + k * rowLength n ≤ q)
+      → getD cs q 0 ≡ getD ds q 0
+  dropped-at q (yes e) f l = rw e (a .count ∙ sym (b .count))
+  dropped-at q (no e) (yes f) l = a .front q e f ∙ sym (b .front q e f)
+  dropped-at q (no e) (no f) (yes l) = a .behind q l ∙ sym (b .behind q l)
+  dropped-at q (no e) (no f) (no l) = a .zero-at q (omega arith) (omega arith) ∙ sym (b .zero-at q (omega arith) (omega arith))
+
+  dropped-same : cs ≡ ds
+  dropped-same =
+      ext-getD 0 cs ds (a .long ∙ sym (b .long))
+      (λ q h.
+      dropped-at q (ℕ-discrete q 2) (decLt q (headerLength + m * rowLength n)) (decLe (headerLength + k * rowLength n) q))
+
+-- words with the rows from m on dropped are the layout of the first m entries
+pub dropped-layout : (p n : ℕ) (es : List Entry) (m : ℕ) (ws : List ℕ) → Wide n es → length es ≤ n → m ≤ length es
+    → Dropped n (length es) m (layout p n es) ws → ws ≡ layout p n (take m es)
+dropped-layout p n es m ws wide fits h d =
+    dropped-same n (length es) m (layout p n es) ws (layout p n (take m es)) d (layout-take p n es m wide fits h)

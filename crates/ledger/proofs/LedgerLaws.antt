@@ -1,0 +1,193 @@
+-- What holds of a proper ledger: its frames have a common assignment, a row is a combination of its rows in one way only, so
+-- that take's answer is the one of any combination, and show marks exactly the settled records and gives what all assignments
+-- have there.
+use mathlib.Core.Path.{_≡_, refl, sym, ap, ap₂, _∙_, subst₂}
+use mathlib.Core.Logic.{_↔_}
+use mathlib.Core.List.{List, [], _∷_, _++_}
+use Prim.Native.Nat.{ℕ, zero, suc, _-_, _<_}
+use native.Mathlib.Nat.{not-suc-le-zero, le-of-suc-le-suc}
+use native.Mathlib.Decide.{ℕ-discrete, map-dec}
+use native.Mathlib.Omega.{arith}
+use lib.IntN.{ℤ, pos}
+use lib.ListN.{length, getD, replicate}
+use Rattle.algebra.specs.Choice.{pick}
+use Rattle.algebra.specs.Matrix.{sum, apply}
+use Rattle.algebra.specs.Ring.{IsField}
+use Rattle.algebra.proofs.Choice.{pick-yes, pick-no, pick-by-same, pick-by-no}
+use Rattle.algebra.proofs.Sums as sums
+use Rattle.modulus.specs.Prime.{IsModulus}
+use Rattle.modulus.specs.declared.Refusal.{Refusal}
+use Rattle.modulus.specs.declared.Refusal.the-variants.{Length, Conflict}
+use Rattle.modulus.specs.Told.{refused}
+use Rattle.field.specs.Residue.{Residue, reduce, residues, _⊗_}
+use Rattle.field.specs.Written.{tabulate, numbers}
+use Rattle.field.proofs.Field.{residues-field, residue-equal?}
+use Rattle.field.proofs.Written.{length-tabulate, getD-tabulate, is-tabulate}
+use Rattle.signed.specs.Reading.{reading}
+use Rattle.frame.specs.Reading.{accepted, rejected, readFrame}
+use Rattle.ledger.specs.Ledger.{Entry, entry, Assignment, Combined, MeetsAll, Settled, Agreed, multiplierRows, valueColumn}
+use Rattle.ledger.specs.Decide.{combined?, agreed?}
+use Rattle.ledger.specs.Steps.{
+  taken,
+  newTold,
+  repeatTold,
+  countTold,
+  mixWords,
+  takeCombined,
+  takeAccepted,
+  takeFound,
+  ledgerTake,
+  Shown,
+  shown,
+  tabulateℤ,
+  markOf,
+  numberOf,
+  ledgerShow,
+}
+use Rattle.ledger.specs.Settle.{Gives}
+use Rattle.ledger.specs.Proper.{Proper}
+use Rattle.ledger.proofs.RankRows as rows
+
+-- what is written depends on what stands below the bound
+tabulate-same : (k : ℕ) {f g : ℕ → ℕ} → ((i : ℕ) → i < k → f i ≡ g i) → tabulate k f ≡ tabulate k g
+tabulate-same k {f} {g} h = is-tabulate k g (tabulate k f) (length-tabulate k f) (λ i l. getD-tabulate k f i l ∙ h i l)
+
+-- what stands at each place of the signed numbers written
+getD-tabulateℤ : (k : ℕ) (f : ℕ → ℤ) (i : ℕ) → i < k → getD (tabulateℤ k f) i (pos 0) ≡ f i
+unfolding tabulateℤ
+getD-tabulateℤ zero f i h = absurd (not-suc-le-zero h)
+getD-tabulateℤ (suc k) f zero h = refl
+getD-tabulateℤ (suc k) f (suc i) h = getD-tabulateℤ k (λ t. f (suc t)) i (le-of-suc-le-suc h)
+
+module _ (p : ℕ) (ok : IsModulus p) (n : ℕ) (es : List Entry) where
+  F : IsField (residues p)
+  F = residues-field p (ok .prime)
+
+  -- ---- take, by what reading finds
+
+  pub take-refused-length : (frame mix : List ℕ) → (length mix ≡ n → ⊥)
+      → ledgerTake p ok n es frame mix ≡ taken es (refused Length) mix
+  unfolding ledgerTake
+  take-refused-length frame mix h = pick-no (ℕ-discrete (length mix) n) _ _ h
+
+  pub take-rejected : (frame mix : List ℕ) (k : Refusal) → length mix ≡ n → readFrame p n frame ≡ rejected k
+      → ledgerTake p ok n es frame mix ≡ taken es (refused k) mix
+  unfolding ledgerTake takeFound
+  take-rejected frame mix k h e =
+      pick-yes (ℕ-discrete (length mix) n) _ _ h ∙ ap (λ f. takeFound p ok n es f mix) e
+
+  pub take-accepted : (frame mix xs : List ℕ) (v : ℕ) → length mix ≡ n → readFrame p n frame ≡ accepted xs v
+      → ledgerTake p ok n es frame mix ≡ takeAccepted p ok n es xs v mix
+  unfolding ledgerTake takeFound
+  take-accepted frame mix xs v h e =
+      pick-yes (ℕ-discrete (length mix) n) _ _ h ∙ ap (λ f. takeFound p ok n es f mix) e
+
+  -- no combination: new
+  pub take-new : (xs : List ℕ) (v : ℕ) (mix : List ℕ) → (Combined p n es xs → ⊥)
+      → takeAccepted p ok n es xs v mix ≡ taken (es ++ (entry xs v ∷ [])) (newTold (suc (length es))) mix
+  unfolding takeAccepted
+  take-new xs v mix new = pick-by-no (combined? p ok n es xs) _ _ new
+
+  module _ (proper : Proper p n es) where
+    -- 01: "Otherwise the combination is unique"
+    pub combination-once : (xs : List ℕ) (c d : Combined p n es xs) (t : ℕ) → t < length es → c .0 t ≡ d .0 t
+    combination-once xs c d =
+        rows.combination-once (residues p) (F .ring) (multiplierRows p es) (proper .independent) (λ j. reduce p (getD xs j 0))
+        (c .0) (d .0) (c .1) (d .1)
+
+    same-mix : (xs : List ℕ) (c d : Combined p n es xs) → mixWords p ok n es (c .0) ≡ mixWords p ok n es (d .0)
+    unfolding mixWords
+    same-mix xs c d =
+        ap (λ ws. ws ++ replicate (n - length es) 0)
+        (tabulate-same (length es) (λ t h. ap (λ (a : Residue p). a .value) (combination-once xs c d t h)))
+
+    same-step : (xs : List ℕ) (v : ℕ) (c d : Combined p n es xs) → takeCombined p ok n es v (c .0) ≡ takeCombined p ok n es v (d .0)
+    unfolding takeCombined
+    same-step xs v c d =
+        ap₂ (λ s ws. pick (residue-equal? s (reduce p v)) (taken es (repeatTold (length es)) ws) (taken es (refused Conflict) ws))
+        (sums.sum-same (residues p) (length es) (λ t. c .0 t ⊗ valueColumn p es t) (λ t. d .0 t ⊗ valueColumn p es t)
+        (λ t h. ap (λ a. a ⊗ valueColumn p es t) (combination-once xs c d t h)))
+        (same-mix xs c d)
+
+    -- any combination decides
+    pub take-combined : (xs : List ℕ) (v : ℕ) (mix : List ℕ) (c : Combined p n es xs)
+        → takeAccepted p ok n es xs v mix ≡ takeCombined p ok n es v (c .0)
+    unfolding takeAccepted
+    take-combined xs v mix c = pick-by-same (combined? p ok n es xs) (λ d. takeCombined p ok n es v (d .0)) _ (same-step xs v) c
+
+    -- repeat if the same combination of values gives the frame's value
+    pub take-repeat : (xs : List ℕ) (v : ℕ) (mix : List ℕ) (c : Combined p n es xs)
+        → sum (residues p) (length es) (λ t. c .0 t ⊗ valueColumn p es t) ≡ reduce p v
+        → takeAccepted p ok n es xs v mix ≡ taken es (repeatTold (length es)) (mixWords p ok n es (c .0))
+    unfolding takeCombined
+    take-repeat xs v mix c e = take-combined xs v mix c ∙ pick-yes (residue-equal? _ (reduce p v)) _ _ e
+
+    -- otherwise refusal 9
+    pub take-conflict : (xs : List ℕ) (v : ℕ) (mix : List ℕ) (c : Combined p n es xs)
+        → (sum (residues p) (length es) (λ t. c .0 t ⊗ valueColumn p es t) ≡ reduce p v → ⊥)
+        → takeAccepted p ok n es xs v mix ≡ taken es (refused Conflict) (mixWords p ok n es (c .0))
+    unfolding takeCombined
+    take-conflict xs v mix c d = take-combined xs v mix c ∙ pick-no (residue-equal? _ (reduce p v)) _ _ d
+
+    -- ---- the standing frames have a common assignment
+    pub standing-met : (x : Assignment p) × MeetsAll p n es x
+    unfolding apply multiplierRows valueColumn
+    standing-met = rows.independent-solves (residues p) F (length es) n (multiplierRows p es) (proper .independent) (valueColumn p es)
+
+    -- ---- show
+
+    -- a settled record is one on which the assignments agree, and the other way round
+    settled-agreed : (j : ℕ) → Settled p n es j → Agreed p n es j
+    settled-agreed j s = let (x, met) = standing-met in (x j, λ y m. s y x m met)
+
+    agreed-settled : (j : ℕ) → Agreed p n es j → Settled p n es j
+    agreed-settled j (v, a) x y m l = a x m ∙ sym (a y l)
+
+    -- whether a record is settled is decided
+    pub settled? : (j : ℕ) → Dec (Settled p n es j)
+    settled? j = map-dec (agreed-settled j) (settled-agreed j) (agreed? p ok n es j)
+
+    shown-settled : (j : ℕ) → Settled p n es j → (x : Assignment p) → MeetsAll p n es x
+        → (markOf p ok n es j ≡ 1) × (numberOf p ok n es j ≡ reading p (x j .value))
+    unfolding markOf numberOf
+    shown-settled j s x met =
+        let a : Agreed p n es j = (x j, λ y m. s y x m met) in (
+          pick-by-same (agreed? p ok n es j) (λ _. 1) 0 (λ _ _. refl) a,
+          pick-by-same (agreed? p ok n es j) (λ b. reading p (b .0 .value)) (pos 0)
+              (λ b c. ap (λ (r : Residue p). reading p (r .value)) (sym (b .1 x met) ∙ c .1 x met)) a,
+        )
+
+    shown-unsettled : (j : ℕ) → (Settled p n es j → ⊥) → (markOf p ok n es j ≡ 0) × (numberOf p ok n es j ≡ pos 0)
+    unfolding markOf numberOf
+    shown-unsettled j s = (
+      pick-by-no (agreed? p ok n es j) (λ _. 1) 0 (λ a. s (agreed-settled j a)),
+      pick-by-no (agreed? p ok n es j) (λ b. reading p (b .0 .value)) (pos 0) (λ a. s (agreed-settled j a)),
+    )
+
+    -- 01: "Record j is marked 1 and its signed reading given exactly if all assignments of residues meeting the ledger's frames
+    -- agree at j; otherwise 0 and 0."
+    pub shown-exactly : (j : ℕ) → Gives p n es j (markOf p ok n es j) (numberOf p ok n es j)
+    shown-exactly j = (shown-settled j, shown-unsettled j)
+
+    -- so a record is marked 1 exactly if it is settled
+    pub marked-exactly : (j : ℕ) → (markOf p ok n es j ≡ 1) ↔ Settled p n es j
+    marked-exactly j = (only (settled? j), λ s. let (x, met) = standing-met in shown-settled j s x met .0)
+      where
+        only : Dec (Settled p n es j) → markOf p ok n es j ≡ 1 → Settled p n es j
+        only (yes s) e = s
+        only (no s) e = absurd (omega (arith, shown-unsettled j s .0))
+
+    -- and this is what a show that is not refused leaves in the memory lent to it, with n minus the count for an answer
+    pub show-accepted : (marks : List ℕ) (zs : List ℤ) → length marks ≡ n → length zs ≡ n
+        → ledgerShow p ok n es marks zs
+        ≡ shown (countTold (n - length es)) (tabulate n (markOf p ok n es)) (tabulateℤ n (numberOf p ok n es))
+    unfolding ledgerShow
+    show-accepted marks zs h l =
+        pick-yes (ℕ-discrete (length marks) n) _ _ h ∙ pick-yes (ℕ-discrete (length zs) n) _ _ l
+
+    pub show-exactly : (marks : List ℕ) (zs : List ℤ) → length marks ≡ n → length zs ≡ n → (j : ℕ) → j < n
+        → Gives p n es j (getD (ledgerShow p ok n es marks zs .marks) j 0) (getD (ledgerShow p ok n es marks zs .numbers) j (pos 0))
+    show-exactly marks zs h l j b =
+        let e = show-accepted marks zs h l in
+        subst₂ (Gives p n es j) (sym (ap (λ (r : Shown). getD (r .marks) j 0) e ∙ getD-tabulate n (markOf p ok n es) j b))
+        (sym (ap (λ (r : Shown). getD (r .numbers) j (pos 0)) e ∙ getD-tabulateℤ n (numberOf p ok n es) j b)) (shown-exactly j)

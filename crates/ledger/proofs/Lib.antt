@@ -1,0 +1,16 @@
+pub mod LayoutRows
+pub mod LayoutTables
+pub mod LayoutBoard
+pub mod LayoutChanges
+pub mod Parse
+pub mod WordsCalls
+pub mod RankRows
+pub mod LedgerSteps
+pub mod Proper
+pub mod LedgerLaws
+pub mod LedgerRuns
+pub mod Demand3
+pub mod RankLedger
+pub mod RankFull
+pub mod Missing
+pub mod DemandReached

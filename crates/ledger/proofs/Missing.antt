@@ -1,0 +1,181 @@
+-- 01: "Missing = n - k: every list of further calls after which all records are settled has at least n - k takes answered new,
+-- and after some n - k takes, all answered new, all are settled." A new raises the count by one and nothing else raises it; all
+-- settled means n entries. For the other half, while there are fewer than n entries the unit row of some record is no
+-- combination of the rows, and its frame is answered new.
+use mathlib.Core.Path.{_≡_, refl, sym, ap, _∙_, subst}
+use mathlib.Core.Bool.{Bool, true, false}
+use mathlib.Core.List.{List, [], _∷_, _++_, map, List·Memᴰ·not-nil, List·Memᴰ·cases-cons}
+use mathlib.Core.Logic.{⊎-elim}
+use Prim.Native.Nat.{ℕ, zero, suc, _+_, _-_, _≤_, _<_}
+use native.Mathlib.Omega.{arith}
+use lib.Dec.{eqb}
+use lib.ListN.{length, getD, replicate, length-take, length-replicate}
+use Rattle.algebra.specs.Choice.{choose}
+use Rattle.algebra.specs.Matrix.{unit, apply}
+use Rattle.modulus.specs.Prime.{IsModulus}
+use Rattle.field.specs.Residue.{reduce, residues}
+use Rattle.field.proofs.Field.{residues-field}
+use Rattle.field.proofs.Written.{length-tabulate, getD-tabulate}
+use Rattle.frame.specs.Format.{frameOf}
+use Rattle.frame.proofs.Round.{written-reads-back}
+use Rattle.ledger.specs.Ledger.{Entry, entry, Combined, multiplierRows, valueColumn}
+use Rattle.ledger.specs.Steps.{Taken, newTold, Withdrawn, ledgerTake, ledgerWithdraw}
+use Rattle.ledger.specs.History.{Call, Reply, reply, After, after, ledgerStep, run, ledgerRun}
+use Rattle.ledger.specs.Heard.{newIn, news}
+use Rattle.ledger.specs.Settle.{AllSettled, Settling, unitRow, unitTake}
+use Rattle.ledger.specs.Proper.{Proper}
+use Rattle.ledger.proofs.Proper.{Numbers, length-more, append-proper}
+use Rattle.ledger.proofs.RankRows.{combination-alike}
+use Rattle.ledger.proofs.RankFull.{agreeing-rows, full-agree, free-unit}
+use Rattle.ledger.proofs.LedgerLaws.{take-accepted, take-new, standing-met}
+use Rattle.ledger.proofs.LedgerSteps.{Took, new, repeat, refusal, took, Withdrew, dropped, overlong, withdrew}
+use Rattle.ledger.proofs.LedgerRuns.{run-proper}
+
+module _ (p : ℕ) (ok : IsModulus p) (n : ℕ) where
+  -- ---- at least so many
+
+  took-grows : (es : List Entry) (frame mix : List ℕ) {r : Taken} → Took p ok n es frame mix r
+      → length (r .entries) ≤ length es + newIn (Call.take frame mix) (reply (r .told) (r .mix) [])
+  unfolding newIn
+  took-grows es frame mix (new xs v e f) = omega (arith, length-more es (entry xs v))
+  took-grows es frame mix (repeat xs v e c) = omega arith
+  took-grows es frame mix (refusal k h ws) = omega arith
+
+  withdrew-falls : (es : List Entry) (t : ℕ) {r : Withdrawn} → Withdrew es t r → length (r .entries) ≤ length es
+  withdrew-falls es t (dropped h) = omega (arith, length-take (length es - t) es)
+  withdrew-falls es t (overlong h) = omega arith
+
+  -- the count rises by the takes answered new, at most
+  pub count-rises : (es : List Entry) (cs : List Call)
+      → length (ledgerRun p ok n es cs .state) ≤ length es + news cs (ledgerRun p ok n es cs .replies)
+  unfolding run ledgerStep news
+  count-rises es [] = omega arith
+  count-rises es (Call.take frame mix ∷ cs) =
+      let r = ledgerTake p ok n es frame mix in
+      omega (arith, took-grows es frame mix (took p ok n es frame mix), count-rises (r .entries) cs)
+  count-rises es (Call.withdraw t ∷ cs) =
+      let r = ledgerWithdraw es t in
+      omega (arith, withdrew-falls es t (withdrew es t), count-rises (r .entries) cs)
+  count-rises es (Call.show marks numbers ∷ cs) = omega (arith, count-rises es cs)
+
+  -- where all are settled there are n entries
+  pub settled-full : (es : List Entry) → Proper p n es → AllSettled p n es → length es ≡ n
+  unfolding apply multiplierRows valueColumn
+  settled-full es proper all =
+      let (x, met) = standing-met p ok n es proper in
+      let most : n ≤ length es =
+      agreeing-rows (residues p) (residues-field p (ok .prime)) (length es) n (multiplierRows p es) x (valueColumn p es) met all in
+      omega (arith, proper .fits)
+
+  -- every list of further calls after which all records are settled has at least n - k takes answered new
+  pub missing-at-least : (es : List Entry) → Proper p n es → (cs : List Call) → AllSettled p n (ledgerRun p ok n es cs .state)
+      → n - length es ≤ news cs (ledgerRun p ok n es cs .replies)
+  missing-at-least es proper cs all =
+      omega (arith, settled-full (ledgerRun p ok n es cs .state) (run-proper p ok n es proper cs) all, count-rises es cs)
+
+  -- ---- and so many are enough
+
+  -- n entries settle all
+  pub full-settled : (es : List Entry) → Proper p n es → length es ≡ n → AllSettled p n es
+  unfolding apply multiplierRows valueColumn
+  full-settled es proper full j l x y s t =
+      full-agree (residues p) (residues-field p (ok .prime)) (length es) n (multiplierRows p es) full (proper .independent)
+      (valueColumn p es) x y s t j l
+
+  -- the numbers of a unit row, and their residues
+  unit-numbers : (c : ℕ) → Numbers p n (unitRow n c) 0
+  unfolding unitRow
+  unit-numbers c =
+      record {
+        long = length-tabulate n (λ j. choose (eqb c j) 1 0);
+        below = λ i h. rw (getD-tabulate n (λ j. choose (eqb c j) 1 0) i (rw (length-tabulate n (λ j. choose (eqb c j) 1 0)) at h)) (small (eqb c i));
+        value-below = omega (arith, ok .prime .two-or-more);
+      }
+    where
+      small : (b : Bool) → choose b 1 0 < p
+      small true = ok .prime .two-or-more
+      small false = omega (arith, ok .prime .two-or-more)
+
+  unit-residue : (c j : ℕ) → j < n → reduce p (getD (unitRow n c) j 0) ≡ unit (residues p) c j
+  unfolding unitRow unit
+  unit-residue c j l = ap (reduce p) (getD-tabulate n (λ i. choose (eqb c i) 1 0) j l) ∙ one-or-zero (eqb c j)
+    where
+      one-or-zero : (b : Bool) → reduce p (choose b 1 0) ≡ choose b (reduce p 1) (reduce p 0)
+      one-or-zero true = refl
+      one-or-zero false = refl
+
+  -- a unit row that is no combination is answered new and appended
+  unit-step : (es : List Entry) (c : ℕ) → (Combined p n es (unitRow n c) → ⊥)
+      → ledgerStep p ok n es (unitTake n c)
+      ≡ after (es ++ (entry (unitRow n c) 0 ∷ [])) (reply (newTold (suc (length es))) (replicate n 0) [] ∷ [])
+  unfolding ledgerStep unitTake
+  unit-step es c free =
+      let row = unit-numbers c in
+      ap (λ (r : Taken). after (r .entries) (reply (r .told) (r .mix) [] ∷ []))
+      (take-accepted p ok n es (frameOf n (unitRow n c) (0 ∷ [])) (replicate n 0) (unitRow n c) 0 (length-replicate n 0)
+      (written-reads-back p n (unitRow n c) 0 (ok .in-range) (row .long) (row .below) (row .value-below))
+      ∙ take-new p ok n es (unitRow n c) 0 (replicate n 0) free)
+
+  -- a ledger with the unit row of c behind it
+  abbrev withUnit : List Entry → ℕ → List Entry
+  withUnit es c = es ++ (entry (unitRow n c) 0 ∷ [])
+
+  -- while an entry is missing, some unit row is no combination of the rows
+  next-unit : (es : List Entry) → length es < n → (c : ℕ) × (Combined p n es (unitRow n c) → ⊥)
+  next-unit es less =
+      let rows = multiplierRows p es in
+      let (c, l, free) = free-unit (residues p) (residues-field p (ok .prime)) (length es) n rows less in (
+        c,
+        λ k. free
+            (combination-alike (residues p) rows rows (λ i j h b. refl) (λ j. reduce p (getD (unitRow n c) j 0)) (unit (residues p) c) (unit-residue c) k),
+      )
+
+  -- its take, before takes that settle what is then left
+  settling-next : (es : List Entry) (c : ℕ) → (Combined p n es (unitRow n c) → ⊥) → (cs : List Call)
+      → Settling p n cs (ledgerRun p ok n (withUnit es c) cs)
+      → Settling p n (unitTake n c ∷ cs) (ledgerRun p ok n es (unitTake n c ∷ cs))
+  unfolding run news newIn unitTake
+  settling-next es c free cs rest =
+      subst
+      (λ (one : After (List Entry)).
+      Settling p n (unitTake n c ∷ cs)
+      (after (ledgerRun p ok n (one .state) cs .state) (one .replies ++ ledgerRun p ok n (one .state) cs .replies)))
+      (sym (unit-step es c free))
+      (record {
+        all-new = λ r m. ⊎-elim (ap (λ (q : Reply). q .told .number)) (rest .all-new r) (List·Memᴰ·cases-cons m);
+        news-told = omega (arith, rest .news-told);
+        settles = rest .settles;
+      })
+
+  -- takes of the unit frames of d records settle all where d entries are missing
+  unit-frames : (d : ℕ) (es : List Entry) → Proper p n es → length es + d ≡ n
+      → (columns : List ℕ) × (length columns ≡ d)
+      × Settling p n (map (unitTake n) columns) (ledgerRun p ok n es (map (unitTake n) columns))
+  unfolding run news
+  unit-frames zero es proper e = (
+    [],
+    refl,
+    record { all-new = λ r m. absurd (List·Memᴰ·not-nil m); news-told = refl; settles = full-settled es proper (omega arith) },
+  )
+  unit-frames (suc d) es proper e =
+      go (next-unit es (omega arith))
+      (λ c free.
+      unit-frames d (withUnit es c) (append-proper p n es proper ok (unitRow n c) 0 (unit-numbers c) free)
+      (omega (arith, length-more es (entry (unitRow n c) 0))))
+    where
+      Found : ℕ → List Entry → Type 0
+      Found k ds =
+          (columns : List ℕ) × (length columns ≡ k)
+          × Settling p n (map (unitTake n) columns) (ledgerRun p ok n ds (map (unitTake n) columns))
+
+      go : ((c : ℕ) × (Combined p n es (unitRow n c) → ⊥))
+          → ((c : ℕ) → (Combined p n es (unitRow n c) → ⊥) → Found d (withUnit es c)) → Found (suc d) es
+      go (c, free) more =
+          let (columns, many, rest) = more c free in
+          (c ∷ columns, ap suc many, settling-next es c free (map (unitTake n) columns) rest)
+
+  -- after some n - k takes, all answered new, all are settled: the takes of the unit frames of some records
+  pub missing-enough : (es : List Entry) → Proper p n es
+      → (columns : List ℕ) × (length columns ≡ n - length es)
+      × Settling p n (map (unitTake n) columns) (ledgerRun p ok n es (map (unitTake n) columns))
+  missing-enough es proper = unit-frames (n - length es) es proper (omega (arith, proper .fits))

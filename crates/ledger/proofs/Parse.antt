@@ -1,0 +1,176 @@
+-- Words that are a board are the layout of the ledger that they hold, and that ledger is proper: so words are a board exactly
+-- if they are the layout of a proper ledger. Entry i is read from row i; the words behind the rows are the layout's zeros.
+use mathlib.Core.Path.{_≡_, sym, ap, ap₂, subst, _∙_}
+use mathlib.Core.Logic.{_↔_}
+use mathlib.Core.List.{List, _∷_, _++_}
+use Prim.Native.Nat.{ℕ, suc, _+_, _*_, _-_, _≤_, _<_}
+use native.Mathlib.Nat.{le-refl, add-assoc, mul-le-mul-right}
+use native.Mathlib.Omega.{arith}
+use lib.ListN.{length, getD, take, drop, replicate, length-drop, length-replicate, getD-replicate, take-append-drop}
+use lib.Seq.{length-take-le, drop-cons, getD-take, getD-drop, ext-getD}
+use Rattle.modulus.specs.Prime.{IsModulus}
+use Rattle.field.specs.Residue.{reduce, residues}
+use Rattle.field.specs.View.{table}
+use Rattle.field.proofs.Views.{table-entry}
+use Rattle.frame.specs.Checks.{FrameSize}
+use Rattle.ledger.specs.Ledger.{Entry, entry, noEntry, multiplierRows, valueColumn}
+use Rattle.ledger.specs.Board.{headerLength, rowLength, boardLength, modulusWord, sizeWord, countWord, rowWords, layout, entriesOf, IsBoard}
+use Rattle.ledger.specs.Proper.{Proper}
+use Rattle.ledger.proofs.LayoutRows.{Wide, entries-count, entries-at, entries-rows}
+use Rattle.ledger.proofs.LayoutTables.{independent-agree}
+use Rattle.ledger.proofs.LayoutBoard.{zerosBehind, layout-board}
+
+-- ---- the entries of any words
+
+-- the words behind the header, and the start of row i among them
+abbrev rest : List ℕ → List ℕ
+rest ws = drop headerLength ws
+
+abbrev start : List ℕ → ℕ → ℕ
+start ws i = i * rowLength (sizeWord ws)
+
+module _ (ws : List ℕ) where
+  -- there are as many as the count says
+  pub words-count : length (entriesOf ws) ≡ countWord ws
+  unfolding entriesOf
+  words-count = entries-count (sizeWord ws) (countWord ws) (drop headerLength ws)
+
+  words-entry : (i : ℕ) → i < countWord ws
+      → getD (entriesOf ws) i noEntry
+      ≡ entry (take (sizeWord ws) (drop (start ws i) (rest ws))) (getD (rest ws) (start ws i + sizeWord ws) 0)
+  unfolding entriesOf
+  words-entry i h = entries-at (sizeWord ws) (countWord ws) (rest ws) i h
+
+  -- a place of a row behind the header
+  words-place : (i j : ℕ) → getD (rest ws) (start ws i + j) 0 ≡ getD ws (headerLength + start ws i + j) 0
+  words-place i j =
+      getD-drop headerLength ws (start ws i + j) 0 ∙ ap (λ q. getD ws q 0) (sym (add-assoc headerLength (start ws i) j))
+
+  pub words-multiplier : (i j : ℕ) → i < countWord ws → j < sizeWord ws
+      → getD (getD (entriesOf ws) i noEntry .multipliers) j 0 ≡ getD ws (headerLength + i * rowLength (sizeWord ws) + j) 0
+  words-multiplier i j h l =
+      ap (λ e. getD (e .multipliers) j 0) (words-entry i h)
+      ∙ getD-take (sizeWord ws) (drop (start ws i) (rest ws)) j 0 l
+      ∙ getD-drop (start ws i) (rest ws) j 0
+      ∙ words-place i j
+
+  pub words-value : (i : ℕ) → i < countWord ws
+      → getD (entriesOf ws) i noEntry .value ≡ getD ws (headerLength + i * rowLength (sizeWord ws) + sizeWord ws) 0
+  words-value i h = ap (λ e. e .value) (words-entry i h) ∙ words-place i (sizeWord ws)
+
+  -- the multipliers as a matrix are the table in the words, and the values stand behind them
+  pub rows-table : (p i j : ℕ) → i < countWord ws → j < sizeWord ws
+      → multiplierRows p (entriesOf ws) i j ≡ table p ws headerLength (rowLength (sizeWord ws)) (countWord ws) (sizeWord ws) i j
+  unfolding multiplierRows
+  rows-table p i j h l =
+      ap (reduce p) (words-multiplier i j h l)
+      ∙ sym (table-entry p ws headerLength (rowLength (sizeWord ws)) (countWord ws) (sizeWord ws) i j h l)
+
+  pub rows-values : (p i : ℕ) → i < countWord ws
+      → valueColumn p (entriesOf ws) i ≡ reduce p (getD ws (headerLength + i * rowLength (sizeWord ws) + sizeWord ws) 0)
+  unfolding valueColumn
+  rows-values p i h = ap (reduce p) (words-value i h)
+
+-- ---- the words of a board
+
+-- three words at least begin with a header
+header-split : (ws : List ℕ) → 3 ≤ length ws → ws ≡ modulusWord ws ∷ sizeWord ws ∷ countWord ws ∷ drop 3 ws
+header-split ws h =
+    drop-cons ws 0 0 (omega arith)
+    ∙ ap (λ xs. modulusWord ws ∷ xs)
+    (drop-cons ws 1 0 (omega arith) ∙ ap (λ xs. sizeWord ws ∷ xs) (drop-cons ws 2 0 (omega arith)))
+
+-- numbers that are all 0 are a list of zeros
+all-zeros : (m : ℕ) (xs : List ℕ) → length xs ≡ m → ((i : ℕ) → i < length xs → getD xs i 0 ≡ 0) → xs ≡ replicate m 0
+all-zeros m xs l h =
+    ext-getD 0 xs (replicate m 0) (l ∙ sym (length-replicate m 0)) (λ i b. h i b ∙ sym (getD-replicate m i 0 0 (omega arith)))
+
+module _ (ws : List ℕ) (b : IsBoard ws) where
+  -- the rows lie in the words
+  rows-inside : (i : ℕ) → i ≤ countWord ws → headerLength + start ws i ≤ length ws
+  unfolding boardLength
+  rows-inside i h =
+      omega (
+        arith,
+        b .long,
+        mul-le-mul-right (rowLength (sizeWord ws)) h,
+        mul-le-mul-right (rowLength (sizeWord ws)) (b .count),
+      )
+
+  pub board-wide : Wide (sizeWord ws) (entriesOf ws)
+  unfolding rowLength
+  board-wide i h =
+      let inside : i < countWord ws = omega (arith, words-count ws) in
+      ap (λ e. length (e .multipliers)) (words-entry ws i inside)
+      ∙ length-take-le (sizeWord ws) (drop (start ws i) (rest ws))
+      (omega (arith, length-drop (start ws i) (rest ws), length-drop headerLength ws, rows-inside (suc i) inside))
+
+  -- behind the header stand the rows
+  board-rows : rowWords (entriesOf ws) ≡ take (start ws (countWord ws)) (rest ws)
+  unfolding entriesOf
+  board-rows =
+      entries-rows (sizeWord ws) (countWord ws) (rest ws)
+      (omega (arith, length-drop headerLength ws, rows-inside (countWord ws) (le-refl (countWord ws))))
+
+  -- and behind the rows the zeros
+  board-zeros : replicate (zerosBehind (sizeWord ws) (length (entriesOf ws))) 0 ≡ drop (start ws (countWord ws)) (rest ws)
+  board-zeros =
+      sym
+      (all-zeros (zerosBehind (sizeWord ws) (length (entriesOf ws))) (drop end (rest ws))
+      (omega (arith, long, b .long, ap (start ws) (words-count ws))) zero-at)
+    where
+      end : ℕ
+      end = start ws (countWord ws)
+
+      long : length (drop end (rest ws)) ≡ length ws - headerLength - end
+      long = length-drop end (rest ws) ∙ ap (λ l. l - end) (length-drop headerLength ws)
+
+      zero-at : (i : ℕ) → i < length (drop end (rest ws)) → getD (drop end (rest ws)) i 0 ≡ 0
+      zero-at i h =
+          getD-drop end (rest ws) i 0
+          ∙ getD-drop headerLength ws (end + i) 0
+          ∙ b .zeros (headerLength + (end + i)) (omega arith) (omega (arith, long))
+
+  -- a board is the layout of the ledger that it holds
+  pub board-layout : layout (modulusWord ws) (sizeWord ws) (entriesOf ws) ≡ ws
+  unfolding layout headerLength
+  board-layout =
+      ap₂ (λ k xs. modulusWord ws ∷ sizeWord ws ∷ k ∷ xs) (words-count ws)
+      (ap₂ (λ xs ys. xs ++ ys) board-rows board-zeros ∙ take-append-drop (start ws (countWord ws)) (rest ws))
+      ∙ sym (header-split ws (b .three))
+
+  -- a place among the rows is below p
+  board-below : (i t : ℕ) → i < countWord ws → t < rowLength (sizeWord ws)
+      → getD ws (headerLength + start ws i + t) 0 < modulusWord ws
+  board-below i t h l =
+      rw (add-assoc headerLength)
+      (b .below (start ws i + t) (omega (arith, mul-le-mul-right (rowLength (sizeWord ws)) h)))
+
+  -- and that ledger is proper
+  pub board-proper : Proper (modulusWord ws) (sizeWord ws) (entriesOf ws)
+  unfolding rowLength
+  board-proper =
+      record {
+        fits = omega (arith, words-count ws, b .count);
+        wide = board-wide;
+        below = λ i j h l.
+            let inside : i < countWord ws = omega (arith, words-count ws) in
+            rw (words-multiplier ws i j inside l) (board-below i j inside (omega arith));
+        value-below = λ i h.
+            let inside : i < countWord ws = omega (arith, words-count ws) in
+            rw (words-value ws i inside) (board-below i (sizeWord ws) inside (omega arith));
+        independent =
+            rw (words-count ws)
+            (independent-agree (residues (modulusWord ws)) (countWord ws) (sizeWord ws)
+            (table (modulusWord ws) ws headerLength (rowLength (sizeWord ws)) (countWord ws) (sizeWord ws))
+            (multiplierRows (modulusWord ws) (entriesOf ws))
+            (λ i j h l. sym (rows-table ws (modulusWord ws) i j h l)) (b .independent));
+      }
+
+-- words are a board exactly if they are the layout of a proper ledger
+pub board-exactly : (ws : List ℕ)
+    → IsBoard ws ↔ ((p : ℕ) × (n : ℕ) × (es : List Entry) × IsModulus p × FrameSize n × Proper p n es × (ws ≡ layout p n es))
+board-exactly ws = (
+  λ b. (modulusWord ws, sizeWord ws, entriesOf ws, b .prime, b .size, board-proper ws b, sym (board-layout ws b)),
+  λ (p, n, es, ok, size, P, e). subst IsBoard (sym e) (layout-board p n es ok size P),
+)

@@ -1,0 +1,173 @@
+-- Every step of the ledger keeps it proper: a frame that is appended has n multipliers and a value below p, as reading found
+-- them, and its row is no combination of the others, so that the longer rows are independent and at most n; a withdrawal
+-- leaves a front of the rows.
+use mathlib.Core.Path.{_≡_, _∙_}
+use mathlib.Core.Logic.{⊎-elim}
+use mathlib.Core.List.{List, [], _∷_, _++_}
+use Prim.Native.Nat.{ℕ, suc, _-_, _≤_, _<_}
+use native.Mathlib.Nat.{sub-le, not-suc-le-zero, le-of-suc-le-suc, eq-or-lt-of-le}
+use native.Mathlib.Numerals.{add-one}
+use native.Mathlib.Decide.{decLe, ℕ-discrete}
+use native.Mathlib.Omega.{arith}
+use lib.ListN.{length, getD, take, length-append, List·getD-append}
+use lib.Seq.{getD-append-seam, length-take-le, getD-take}
+use Rattle.algebra.specs.Matrix.{Matrix}
+use Rattle.algebra.specs.Span.{Independent}
+use Rattle.modulus.specs.Prime.{IsModulus}
+use Rattle.modulus.specs.declared.Refusal.the-variants.{FrameLength, Padding}
+use Rattle.field.specs.Residue.{reduce, residues}
+use Rattle.field.specs.View.{Below}
+use Rattle.field.proofs.Field.{residues-field, residues-ring}
+use Rattle.frame.specs.Format.{mapLength}
+use Rattle.frame.specs.Reading.{accepted, readFrame, readNumbers, unpadded?, recordBits, frameLength, frameNumbers}
+use Rattle.frame.proofs.RoundMap.{record-bits-length}
+use Rattle.frame.proofs.RoundNumbers.{accepted-if, judge-passed, spread-length, spread-below}
+use Rattle.ledger.specs.Ledger.{Entry, entry, noEntry, Combined, multiplierRows}
+use Rattle.ledger.specs.Steps.{Taken, Withdrawn}
+use Rattle.ledger.specs.History.{Call, ledgerStep}
+use Rattle.ledger.specs.Proper.{Proper}
+use Rattle.ledger.proofs.LedgerSteps.{Took, new, repeat, refusal, took, Withdrew, dropped, overlong, withdrew}
+use Rattle.ledger.proofs.LayoutTables.{independent-agree}
+use Rattle.ledger.proofs.RankRows.{
+  Alike,
+  combination-alike,
+  alike-back,
+  front-independent,
+  append-independent,
+  independent-most,
+}
+
+-- ---- what reading accepts
+
+-- n multipliers and a value, all below p
+pub record Numbers (p n : ℕ) (xs : List ℕ) (v : ℕ) : Type 0 where
+  pub long : length xs ≡ n
+  pub below : Below p xs
+  pub value-below : v < p
+
+pub accepted-numbers : (p n : ℕ) (bytes xs : List ℕ) (v : ℕ) → readFrame p n bytes ≡ accepted xs v → Numbers p n xs v
+unfolding readFrame readNumbers
+accepted-numbers p n bytes xs v e =
+    let (h, e1) = accepted-if (decLe (mapLength n) (length bytes)) _ FrameLength xs v e in
+    let (u, e2) = accepted-if (unpadded? n bytes) _ Padding xs v e1 in
+    let (l, e3) = accepted-if (ℕ-discrete (length bytes) (frameLength n bytes)) _ FrameLength xs v e2 in
+    let t = judge-passed p (frameNumbers n bytes) _ _ xs v e3 in
+    record {
+      long = rw (← (t .multipliers)) (spread-length (recordBits n bytes) (frameNumbers n bytes) ∙ record-bits-length n bytes);
+      below =
+          rw (← (t .multipliers))
+          (spread-below p (recordBits n bytes) (frameNumbers n bytes) (omega (arith, t .value-below)) (t .below));
+      value-below = rw (← (t .value)) (t .value-below);
+    }
+
+-- ---- an entry more
+
+module _ (es : List Entry) (e : Entry) where
+  pub length-more : length (es ++ (e ∷ [])) ≡ suc (length es)
+  length-more = length-append es (e ∷ []) ∙ add-one (length es)
+
+  pub entry-before : (i : ℕ) → i < length es → getD (es ++ (e ∷ [])) i noEntry ≡ getD es i noEntry
+  entry-before i h = List·getD-append es (e ∷ []) noEntry i h
+
+  pub entry-last : getD (es ++ (e ∷ [])) (length es) noEntry ≡ e
+  entry-last = getD-append-seam es e [] noEntry
+
+  -- what holds of the entries and of the last one holds of all
+  each-more : (Q : Entry → Type 0) → ((i : ℕ) → i < length es → Q (getD es i noEntry)) → Q e
+      → (i : ℕ) → i < length (es ++ (e ∷ [])) → Q (getD (es ++ (e ∷ [])) i noEntry)
+  each-more Q h q i l = ⊎-elim last (λ b. rw (entry-before i b) (h i b)) (eq-or-lt-of-le (le-of-suc-le-suc (rw length-more at l)))
+    where
+      last : i ≡ length es → Q (getD (es ++ (e ∷ [])) i noEntry)
+      last d = rw (d, entry-last) q
+
+-- the empty ledger is proper
+pub empty-proper : (p n : ℕ) → Proper p n []
+empty-proper p n =
+    record {
+      fits = omega arith;
+      wide = λ i h. absurd (not-suc-le-zero h);
+      below = λ i j h l. absurd (not-suc-le-zero h);
+      value-below = λ i h. absurd (not-suc-le-zero h);
+      independent = λ u c t h. absurd (not-suc-le-zero h);
+    }
+
+module _ (p n : ℕ) (es : List Entry) (proper : Proper p n es) where
+  -- a frame whose multipliers are no combination of the rows is appended to a proper ledger
+  module _ (ok : IsModulus p) (xs : List ℕ) (v : ℕ) (numbers : Numbers p n xs v) (new : Combined p n es xs → ⊥) where
+    rows : Matrix (residues p)
+    rows = multiplierRows p (es ++ (entry xs v ∷ []))
+
+    before : Alike (residues p) (length es) n (multiplierRows p es) rows
+    unfolding multiplierRows rows
+    before i j h l = rw (entry-before es (entry xs v) i h)
+
+    last : (j : ℕ) → j < n → rows (length es) j ≡ reduce p (getD xs j 0)
+    unfolding multiplierRows rows
+    last j l = rw (entry-last es (entry xs v))
+
+    longer : Independent (residues p) (suc (length es)) n rows
+    longer =
+        append-independent (residues p) (residues-field p (ok .prime)) (length es) n rows
+        (independent-agree (residues p) (length es) n (multiplierRows p es) rows before (proper .independent))
+        (λ c. new
+        (combination-alike (residues p) rows (multiplierRows p es) (alike-back (residues p) (multiplierRows p es) rows before)
+        (rows (length es)) (λ j. reduce p (getD xs j 0)) last c))
+
+    pub append-proper : Proper p n (es ++ (entry xs v ∷ []))
+    unfolding rows
+    append-proper =
+        record {
+          fits =
+              rw (length-more es (entry xs v))
+              (independent-most (residues p) (residues-field p (ok .prime)) (suc (length es)) n rows longer);
+          wide = each-more es (entry xs v) (λ e. length (e .multipliers) ≡ n) (proper .wide) (numbers .long);
+          below = λ i j h l.
+              each-more es (entry xs v) (λ e. getD (e .multipliers) j 0 < p) (λ k b. proper .below k j b l)
+              (numbers .below j (rw (numbers .long) l)) i h;
+          value-below = each-more es (entry xs v) (λ e. e .value < p) (proper .value-below) (numbers .value-below);
+          independent = rw (length-more es (entry xs v)) longer;
+        }
+
+  -- a front of a proper ledger is proper
+  pub front-proper : (k : ℕ) → 0 < p → k ≤ length es → Proper p n (take k es)
+  unfolding multiplierRows
+  front-proper k positive h =
+      record {
+        fits = rw long (omega (arith, proper .fits));
+        wide = λ i b. rw (same i b) (proper .wide i (within i b));
+        below = λ i j b l. rw (same i b) (proper .below i j (within i b) l);
+        value-below = λ i b. rw (same i b) (proper .value-below i (within i b));
+        independent =
+            rw long
+            (independent-agree (residues p) k n (multiplierRows p es) (multiplierRows p (take k es)) alike
+            (front-independent (residues p) (residues-ring p positive) k (length es) n (multiplierRows p es) h (proper .independent)));
+      }
+    where
+      long : length (take k es) ≡ k
+      long = length-take-le k es h
+
+      within : (i : ℕ) → i < length (take k es) → i < length es
+      within i b = omega (arith, long)
+
+      same : (i : ℕ) → i < length (take k es) → getD (take k es) i noEntry ≡ getD es i noEntry
+      same i b = getD-take k es i noEntry (rw long at b)
+
+      alike : Alike (residues p) k n (multiplierRows p es) (multiplierRows p (take k es))
+      alike i j b l = rw (getD-take k es i noEntry b)
+
+  -- ---- every step keeps a ledger proper
+  module _ (ok : IsModulus p) where
+    took-proper : (frame mix : List ℕ) {r : Taken} → Took p ok n es frame mix r → Proper p n (r .entries)
+    took-proper frame mix (new xs v e free) = append-proper ok xs v (accepted-numbers p n frame xs v e) free
+    took-proper frame mix (repeat xs v e c) = proper
+    took-proper frame mix (refusal k h ws) = proper
+
+    withdrew-proper : (t : ℕ) {r : Withdrawn} → Withdrew es t r → Proper p n (r .entries)
+    withdrew-proper t (dropped h) = front-proper (length es - t) (omega (arith, ok .prime .two-or-more)) (sub-le (length es) t)
+    withdrew-proper t (overlong h) = proper
+
+    pub step-proper : (c : Call) → Proper p n (ledgerStep p ok n es c .state)
+    unfolding ledgerStep
+    step-proper (Call.take frame mix) = took-proper frame mix (took p ok n es frame mix)
+    step-proper (Call.withdraw t) = withdrew-proper t (withdrew es t)
+    step-proper (Call.show marks numbers) = proper

@@ -1,0 +1,279 @@
+-- The count of frames held is the rank of the ledger's rows; and in a history without withdrawals it is the rank of the
+-- multipliers of all frames answered new or repeat, in whatever order: the ledger's rows are among them, and each of them is a
+-- combination of the ledger's rows, so that both span the same.
+use mathlib.Core.Path.{_≡_, refl, sym, ap, _∙_, subst, subst₂, fun-ext}
+use mathlib.Core.Logic.{_⊎_, inl, inr, ⊎-elim, ∥∥₁-elim}
+use mathlib.Core.List.{
+  List,
+  [],
+  _∷_,
+  _++_,
+  Perm,
+  List·Permᴰ,
+  List·Permᴰ·nil,
+  List·Permᴰ·cons,
+  List·Permᴰ·swap,
+  List·Permᴰ·trans,
+  Permᴰ·symm,
+  List·Memᴰ,
+  List·Memᴰ·head,
+  List·Memᴰ·tail,
+  List·Memᴰ·not-nil,
+  List·Memᴰ·cases-cons,
+  List·Memᴰ·append-cases,
+  List·Memᴰ·eq-of-singleton,
+  Memᴰ·cast,
+  Memᴰ·append-left,
+  Memᴰ·append-right,
+  Memᴰ·of-map,
+}
+use Prim.Native.Nat.{ℕ, zero, suc, _≤_, _<_}
+use native.Mathlib.Nat.{ℕ-set, not-suc-le-zero, le-of-suc-le-suc}
+use native.Mathlib.Omega.{arith}
+use lib.ListN.{length, getD, length-append, length-map, List·getD-map, List·getD-append}
+use borrow.Author.Tests.{ne-eqb}
+use Rattle.algebra.specs.Ring.{IsCommutativeRing, IsField}
+use Rattle.algebra.specs.Matrix.{Matrix}
+use Rattle.algebra.specs.Span.{IsCombination, Independent}
+use Rattle.algebra.specs.Quasiinverse.{Marks, count, IsQuasiinverse}
+use Rattle.algebra.proofs.Counts.{count-same}
+use Rattle.algebra.proofs.Rank.{same-span-same-rank}
+use Rattle.algebra.proofs.Exists.{Solved, solved}
+use Rattle.algebra.proofs.Decide.{cut, cut-inside, cut-sized}
+use Rattle.algebra.proofs.Independent.{all-counted}
+use Rattle.modulus.specs.Told.{refused}
+use Rattle.modulus.specs.Prime.{IsModulus}
+use Rattle.field.specs.Residue.{reduce, residues}
+use Rattle.field.proofs.Field.{residues-field}
+use Rattle.ledger.specs.Ledger.{Entry, entry, noEntry, Combined, multiplierRows}
+use Rattle.ledger.specs.Steps.{Taken, ledgerTake}
+use Rattle.ledger.specs.History.{Call, Reply, reply, ledgerStep, run, ledgerRun}
+use Rattle.ledger.specs.Heard.{NoWithdrawal, multipliersOf, heardIn, heard, ledgerRows, residueRows, rowMarks, rankOf}
+use Rattle.ledger.specs.Proper.{Proper}
+use Rattle.ledger.proofs.Proper.{empty-proper, length-more, entry-last}
+use Rattle.ledger.proofs.RankRows.{
+  alike-back,
+  cut-alike,
+  combination-alike,
+  own-combination,
+  combination-more,
+  all-chosen,
+  chosen-rows,
+}
+use Rattle.ledger.proofs.LedgerSteps.{Took, new, repeat, refusal, took}
+use Rattle.ledger.proofs.LedgerRuns.{only-appends, run-proper}
+
+-- ---- places of members
+
+getD-member : {A : Type 0} (d : A) (l : List A) (i : ℕ) → i < length l → List·Memᴰ (getD l i d) l
+getD-member d [] i h = absurd (not-suc-le-zero h)
+getD-member d (x ∷ l) zero h = List·Memᴰ·head refl
+getD-member d (x ∷ l) (suc i) h = List·Memᴰ·tail (getD-member d l i (le-of-suc-le-suc h))
+
+member-place : {A : Type 0} (d : A) (l : List A) (a : A) → List·Memᴰ a l → (i : ℕ) × (i < length l) × (getD l i d ≡ a)
+member-place d [] a m = absurd (List·Memᴰ·not-nil m)
+member-place d (x ∷ l) a m =
+    ⊎-elim (λ e. (0, omega arith, sym e)) (λ k. let (i, h, e) = member-place d l a k in (suc i, omega arith, e))
+    (List·Memᴰ·cases-cons m)
+
+-- a permutation has the same members
+perm-member : {A : Type 0} {a : A} {l₁ l₂ : List A} → List·Permᴰ l₁ l₂ → List·Memᴰ a l₁ → List·Memᴰ a l₂
+perm-member List·Permᴰ·nil m = m
+perm-member (List·Permᴰ·cons e d) m =
+    ⊎-elim (λ f. List·Memᴰ·head (f ∙ e)) (λ k. List·Memᴰ·tail (perm-member d k)) (List·Memᴰ·cases-cons m)
+perm-member (List·Permᴰ·swap e f) m =
+    ⊎-elim (λ g. List·Memᴰ·tail (List·Memᴰ·head (g ∙ e)))
+    (λ k. ⊎-elim (λ g. List·Memᴰ·head (g ∙ f)) (λ r. List·Memᴰ·tail (List·Memᴰ·tail r)) (List·Memᴰ·cases-cons k))
+    (List·Memᴰ·cases-cons m)
+perm-member (List·Permᴰ·trans d e) m = perm-member e (perm-member d m)
+
+-- ---- the rank of rows
+
+-- xs is a combination of the rows
+abbrev pub Spanned : (p n : ℕ) → List (List ℕ) → List ℕ → Type 0
+Spanned p n yss xs = IsCombination (residues p) (length yss) n (residueRows p yss) (λ j. reduce p (getD xs j 0))
+
+module _ (p : ℕ) (ok : IsModulus p) (n : ℕ) where
+  abbrev F : IsField (residues p)
+  F = residues-field p (ok .prime)
+
+  abbrev L : IsCommutativeRing (residues p)
+  L = F .ring
+
+  -- the rows of numbers, cut to size
+  abbrev rowsCut : List (List ℕ) → Matrix (residues p)
+  rowsCut xss = cut (residues p) (length xss) n (residueRows p xss)
+
+  -- the set J of any quasiinverse of the rows has as many members as the rank
+  pub rank-counted : (xss : List (List ℕ)) {D : Matrix (residues p)} {I J : Marks}
+      → IsQuasiinverse (residues p) (length xss) n (rowsCut xss) D I J → rankOf p ok n xss ≡ count (length xss) J
+  unfolding rankOf rowMarks
+  rank-counted xss {J = J} Q =
+      count-same (length xss) (rowMarks p ok n xss) J (λ y h. sym (chosen-rows (residues p) F (residueRows p xss) Q y h))
+
+  quasi : (xss : List (List ℕ)) → Solved (residues p) (length xss) n (rowsCut xss)
+  quasi xss = solved (residues p) F (length xss) n (rowsCut xss) (cut-sized (residues p) (length xss) n (residueRows p xss))
+
+  -- rows of one list, each a combination of the rows of the other, when both are cut to size
+  rows-spanned : (xss yss : List (List ℕ)) → ((xs : List ℕ) → List·Memᴰ xs xss → Spanned p n yss xs)
+      → (y : ℕ) → y < length xss → IsCombination (residues p) (length yss) n (rowsCut yss) (rowsCut xss y)
+  unfolding residueRows
+  rows-spanned xss yss h y l =
+      combination-alike (residues p) (residueRows p yss) (rowsCut yss)
+      (alike-back (residues p) (rowsCut yss) (residueRows p yss) (cut-alike (residues p) (length yss) n (residueRows p yss)))
+      (residueRows p xss y) (rowsCut xss y) (λ j b. sym (cut-inside (residues p) (length xss) n (residueRows p xss) y j l b))
+      (h (getD xss y []) (getD-member [] xss y l))
+
+  -- rows that span the same have the same rank
+  pub same-rank : (xss yss : List (List ℕ)) → ((xs : List ℕ) → List·Memᴰ xs xss → Spanned p n yss xs)
+      → ((xs : List ℕ) → List·Memᴰ xs yss → Spanned p n xss xs) → rankOf p ok n xss ≡ rankOf p ok n yss
+  same-rank xss yss f g =
+      rank-counted xss (quasi xss .holds)
+      ∙ same-span-same-rank (residues p) L (F .one-not-zero) (quasi xss .holds) (quasi yss .holds)
+      (rows-spanned xss yss f) (rows-spanned yss xss g)
+      ∙ sym (rank-counted yss (quasi yss .holds))
+
+  -- a row is spanned by rows among which it stands
+  member-spanned : (yss : List (List ℕ)) (xs : List ℕ) → List·Memᴰ xs yss → Spanned p n yss xs
+  unfolding residueRows
+  member-spanned yss xs m =
+      let (i, h, e) = member-place [] yss xs m in
+      subst (Spanned p n yss) e (own-combination (residues p) L (residueRows p yss) i h)
+
+  -- ---- the ledger's rows
+
+  ledger-rows : (es : List Entry) → residueRows p (ledgerRows es) ≡ multiplierRows p es
+  unfolding residueRows multiplierRows
+  ledger-rows es =
+      fun-ext (λ i. fun-ext (λ j. ap (λ xs. reduce p (getD xs j 0)) (List·getD-map (λ (e : Entry). e .multipliers) es i noEntry)))
+
+  ledger-length : (es : List Entry) → length (ledgerRows es) ≡ length es
+  ledger-length es = length-map es (λ (e : Entry). e .multipliers)
+
+  combined-spanned : (es : List Entry) (xs : List ℕ) → Combined p n es xs → Spanned p n (ledgerRows es) xs
+  combined-spanned es xs =
+      subst₂ (λ k X. IsCombination (residues p) k n X (λ j. reduce p (getD xs j 0))) (sym (ledger-length es)) (sym (ledger-rows es))
+
+  -- "The count of frames held is the rank of the ledger's rows": for any quasiinverse of the rows, J has them all
+  pub count-is-rank : (es : List Entry) → Proper p n es → {D : Matrix (residues p)} {I J : Marks}
+      → IsQuasiinverse (residues p) (length es) n (cut (residues p) (length es) n (multiplierRows p es)) D I J
+      → count (length es) J ≡ length es
+  count-is-rank es proper {J = J} Q =
+      all-counted (length es) J (all-chosen (residues p) F (length es) n (multiplierRows p es) (proper .independent) Q)
+
+  -- the same of the rank as 01 defines it
+  pub ledger-rank : (es : List Entry) → Proper p n es → rankOf p ok n (ledgerRows es) ≡ length es
+  ledger-rank es proper =
+      rank-counted (ledgerRows es) (quasi (ledgerRows es) .holds)
+      ∙ all-counted (length (ledgerRows es)) (quasi (ledgerRows es) .J)
+      (all-chosen (residues p) F (length (ledgerRows es)) n (residueRows p (ledgerRows es))
+      (subst₂ (λ k X. Independent (residues p) k n X) (sym (ledger-length es)) (sym (ledger-rows es)) (proper .independent))
+      (quasi (ledgerRows es) .holds))
+      ∙ ledger-length es
+
+  -- ---- what was heard
+
+  -- what is a combination of the entries is one with more behind them
+  combined-more : (es ds : List Entry) (xs : List ℕ) → Combined p n es xs → Combined p n (es ++ ds) xs
+  unfolding multiplierRows
+  combined-more es ds xs c =
+      combination-more (residues p) L (multiplierRows p (es ++ ds)) (λ j. reduce p (getD xs j 0)) (omega (arith, length-append es ds))
+      (combination-alike (residues p) (multiplierRows p es) (multiplierRows p (es ++ ds))
+      (λ i j h l. sym (ap (λ (e : Entry). reduce p (getD (e .multipliers) j 0)) (List·getD-append es ds noEntry i h)))
+      (λ j. reduce p (getD xs j 0)) (λ j. reduce p (getD xs j 0)) (λ j l. refl) c)
+
+  -- the multipliers of an entry are a combination of the rows with it
+  combined-own : (es : List Entry) (xs : List ℕ) (v : ℕ) → Combined p n (es ++ (entry xs v ∷ [])) xs
+  unfolding multiplierRows
+  combined-own es xs v =
+      let rows = multiplierRows p (es ++ (entry xs v ∷ [])) in
+      combination-alike (residues p) rows rows (λ i j h l. refl) (rows (length es)) (λ j. reduce p (getD xs j 0))
+      (λ j l. ap (λ (e : Entry). reduce p (getD (e .multipliers) j 0)) (entry-last es (entry xs v)))
+      (own-combination (residues p) L rows (length es) (omega (arith, length-more es (entry xs v))))
+
+  -- a refused take is not heard
+  refused-unheard : (frame mix : List ℕ) (r : Reply) → 3 ≤ r .told .number → r .told .number ≤ 9
+      → heardIn p n (Call.take frame mix) r ≡ []
+  unfolding heardIn
+  refused-unheard frame mix r h l =
+      rw (ne-eqb (r .told .number) 0 (λ e. omega arith), ne-eqb (r .told .number) 100 (λ e. omega arith))
+
+  -- what a take heard is a combination of the rows after it
+  took-heard : (es : List Entry) (frame mix : List ℕ) {r : Taken} → Took p ok n es frame mix r → (xs : List ℕ)
+      → List·Memᴰ xs (heardIn p n (Call.take frame mix) (reply (r .told) (r .mix) [])) → Combined p n (r .entries) xs
+  unfolding heardIn multipliersOf
+  took-heard es frame mix (new ys v e f) xs m =
+      subst (Combined p n (es ++ (entry ys v ∷ [])))
+      (sym (List·Memᴰ·eq-of-singleton (subst (λ g. List·Memᴰ xs (multipliersOf g)) e m)))
+      (combined-own es ys v)
+  took-heard es frame mix (repeat ys v e c) xs m =
+      subst (Combined p n es) (sym (List·Memᴰ·eq-of-singleton (subst (λ g. List·Memᴰ xs (multipliersOf g)) e m))) c
+  took-heard es frame mix (refusal k h ws) xs m =
+      absurd (List·Memᴰ·not-nil (subst (List·Memᴰ xs) (refused-unheard frame mix (reply (refused k) ws []) (h .0) (h .1)) m))
+
+  -- the entries after a take stood before it or were heard
+  took-stands : (es : List Entry) (frame mix : List ℕ) {r : Taken} → Took p ok n es frame mix r → (e : Entry)
+      → List·Memᴰ e (r .entries)
+      → List·Memᴰ e es ⊎ List·Memᴰ (e .multipliers) (heardIn p n (Call.take frame mix) (reply (r .told) (r .mix) []))
+  unfolding heardIn multipliersOf
+  took-stands es frame mix (new ys v e f) d m =
+      ⊎-elim inl
+      (λ k. inr
+      (subst (λ g. List·Memᴰ (d .multipliers) (multipliersOf g)) (sym e)
+      (List·Memᴰ·head (ap (λ (a : Entry). a .multipliers) (List·Memᴰ·eq-of-singleton k)))))
+      (List·Memᴰ·append-cases es m)
+  took-stands es frame mix (repeat ys v e c) d m = inl m
+  took-stands es frame mix (refusal k h ws) d m = inl m
+
+  -- what was heard is a combination of the rows at the end
+  run-heard : (es : List Entry) (cs : List Call) → NoWithdrawal cs → (xs : List ℕ)
+      → List·Memᴰ xs (heard p n cs (ledgerRun p ok n es cs .replies)) → Combined p n (ledgerRun p ok n es cs .state) xs
+  unfolding heard heardIn run ledgerStep
+  run-heard es [] h xs m = absurd (List·Memᴰ·not-nil m)
+  run-heard es (Call.take frame mix ∷ cs) h xs m =
+      let r = ledgerTake p ok n es frame mix in
+      ⊎-elim
+      (λ k.
+      let (ds, e) = only-appends p ok n (r .entries) cs h in
+      subst (λ l. Combined p n l xs) (sym e)
+      (combined-more (r .entries) ds xs (took-heard es frame mix (took p ok n es frame mix) xs k)))
+      (run-heard (r .entries) cs h xs) (List·Memᴰ·append-cases (heardIn p n (Call.take frame mix) (reply (r .told) (r .mix) [])) m)
+  run-heard es (Call.withdraw t ∷ cs) h xs m = absurd h
+  run-heard es (Call.show marks numbers ∷ cs) h xs m = run-heard es cs h xs m
+
+  -- the entries at the end stood at the start or were heard
+  run-stands : (es : List Entry) (cs : List Call) → NoWithdrawal cs → (e : Entry) → List·Memᴰ e (ledgerRun p ok n es cs .state)
+      → List·Memᴰ e es ⊎ List·Memᴰ (e .multipliers) (heard p n cs (ledgerRun p ok n es cs .replies))
+  unfolding heard heardIn run ledgerStep
+  run-stands es [] h e m = inl m
+  run-stands es (Call.take frame mix ∷ cs) h e m =
+      let r = ledgerTake p ok n es frame mix in
+      let now = heardIn p n (Call.take frame mix) (reply (r .told) (r .mix) []) in
+      ⊎-elim (λ k. ⊎-elim inl (λ l. inr (Memᴰ·append-left _ l)) (took-stands es frame mix (took p ok n es frame mix) e k))
+      (λ k. inr (Memᴰ·append-right now k)) (run-stands (r .entries) cs h e m)
+  run-stands es (Call.withdraw t ∷ cs) h e m = absurd h
+  run-stands es (Call.show marks numbers ∷ cs) h e m = run-stands es cs h e m
+
+  -- 01: "in a history without withdrawals that is also the rank of the multipliers of all frames answered new or repeat, in
+  -- whatever order they came": hs is any order of them
+  pub heard-rank : (cs : List Call) → NoWithdrawal cs → (hs : List (List ℕ))
+      → Perm (heard p n cs (ledgerRun p ok n [] cs .replies)) hs
+      → rankOf p ok n hs ≡ length (ledgerRun p ok n [] cs .state)
+  heard-rank cs only hs order =
+      ∥∥₁-elim order (ℕ-set (rankOf p ok n hs) (length held))
+      (λ d. same-rank hs (ledgerRows held) (among d) (stands d) ∙ ledger-rank held (run-proper p ok n [] (empty-proper p n) cs))
+    where
+      held : List Entry
+      held = ledgerRun p ok n [] cs .state
+
+      all : List (List ℕ)
+      all = heard p n cs (ledgerRun p ok n [] cs .replies)
+
+      among : List·Permᴰ all hs → (xs : List ℕ) → List·Memᴰ xs hs → Spanned p n (ledgerRows held) xs
+      among d xs m = combined-spanned held xs (run-heard [] cs only xs (perm-member (Permᴰ·symm d) m))
+
+      stands : List·Permᴰ all hs → (xs : List ℕ) → List·Memᴰ xs (ledgerRows held) → Spanned p n hs xs
+      stands d xs m =
+          let (e, k, q) = Memᴰ·of-map (λ (e : Entry). e .multipliers) held m in
+          ⊎-elim (λ l. absurd (List·Memᴰ·not-nil l)) (λ l. member-spanned hs xs (Memᴰ·cast (sym q) (perm-member d l)))
+          (run-stands [] cs only e k)

@@ -1,0 +1,82 @@
+-- What is counted over a list of calls and its replies: the frames that were heard, which are those answered new or repeat, and
+-- those answered new; and the rank of rows of numbers. 01: "The ledger's rank is the size of the set J of its multiplier rows;
+-- in a history without withdrawals that is also the rank of the multipliers of all frames answered new or repeat, in whatever
+-- order they came."
+use mathlib.Core.Bool.{true, false}
+use mathlib.Core.List.{List, [], _∷_, _++_, map}
+use Prim.Native.Nat.{ℕ, _+_, _≤_}
+use lib.Dec.{eqb}
+use lib.ListN.{length, getD}
+use Rattle.algebra.specs.Choice.{choose, pick}
+use Rattle.algebra.specs.Matrix.{Matrix}
+use Rattle.algebra.specs.Quasiinverse.{Marks, count}
+use Rattle.algebra.proofs.Decide.{combination?}
+use Rattle.modulus.specs.Prime.{IsModulus}
+use Rattle.field.specs.Residue.{reduce, residues}
+use Rattle.field.proofs.Field.{residues-field}
+use Rattle.frame.specs.Reading.{Found, accepted, rejected, readFrame}
+use Rattle.ledger.specs.Ledger.{Entry}
+use Rattle.ledger.specs.History.{Call, take, withdraw, show, Reply}
+
+-- a number that is told for a refusal
+abbrev pub IsRefusal : ℕ → Type 0
+IsRefusal k = (1 ≤ k) × (k ≤ 11)
+
+-- a list of calls without a withdrawal
+abbrev pub NoWithdrawal : List Call → Type 0
+NoWithdrawal [] = Unit {0}
+NoWithdrawal (take frame mix ∷ cs) = NoWithdrawal cs
+NoWithdrawal (withdraw t ∷ cs) = ⊥
+NoWithdrawal (show marks numbers ∷ cs) = NoWithdrawal cs
+
+-- ---- takes answered new
+
+-- 1 for a take that is told 0
+unfoldable pub newIn : Call → Reply → ℕ
+newIn (take frame mix) r = choose (eqb (r .told .number) 0) 1 0
+newIn (withdraw t) r = 0
+newIn (show marks numbers) r = 0
+
+unfoldable pub news : List Call → List Reply → ℕ
+news [] rs = 0
+news (c ∷ cs) [] = 0
+news (c ∷ cs) (r ∷ rs) = newIn c r + news cs rs
+
+-- ---- frames answered new or repeat
+
+-- the multipliers that reading found
+unfoldable pub multipliersOf : Found → List (List ℕ)
+multipliersOf (accepted xs v) = xs ∷ []
+multipliersOf (rejected k) = []
+
+-- those of a take that is told 0 or 100
+unfoldable pub heardIn : (p n : ℕ) → Call → Reply → List (List ℕ)
+heardIn p n (take frame mix) r =
+    choose (eqb (r .told .number) 0) (multipliersOf (readFrame p n frame))
+    (choose (eqb (r .told .number) 100) (multipliersOf (readFrame p n frame)) [])
+heardIn p n (withdraw t) r = []
+heardIn p n (show marks numbers) r = []
+
+unfoldable pub heard : (p n : ℕ) → List Call → List Reply → List (List ℕ)
+heard p n [] rs = []
+heard p n (c ∷ cs) [] = []
+heard p n (c ∷ cs) (r ∷ rs) = heardIn p n c r ++ heard p n cs rs
+
+-- ---- the rank of rows of n numbers
+
+-- the multipliers of the ledger's entries
+abbrev pub ledgerRows : List Entry → List (List ℕ)
+ledgerRows = map (λ e. e .multipliers)
+
+-- the rows as residues
+unfoldable pub residueRows : (p : ℕ) → List (List ℕ) → Matrix (residues p)
+residueRows p xss i j = reduce p (getD (getD xss i []) j 0)
+
+-- the set J: the rows that are no combination of the rows before them
+unfoldable pub rowMarks : (p : ℕ) → IsModulus p → (n : ℕ) → List (List ℕ) → Marks
+rowMarks p ok n xss y =
+    pick (combination? (residues p) (residues-field p (ok .prime)) y n (residueRows p xss) (residueRows p xss y)) false true
+
+-- the rank: how many rows J has
+unfoldable pub rankOf : (p : ℕ) → IsModulus p → (n : ℕ) → List (List ℕ) → ℕ
+rankOf p ok n xss = count (length xss) (rowMarks p ok n xss)

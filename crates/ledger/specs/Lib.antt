@@ -1,0 +1,10 @@
+pub mod Ledger
+pub mod Board
+pub mod Decide
+pub mod Steps
+pub mod Calls
+pub mod History
+pub mod Proper
+pub mod Heard
+pub mod Settle
+pub mod Changes

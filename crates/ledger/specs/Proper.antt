@@ -1,0 +1,16 @@
+-- What a history keeps of the ledger, whatever calls it makes.
+use mathlib.Core.Path.{_≡_}
+use mathlib.Core.List.{List}
+use Prim.Native.Nat.{ℕ, _≤_, _<_}
+use lib.ListN.{length, getD}
+use Rattle.algebra.specs.Span.{Independent}
+use Rattle.field.specs.Residue.{residues}
+use Rattle.ledger.specs.Ledger.{Entry, noEntry, multiplierRows}
+
+-- a ledger that a history can reach: at most n entries, each of n multipliers and a value below p, the rows independent
+pub record Proper (p n : ℕ) (es : List Entry) : Type 0 where
+  pub fits : length es ≤ n
+  pub wide : (i : ℕ) → i < length es → length (getD es i noEntry .multipliers) ≡ n
+  pub below : (i j : ℕ) → i < length es → j < n → getD (getD es i noEntry .multipliers) j 0 < p
+  pub value-below : (i : ℕ) → i < length es → getD es i noEntry .value < p
+  pub independent : Independent (residues p) (length es) n (multiplierRows p es)

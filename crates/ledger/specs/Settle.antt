@@ -1,0 +1,42 @@
+-- What show is to give of each record, and what settles all records. 01: "Missing = n - k: every list of further calls after which
+-- all records are settled has at least n - k takes answered new, and after some n - k takes, all answered new, all are settled."
+use mathlib.Core.Path.{_≡_}
+use mathlib.Core.List.{List, [], _∷_, List·Memᴰ}
+use Prim.Native.Nat.{ℕ, _<_}
+use lib.Dec.{eqb}
+use lib.IntN.{ℤ, pos}
+use lib.ListN.{length, replicate}
+use Rattle.algebra.specs.Choice.{choose}
+use Rattle.field.specs.Written.{tabulate}
+use Rattle.signed.specs.Reading.{reading}
+use Rattle.frame.specs.Format.{frameOf}
+use Rattle.ledger.specs.Ledger.{Entry, Assignment, MeetsAll, Settled}
+use Rattle.ledger.specs.History.{Call, take, Reply, After}
+use Rattle.ledger.specs.Heard.{news}
+
+-- record j is marked 1 and its signed reading given exactly if all assignments meeting the ledger's frames agree at j;
+-- otherwise 0 and 0
+abbrev pub Gives : (p n : ℕ) → List Entry → (j mark : ℕ) → ℤ → Type 0
+Gives p n es j mark number =
+    (Settled p n es j → (x : Assignment p) → MeetsAll p n es x → (mark ≡ 1) × (number ≡ reading p (x j .value)))
+    × ((Settled p n es j → ⊥) → (mark ≡ 0) × (number ≡ pos 0))
+
+-- all records are settled
+abbrev pub AllSettled : (p n : ℕ) → List Entry → Type 0
+AllSettled p n es = (j : ℕ) → j < n → Settled p n es j
+
+-- what calls have made of a ledger and answered: new to every one, and all records are settled
+pub record Settling (p n : ℕ) (cs : List Call) (a : After (List Entry)) : Type 0 where
+  pub all-new : (r : Reply) → List·Memᴰ r (a .replies) → r .told .number ≡ 0
+  pub news-told : news cs (a .replies) ≡ length cs
+  pub settles : AllSettled p n (a .state)
+
+-- ---- frames that carry one record each
+
+-- multiplier 1 at record c, else 0
+unfoldable pub unitRow : (n c : ℕ) → List ℕ
+unitRow n c = tabulate n (λ j. choose (eqb c j) 1 0)
+
+-- the take that is lent the bytes of the frame with these multipliers and value 0, and a mix of n words
+unfoldable pub unitTake : (n c : ℕ) → Call
+unitTake n c = take (frameOf n (unitRow n c) (0 ∷ [])) (replicate n 0)

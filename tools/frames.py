@@ -1,0 +1,105 @@
+#!/usr/bin/env python3
+"""Cases for the test program of the frames: crates/frame_test/stdin.
+
+A reader of its own, straight from document 01's section "Frame bytes", says of each frame what reading answers. Frames are
+written for every n from 1 to 64 and then damaged: cut, extended, with padding bits, with multipliers of 0 and with numbers
+of p or more. Each case, numbers most significant byte first:
+
+    p (4 bytes), n (1), length of the frame (2), the frame, answer (4): 0 or the refusal's number;
+    where the answer is 0 the value (4) and n multipliers (4 each)
+
+n of 0 ends the file.
+
+  tools/frames.py [SEED]      (seed 2027 makes the stored file)
+"""
+import random
+import struct
+import sys
+
+PRIMES = [2, 3, 5, 7, 251, 257, 65537, 16777213, 2147483629, 2147483647]
+
+
+def frame_of(n, multipliers, value):
+    """The bytes of a frame, as the document draws them."""
+    bits = bytearray((n + 7) // 8)
+    for j, x in enumerate(multipliers):
+        if x:
+            bits[j // 8] |= 1 << (j % 8)
+    body = b''.join(struct.pack('>I', x) for x in multipliers if x)
+    return bytes(bits) + body + struct.pack('>I', value)
+
+
+def read(p, n, frame):
+    """(0, value, multipliers) or (refusal number,)."""
+    size = (n + 7) // 8
+    if len(frame) < size:
+        return (6,)
+    bits = [frame[j // 8] >> (j % 8) & 1 for j in range(8 * size)]
+    if any(bits[n:]):
+        return (7,)
+    standing = sum(bits[:n])
+    if len(frame) != size + 4 * standing + 4:
+        return (6,)
+    numbers = [int.from_bytes(frame[size + 4 * k:size + 4 * k + 4], 'big') for k in range(standing + 1)]
+    for x in numbers[:-1]:
+        if x == 0:
+            return (8,)
+        if x >= p:
+            return (4,)
+    if numbers[-1] >= p:
+        return (4,)
+    rest = iter(numbers)
+    return (0, numbers[-1], [next(rest) if b else 0 for b in bits[:n]])
+
+
+def damage(rng, p, n, frame):
+    kind = rng.randrange(9)
+    size = (n + 7) // 8
+    b = bytearray(frame)
+    if kind == 0:
+        return bytes(b)
+    if kind == 1:
+        return bytes(b[:rng.randrange(len(b))])
+    if kind == 2:
+        return bytes(b) + bytes(rng.randrange(256) for _ in range(rng.randrange(1, 9)))
+    if kind == 3 and n % 8:
+        b[size - 1] |= 1 << rng.randrange(n % 8, 8)
+    elif kind == 4 and len(b) > size + 4:
+        k = rng.randrange((len(b) - size - 4) // 4)
+        b[size + 4 * k:size + 4 * k + 4] = bytes(4)
+    elif kind == 5 and len(b) > size + 4:
+        k = rng.randrange((len(b) - size - 4) // 4)
+        b[size + 4 * k:size + 4 * k + 4] = struct.pack('>I', rng.choice([p, p + 1, 4294967295, p - 1]))
+    elif kind == 6:
+        b[-4:] = struct.pack('>I', rng.choice([p, p + 1, 4294967295, p - 1]))
+    elif kind == 7:
+        b[rng.randrange(size)] ^= 1 << rng.randrange(8)
+    elif kind == 8:
+        b[rng.randrange(len(b))] = rng.randrange(256)
+    return bytes(b)
+
+
+def main():
+    rng = random.Random(int(sys.argv[1]) if len(sys.argv) > 1 else 2027)
+    out = bytearray()
+    count = [0] * 12
+    for n in range(1, 65):
+        for k in range(10):
+            p = rng.choice(PRIMES)
+            part = rng.random()
+            xs = [rng.randrange(p) if rng.random() < part else 0 for _ in range(n)]
+            frame = frame_of(n, xs, rng.randrange(p))
+            if k:
+                frame = damage(rng, p, n, frame)
+            answer = read(p, n, frame)
+            count[answer[0]] += 1
+            out += struct.pack('>IBH', p, n, len(frame)) + frame + struct.pack('>I', answer[0])
+            if answer[0] == 0:
+                assert frame_of(n, answer[2], answer[1]) == frame
+                out += struct.pack('>I', answer[1]) + b''.join(struct.pack('>I', x) for x in answer[2])
+    out += struct.pack('>IB', 0, 0)
+    sys.stdout.buffer.write(bytes(out))
+    print('answers', {k: c for k, c in enumerate(count) if c}, file=sys.stderr)
+
+
+main()
