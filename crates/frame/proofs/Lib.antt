@@ -15,3 +15,4 @@ pub mod WriteFrame
 pub mod WriteCalls
 pub mod SealSums
 pub mod SealCalls
+pub mod Examples

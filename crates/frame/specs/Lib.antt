@@ -6,3 +6,4 @@ pub mod Put
 pub mod Told
 pub mod Checks
 pub mod Calls
+pub mod Examples

@@ -1,0 +1,41 @@
+-- `board::judge::mix_rows` meets its contract: `combine` adds the row times the table to zeros.
+use mathlib.Core.Path.{sym}
+use native.Mathlib.Omega.{arith}
+use lib.Seq.{length-take-le}
+use Rattle.board.proofs.JudgeRows.{rows-inside, combined-mixed}
+use Rattle.board.proofs.judge.mix_rows.Statement.{statement}
+use Rattle.board.proofs.judge.mix_rows.Tie as tie
+
+no-numbers-requires : tie.Need-no-numbers-requires
+no-numbers-requires c κs = tt
+
+array-borrow-prefix-out : tie.Need-array-borrow-prefix-out
+array-borrow-prefix-out c = omega (arith, c .no-numbers .ensures .long)
+
+slice-aggregate-combine : tie.Need-slice-aggregate-combine
+slice-aggregate-combine c = sym (length-take-le _ _ (array-borrow-prefix-out (c .before)))
+
+combine-requires : tie.Need-combine-requires
+combine-requires c κs =
+    let a = c .before .before .before .before .args in
+    let s = c .before .before .before .before .pre in
+    let e = length-take-le (a .width) (c .before .no-numbers .result) (array-borrow-prefix-out (c .before)) in
+    (s .0, s .1, rw e (s .2), λ t h. rw (e, s .3) (omega (arith, rows-inside _ _ t (s .1) (s .2) h)))
+
+returns : tie.Need-returns
+returns c =
+    let a = c .before .before .before .before .before .before .args in
+    let s = c .before .before .before .before .before .before .pre in
+    let e = c .before .combine .ensures in
+    combined-mixed (a .p) (a .width) (a .by .now) (a .table .now) _ (c .before .combine .last .1 .1 .1 .1 .1 .0) (s .0) (s .2)
+    (c .before .before .before .no-numbers .ensures) (e .0) (e .1)
+
+pub mix-rows-spec : {M : Type 1} → statement M
+mix-rows-spec =
+    tie.close
+    (tie.spec
+    no-numbers-requires
+    array-borrow-prefix-out
+    slice-aggregate-combine
+    combine-requires
+    returns)

@@ -1,0 +1,5 @@
+pub mod Told
+pub mod Answers
+pub mod Held
+pub mod Tested
+pub mod Records

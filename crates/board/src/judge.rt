@@ -1,0 +1,104 @@
+// Taking a frame that has been read: whether its row is a combination of the standing rows, and which.
+ghost use mathlib.Core.Bool.{true, false};
+ghost use mathlib.Core.Path.{_≡_};
+ghost use Prim.Native.Nat.{ℕ, suc, _+_, _*_, _<_, _≤_};
+ghost use lib.ListN.{length, getD};
+ghost use Rattle.algebra.specs.Matrix.{mixed};
+ghost use Rattle.modulus.specs.Prime.{IsModulus};
+ghost use Rattle.field.specs.Residue.{residues};
+ghost use Rattle.field.specs.View.{line, table as tableOf};
+ghost use Rattle.field.specs.Halves.{Zeros};
+ghost use Rattle.ledger.specs.Board.{modulusWord, sizeWord, entriesOf, headerLength, rowLength};
+ghost use Rattle.ledger.specs.Changes.{Appended};
+ghost use Rattle.ledger.specs.Steps.{takeAccepted};
+ghost use Rattle.ledger.specs.Calls.{takeOutcome, laidOut};
+ghost use Rattle.board.specs.Told.{takeTold};
+ghost use Rattle.board.specs.Held.{Held};
+use crate::TakeAnswer;
+use modulus::Refusal;
+
+// The numbers of no row.
+fn no_numbers() -> [u32; 64]
+    ensures { λ r. ⌜ Zeros r ⌝ }
+{
+    [0u32; 64]
+}
+
+// The row `by` times the table, whose rows have `width` numbers; zeros behind.
+fn mix_rows(p: u32, by: &[u32], table: &[u32], width: usize) -> [u32; 64]
+    requires { ⌜ (0 < p) × (length (now by) ≤ 64) × (width ≤ 64) × (length (now table) ≡ 4096) ⌝ }
+    ensures { λ r. ⌜ (length r ≡ 64) × ((j : ℕ) → j < width → getD r j 0 ≡ (mixed (residues p) (length (now (by .entry))) (line p (now (by .entry)) 0 1) (tableOf p (now (table .entry)) 0 width (length (now (by .entry))) width) j) .value) × ((j : ℕ) → width ≤ j → getD r j 0 ≡ 0) ⌝ }
+{
+    let mut out = no_numbers();
+    field::sums::combine(p, by, table, 0, width, &mut out[..width]);
+    out
+}
+
+// Whether two rows of the same length have the same numbers.
+fn same(xs: &[u32], ys: &[u32]) -> bool
+    requires { ⌜ length (now xs) ≡ length (now ys) ⌝ }
+    ensures { λ r. ⌜ (r ≡ true → now (xs .entry) ≡ now (ys .entry)) × (r ≡ false → now (xs .entry) ≡ now (ys .entry) → ⊥) ⌝ }
+{
+    let mut j = 0;
+    while j < xs.len() {
+        if xs[j] != ys[j] {
+            return false;
+        }
+        j += 1;
+    }
+    true
+}
+
+// Writes the numbers of `xs` to `out` from the place on; the others stay.
+fn put(xs: &[u32], out: &mut [u32], at: usize)
+    requires { ⌜ at + length (now xs) ≤ length (now out) ⌝ }
+    ensures { λ _. ⌜ (length (now (out .exit)) ≡ length (now (out .entry))) × ((j : ℕ) → j < length (now (xs .entry)) → getD (now (out .exit)) (at + j) 0 ≡ getD (now (xs .entry)) j 0) × ((q : ℕ) → q < at → getD (now (out .exit)) q 0 ≡ getD (now (out .entry)) q 0) × ((q : ℕ) → at + length (now (xs .entry)) ≤ q → getD (now (out .exit)) q 0 ≡ getD (now (out .entry)) q 0) ⌝ }
+{
+    let mut j = 0;
+    while j < xs.len() {
+        out[at + j] = xs[j];
+        j += 1;
+    }
+}
+
+// Writes the row f and the value v behind the k standing rows, and counts it.
+fn append(board: &mut [u32], k: u32, f: &[u32], v: u32)
+    requires { ⌜ (headerLength + suc k * rowLength (length (now f)) ≤ length (now board)) × (k ≤ 64) ⌝ }
+    ensures { λ _. ⌜ Appended (length (now (f .entry))) k (now (f .entry)) v (now (board .entry)) (now (board .exit)) ⌝ }
+{
+    let n = f.len();
+    let at = 3 + (k as usize) * (n + 1);
+    put(f, board, at);
+    board[at + n] = v;
+    board[2] = k + 1;
+}
+
+// Takes the row f, n multipliers, with the value v: c = f D is the only combination that can give f, and it does exactly if
+// c R = f.
+pub fn take_row(
+    board: &mut [u32],
+    rows: &[u32],
+    d: &[u32],
+    f: &[u32],
+    v: u32,
+    mix: &mut [u32],
+) -> TakeAnswer
+    requires { ⌜ Held (now board) (now rows) (now d) × (length (now f) ≡ sizeWord (now board)) × ((j : ℕ) → j < sizeWord (now board) → getD (now f) j 0 < modulusWord (now board)) × (v < modulusWord (now board)) × (length (now mix) ≡ sizeWord (now board)) ⌝ }
+    ensures { λ r. ⌜ ((ok : IsModulus (modulusWord (now (board .entry)))) → takeOutcome (takeTold r) (now (board .exit)) (now (mix .exit)) ≡ laidOut (modulusWord (now (board .entry))) (sizeWord (now (board .entry))) (takeAccepted (modulusWord (now (board .entry))) ok (sizeWord (now (board .entry))) (entriesOf (now (board .entry))) (now (f .entry)) v (now (mix .entry)))) ⌝ }
+{
+    let p = board[0];
+    let n = board[1] as usize;
+    let count = board[2];
+    let k = count as usize;
+    let c = mix_rows(p, f, d, k);
+    let g = mix_rows(p, &c[..k], rows, n);
+    if !same(f, &g[..n]) {
+        append(board, count, f, v);
+        return TakeAnswer::New(count + 1);
+    }
+    put(&c[..n], mix, 0);
+    if field::sums::dot(p, &c[..k], board, 3 + n, n + 1) != v {
+        return TakeAnswer::Refused(Refusal::Conflict);
+    }
+    TakeAnswer::Repeat(count)
+}

@@ -1,0 +1,9 @@
+pub mod Inverted
+pub mod Memory
+pub mod Vectors
+pub mod First
+pub mod Theorems
+pub mod Answers
+pub mod Guards
+pub mod Solved
+pub mod Basis

@@ -1,0 +1,62 @@
+-- The line of each of take's answers, case by case: new and repeat carry the count, a refusal with the number 9 is a conflict with
+-- the count afterwards, and any other is refused with its number.
+use mathlib.Core.Path.{_≡_, refl}
+use Prim.Native.Nat.{ℕ, _<_}
+use native.Mathlib.Omega.{arith}
+use borrow.Author.Tests.{eq-eqb, ne-eqb}
+use Rattle.modulus.specs.declared.Refusal.{Refusal}
+use Rattle.modulus.specs.declared.Refusal.the-variants.{
+  Modulus,
+  Size,
+  Length,
+  Number,
+  Insoluble,
+  FrameLength,
+  Padding,
+  ZeroMultiplier,
+  Conflict,
+  Withdrawal,
+  NotBoard,
+}
+use Rattle.modulus.specs.Refusal.{numberOf}
+use Rattle.modulus.specs.Told.{refused}
+use Rattle.board.specs.Told.{takeTold}
+use Rattle.board.specs.declared.TakeAnswer.the-variants.{New, Repeat}
+use Rattle.sheet_lines.specs.Lines.{answerLine, newLine, repeatLine, conflictLine, refusedLine}
+
+pub new-answer : (k count : ℕ) → answerLine (takeTold (New k)) count ≡ newLine k
+unfolding answerLine
+new-answer k count = refl
+
+pub repeat-answer : (k count : ℕ) → answerLine (takeTold (Repeat k)) count ≡ repeatLine k
+unfolding answerLine
+repeat-answer k count = refl
+
+-- a refusal's number is neither that of new nor that of repeat
+number-between : (k : Refusal) → (0 < numberOf k) × (numberOf k < 100)
+number-between Modulus = omega arith
+number-between Size = omega arith
+number-between Length = omega arith
+number-between Number = omega arith
+number-between Insoluble = omega arith
+number-between FrameLength = omega arith
+number-between Padding = omega arith
+number-between ZeroMultiplier = omega arith
+number-between Conflict = omega arith
+number-between Withdrawal = omega arith
+number-between NotBoard = omega arith
+
+module _ (k : Refusal) (count : ℕ) where
+  refusal-not-new : numberOf k ≡ 0 → ⊥
+  refusal-not-new e = omega (arith, number-between k .0)
+
+  refusal-not-repeat : numberOf k ≡ 100 → ⊥
+  refusal-not-repeat e = omega (arith, number-between k .1)
+
+  pub conflict-answer : numberOf k ≡ 9 → answerLine (refused k) count ≡ conflictLine count
+  unfolding answerLine
+  conflict-answer e = rw (ne-eqb (numberOf k) 0 refusal-not-new, ne-eqb (numberOf k) 100 refusal-not-repeat, eq-eqb (numberOf k) 9 e)
+
+  pub refused-answer : (numberOf k ≡ 9 → ⊥) → answerLine (refused k) count ≡ refusedLine (numberOf k)
+  unfolding answerLine
+  refused-answer f = rw (ne-eqb (numberOf k) 0 refusal-not-new, ne-eqb (numberOf k) 100 refusal-not-repeat, ne-eqb (numberOf k) 9 f)

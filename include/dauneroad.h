@@ -1,0 +1,114 @@
+/* Dauneroad: coded heat sheets for console and printer firmware.
+ *
+ * A heat of n records (1 to 64) travels as coded frames: each frame carries a multiplier for each record and one value, the
+ * sum of the products modulo a prime p. A board is memory that the caller owns; take feeds it frames, show tells which
+ * records the frames settle. Everything here is proved against document 01; see docs/C.md for what that means and what it
+ * rests on.
+ *
+ * Every function answers a number:
+ *   0         done; for take: the frame is new and now stands
+ *   100       take: a repeat of what stands already
+ *   200 + k   done, with the result k that the function names
+ *   1 to 11   refused, by the first check that fails (DAUNEROAD_MODULUS and so on below)
+ * A refusal leaves all lent memory as it was, except that 5 writes u and 9 writes the mix.
+ *
+ * A slice is a pointer and a length in elements. The pointer is aligned for its element and valid for that many elements;
+ * where the length is 0 any non-null aligned pointer does. Two slices of one call do not overlap where one of them is written.
+ * No function keeps a pointer, allocates, or calls anything else; at most 128 KiB of stack are used. A board may be moved or
+ * copied between calls. Calls on different boards may run at the same time.
+ */
+#ifndef DAUNEROAD_H
+#define DAUNEROAD_H
+
+#include <stddef.h>
+#include <stdint.h>
+
+#ifdef __cplusplus
+extern "C" {
+#endif
+
+/* Refusals, by the numbers of document 01. */
+enum {
+    DAUNEROAD_MODULUS = 1,         /* p is no prime from 2 to 2147483647 */
+    DAUNEROAD_SIZE = 2,            /* m or n above 64; n of 0 for frames and open */
+    DAUNEROAD_LENGTH = 3,          /* a lent slice's length is not the one named */
+    DAUNEROAD_NUMBER = 4,          /* a number not below p, or a record out of range */
+    DAUNEROAD_INSOLUBLE = 5,       /* solve: no solution; u says why */
+    DAUNEROAD_FRAME_LENGTH = 6,    /* the frame is cut or too long */
+    DAUNEROAD_PADDING = 7,         /* a bit of the map stands at n or above */
+    DAUNEROAD_ZERO_MULTIPLIER = 8, /* multiplier 0 under a standing bit */
+    DAUNEROAD_CONFLICT = 9,        /* the frame contradicts the standing ones; mix says how */
+    DAUNEROAD_WITHDRAWAL = 10,     /* more frames to withdraw than stand */
+    DAUNEROAD_NOT_BOARD = 11       /* the words are no board */
+};
+
+/* Take's other answers, and what done answers begin with. */
+enum { DAUNEROAD_NEW = 0, DAUNEROAD_REPEAT = 100, DAUNEROAD_DONE = 200 };
+
+/* The longest frame, which dauneroad_write is lent, and the words of a board of n records. */
+#define DAUNEROAD_LONGEST_FRAME 268
+#define DAUNEROAD_BOARD_WORDS(n) (3 + (size_t)(n) * ((size_t)(n) + 1))
+
+/* ---- the board ---- */
+
+/* Writes a fresh board for n records modulo p; board_len is DAUNEROAD_BOARD_WORDS(n). 0 when done; refuses 1, 2, 3. */
+uint32_t dauneroad_open(uint32_t p, uint32_t n, uint32_t *board, size_t board_len);
+
+/* Takes a frame. 0: new, it stands now, mix untouched. 100: repeat, and 9: conflict; both write to the mix (n words) the
+ * combination of the standing frames that the frame's multipliers are. Refuses 11, 3, then the frame's 6, 7, 6, 8, 4, then 9. */
+uint32_t dauneroad_take(uint32_t *board, size_t board_len, const uint8_t *frame, size_t frame_len, uint32_t *mix,
+                        size_t mix_len);
+
+/* Drops the last t frames that were taken as new. 200 + the count that still stands; refuses 11, 10. */
+uint32_t dauneroad_withdraw(uint32_t *board, size_t board_len, uint32_t t);
+
+/* Marks each record (n marks, 1 or 0) that the standing frames settle, and gives its signed number (n numbers; 0 where the
+ * mark is 0). 200 + the frames still missing; refuses 11, 3. */
+uint32_t dauneroad_show(const uint32_t *board, size_t board_len, uint32_t *marks, size_t marks_len, int32_t *numbers,
+                        size_t numbers_len);
+
+/* ---- frames ---- */
+
+/* Reads a frame: n multipliers and *value are written. 0; refuses 1, 2, 3, then 6, 7, 6, 8, 4 as the frame's bytes say. */
+uint32_t dauneroad_read(uint32_t p, uint32_t n, const uint8_t *frame, size_t frame_len, uint32_t *multipliers,
+                        size_t multipliers_len, uint32_t *value);
+
+/* Writes the frame of n multipliers and a value to the front of bytes (exactly 268 are lent); the bytes after it keep their
+ * contents. 200 + the frame's length; refuses 1, 2, 3, 4. */
+uint32_t dauneroad_write(uint32_t p, uint32_t n, const uint32_t *multipliers, size_t multipliers_len, uint32_t value,
+                         uint8_t *bytes, size_t bytes_len);
+
+/* The value of a frame: the sum of products of n records and n multipliers modulo p, to *value. 0; refuses 1, 2, 3, 4. */
+uint32_t dauneroad_seal(uint32_t p, uint32_t n, const int32_t *records, size_t records_len, const uint32_t *multipliers,
+                        size_t multipliers_len, uint32_t *value);
+
+/* ---- signed readings ---- */
+
+/* The signed reading of the residue v, from -(p - 1)/2 to p/2, to *record. 0; refuses 1, 4. */
+uint32_t dauneroad_signed(uint32_t p, uint32_t v, int32_t *record);
+
+/* The residue that a record is read from, to *residue. 0; refuses 1, 4. */
+uint32_t dauneroad_residue(uint32_t p, int32_t record, uint32_t *residue);
+
+/* ---- tables: m rows of n numbers, stored row by row ---- */
+
+/* The quasiinverse D of A (n rows of m numbers), with 1 at the chosen columns and rows, else 0. 200 + the rank; refuses 1, 2,
+ * 3, 4. */
+uint32_t dauneroad_quasiinverse(uint32_t p, uint32_t m, uint32_t n, const uint32_t *a, size_t a_len, uint32_t *d, size_t d_len,
+                                uint32_t *column_marks, size_t column_marks_len, uint32_t *row_marks, size_t row_marks_len);
+
+/* A basis of the kernel of A: vectors of n numbers fill the front of basis (n * n numbers), the rest becomes 0. 200 + the
+ * number of vectors; refuses 1, 2, 3, 4. */
+uint32_t dauneroad_kernel(uint32_t p, uint32_t m, uint32_t n, const uint32_t *a, size_t a_len, uint32_t *basis,
+                          size_t basis_len);
+
+/* A solution z (n numbers) of A z = w (m numbers), and u becomes 0: 200 + the rank. 5: there is none, z is untouched and u
+ * (m numbers) is a combination of rows with u A = 0 and u w not 0. Refuses 1, 2, 3, 4 (A first, then w). */
+uint32_t dauneroad_solve(uint32_t p, uint32_t m, uint32_t n, const uint32_t *a, size_t a_len, const uint32_t *w, size_t w_len,
+                         uint32_t *z, size_t z_len, uint32_t *u, size_t u_len);
+
+#ifdef __cplusplus
+}
+#endif
+
+#endif
