@@ -38,31 +38,36 @@ checked p m n ok sizes f b c = pick-by-yes (modulus? p) _ _ (modulus-prop p) ok 
 -- ---- quasiinverse
 
 module _ (p m n : ℕ) (a d columns rows : List ℕ) where
-  pub quasiinverse-modulus : (IsModulus p → ⊥) → quasiinverseCall p m n a d columns rows ≡ quasiinverted (refused Modulus) d columns rows
+  pub quasiinverse-modulus : (IsModulus p → ⊥)
+      → quasiinverseCall p m n a d columns rows ≡ quasiinverted (refused Modulus) d columns rows
   unfolding quasiinverseCall
   quasiinverse-modulus f = pick-by-no (modulus? p) _ _ f
 
   module _ (ok : IsModulus p) where
-    pub quasiinverse-size : (Sizes m n → ⊥) → quasiinverseCall p m n a d columns rows ≡ quasiinverted (refused Size) d columns rows
+    pub quasiinverse-size : (Sizes m n → ⊥)
+        → quasiinverseCall p m n a d columns rows ≡ quasiinverted (refused Size) d columns rows
     unfolding quasiinverseCall
     quasiinverse-size f = pick-by-yes (modulus? p) _ _ (modulus-prop p) ok ∙ pick-no (sizes? m n) _ _ f
 
     module _ (sizes : Sizes m n) where
       -- A, D, the column marks or the row marks have another length
-      pub quasiinverse-a-length : (length a ≡ m * n → ⊥) → quasiinverseCall p m n a d columns rows ≡ quasiinverted (refused Length) d columns rows
+      pub quasiinverse-a-length : (length a ≡ m * n → ⊥)
+          → quasiinverseCall p m n a d columns rows ≡ quasiinverted (refused Length) d columns rows
       unfolding quasiinverseCall
       quasiinverse-a-length f =
           checked p m n ok sizes _ _ _
           ∙ pick-no (long? a (m * n)) _ _ f
 
-      pub quasiinverse-d-length : length a ≡ m * n → (length d ≡ n * m → ⊥) → quasiinverseCall p m n a d columns rows ≡ quasiinverted (refused Length) d columns rows
+      pub quasiinverse-d-length : length a ≡ m * n → (length d ≡ n * m → ⊥)
+          → quasiinverseCall p m n a d columns rows ≡ quasiinverted (refused Length) d columns rows
       unfolding quasiinverseCall
       quasiinverse-d-length la f =
           checked p m n ok sizes _ _ _
           ∙ pick-yes (long? a (m * n)) _ _ la
           ∙ pick-no (long? d (n * m)) _ _ f
 
-      pub quasiinverse-columns-length : length a ≡ m * n → length d ≡ n * m → (length columns ≡ n → ⊥) → quasiinverseCall p m n a d columns rows ≡ quasiinverted (refused Length) d columns rows
+      pub quasiinverse-columns-length : length a ≡ m * n → length d ≡ n * m → (length columns ≡ n → ⊥)
+          → quasiinverseCall p m n a d columns rows ≡ quasiinverted (refused Length) d columns rows
       unfolding quasiinverseCall
       quasiinverse-columns-length la ld f =
           checked p m n ok sizes _ _ _
@@ -70,7 +75,8 @@ module _ (p m n : ℕ) (a d columns rows : List ℕ) where
           ∙ pick-yes (long? d (n * m)) _ _ ld
           ∙ pick-no (long? columns n) _ _ f
 
-      pub quasiinverse-rows-length : length a ≡ m * n → length d ≡ n * m → length columns ≡ n → (length rows ≡ m → ⊥) → quasiinverseCall p m n a d columns rows ≡ quasiinverted (refused Length) d columns rows
+      pub quasiinverse-rows-length : length a ≡ m * n → length d ≡ n * m → length columns ≡ n → (length rows ≡ m → ⊥)
+          → quasiinverseCall p m n a d columns rows ≡ quasiinverted (refused Length) d columns rows
       unfolding quasiinverseCall
       quasiinverse-rows-length la ld lc f =
           checked p m n ok sizes _ _ _
@@ -80,7 +86,8 @@ module _ (p m n : ℕ) (a d columns rows : List ℕ) where
           ∙ pick-no (long? rows m) _ _ f
 
       -- a number of A is not below p
-      pub quasiinverse-number : length a ≡ m * n → length d ≡ n * m → length columns ≡ n → length rows ≡ m → (Below p a → ⊥) → quasiinverseCall p m n a d columns rows ≡ quasiinverted (refused Number) d columns rows
+      pub quasiinverse-number : length a ≡ m * n → length d ≡ n * m → length columns ≡ n → length rows ≡ m → (Below p a → ⊥)
+          → quasiinverseCall p m n a d columns rows ≡ quasiinverted (refused Number) d columns rows
       unfolding quasiinverseCall
       quasiinverse-number la ld lc lr f =
           checked p m n ok sizes _ _ _
@@ -92,7 +99,9 @@ module _ (p m n : ℕ) (a d columns rows : List ℕ) where
 
       -- past all checks
       pub quasiinverse-done :
-          length a ≡ m * n → length d ≡ n * m → length columns ≡ n → length rows ≡ m → Below p a → quasiinverseCall p m n a d columns rows ≡ quasiinverted (done (rankOf p ok m n a)) (rowsOf n m (inverseOf p ok m n a)) (marksOf n (columnsOf p ok m n a)) (marksOf m (rowMarksOf p ok m n a))
+          length a ≡ m * n → length d ≡ n * m → length columns ≡ n → length rows ≡ m → Below p a
+          → quasiinverseCall p m n a d columns rows
+          ≡ quasiinverted (done (rankOf p ok m n a)) (rowsOf n m (inverseOf p ok m n a)) (marksOf n (columnsOf p ok m n a)) (marksOf m (rowMarksOf p ok m n a))
       unfolding quasiinverseCall
       quasiinverse-done la ld lc lr b =
           checked p m n ok sizes _ _ _
@@ -122,7 +131,8 @@ module _ (p m n : ℕ) (a basis : List ℕ) where
           checked p m n ok sizes _ _ _
           ∙ pick-no (long? a (m * n)) _ _ f
 
-      pub kernel-basis-length : length a ≡ m * n → (length basis ≡ n * n → ⊥) → kernelCall p m n a basis ≡ kernelled (refused Length) basis
+      pub kernel-basis-length : length a ≡ m * n → (length basis ≡ n * n → ⊥)
+          → kernelCall p m n a basis ≡ kernelled (refused Length) basis
       unfolding kernelCall
       kernel-basis-length la f =
           checked p m n ok sizes _ _ _
@@ -130,7 +140,8 @@ module _ (p m n : ℕ) (a basis : List ℕ) where
           ∙ pick-no (long? basis (n * n)) _ _ f
 
       -- a number of A is not below p
-      pub kernel-number : length a ≡ m * n → length basis ≡ n * n → (Below p a → ⊥) → kernelCall p m n a basis ≡ kernelled (refused Number) basis
+      pub kernel-number : length a ≡ m * n → length basis ≡ n * n → (Below p a → ⊥)
+          → kernelCall p m n a basis ≡ kernelled (refused Number) basis
       unfolding kernelCall
       kernel-number la lk f =
           checked p m n ok sizes _ _ _
@@ -140,7 +151,9 @@ module _ (p m n : ℕ) (a basis : List ℕ) where
 
       -- past all checks
       pub kernel-done :
-          length a ≡ m * n → length basis ≡ n * n → Below p a → kernelCall p m n a basis ≡ kernelled (done (n - rankOf p ok m n a)) (basisOf p ok m n a)
+          length a ≡ m * n → length basis ≡ n * n → Below p a
+          → kernelCall p m n a basis
+          ≡ kernelled (done (n - rankOf p ok m n a)) (basisOf p ok m n a)
       unfolding kernelCall
       kernel-done la lk b =
           checked p m n ok sizes _ _ _
@@ -175,7 +188,8 @@ module _ (p m n : ℕ) (a w z u : List ℕ) where
           ∙ pick-yes (long? a (m * n)) _ _ la
           ∙ pick-no (long? w m) _ _ f
 
-      pub solve-z-length : length a ≡ m * n → length w ≡ m → (length z ≡ n → ⊥) → solveCall p m n a w z u ≡ solvedAs (refused Length) z u
+      pub solve-z-length : length a ≡ m * n → length w ≡ m → (length z ≡ n → ⊥)
+          → solveCall p m n a w z u ≡ solvedAs (refused Length) z u
       unfolding solveCall
       solve-z-length la lw f =
           checked p m n ok sizes _ _ _
@@ -183,7 +197,8 @@ module _ (p m n : ℕ) (a w z u : List ℕ) where
           ∙ pick-yes (long? w m) _ _ lw
           ∙ pick-no (long? z n) _ _ f
 
-      pub solve-u-length : length a ≡ m * n → length w ≡ m → length z ≡ n → (length u ≡ m → ⊥) → solveCall p m n a w z u ≡ solvedAs (refused Length) z u
+      pub solve-u-length : length a ≡ m * n → length w ≡ m → length z ≡ n → (length u ≡ m → ⊥)
+          → solveCall p m n a w z u ≡ solvedAs (refused Length) z u
       unfolding solveCall
       solve-u-length la lw lz f =
           checked p m n ok sizes _ _ _
@@ -193,7 +208,8 @@ module _ (p m n : ℕ) (a w z u : List ℕ) where
           ∙ pick-no (long? u m) _ _ f
 
       -- a number of A, or of w, is not below p
-      pub solve-a-number : length a ≡ m * n → length w ≡ m → length z ≡ n → length u ≡ m → (Below p a → ⊥) → solveCall p m n a w z u ≡ solvedAs (refused Number) z u
+      pub solve-a-number : length a ≡ m * n → length w ≡ m → length z ≡ n → length u ≡ m → (Below p a → ⊥)
+          → solveCall p m n a w z u ≡ solvedAs (refused Number) z u
       unfolding solveCall
       solve-a-number la lw lz lu f =
           checked p m n ok sizes _ _ _
@@ -203,7 +219,8 @@ module _ (p m n : ℕ) (a w z u : List ℕ) where
           ∙ pick-yes (long? u m) _ _ lu
           ∙ pick-no (below? p a) _ _ f
 
-      pub solve-w-number : length a ≡ m * n → length w ≡ m → length z ≡ n → length u ≡ m → Below p a → (Below p w → ⊥) → solveCall p m n a w z u ≡ solvedAs (refused Number) z u
+      pub solve-w-number : length a ≡ m * n → length w ≡ m → length z ≡ n → length u ≡ m → Below p a → (Below p w → ⊥)
+          → solveCall p m n a w z u ≡ solvedAs (refused Number) z u
       unfolding solveCall
       solve-w-number la lw lz lu b f =
           checked p m n ok sizes _ _ _
@@ -216,7 +233,9 @@ module _ (p m n : ℕ) (a w z u : List ℕ) where
 
       -- past all checks
       pub solve-answered :
-          length a ≡ m * n → length w ≡ m → length z ≡ n → length u ≡ m → Below p a → Below p w → solveCall p m n a w z u ≡ solution p ok m n a w z
+          length a ≡ m * n → length w ≡ m → length z ≡ n → length u ≡ m → Below p a → Below p w
+          → solveCall p m n a w z u
+          ≡ solution p ok m n a w z
       unfolding solveCall
       solve-answered la lw lz lu b g =
           checked p m n ok sizes _ _ _

@@ -13,7 +13,6 @@ use Rattle.algebra.proofs.Marks.{by-test}
 use Rattle.algebra.proofs.Counts.{count-same}
 use Rattle.modulus.specs.Prime.{IsModulus}
 use Rattle.field.specs.Residue.{residues}
-use Rattle.field.specs.View.{table}
 use Rattle.field.specs.Written.{numbers, marksOf}
 use Rattle.field.proofs.Totals.{total}
 use Rattle.field.proofs.Written.{length-tabulate, getD-tabulate}

@@ -1,5 +1,5 @@
 -- The first place where a test is true: which place it is, and that there is one unless the test is false everywhere.
-use mathlib.Core.Path.{_≡_, refl, sym, ap, _∙_, subst}
+use mathlib.Core.Path.{_≡_, refl, sym, ap, _∙_}
 use mathlib.Core.Bool.{Bool, true, false}
 use mathlib.Core.Logic.{_⊎_, inl, inr, ⊎-elim}
 use Prim.Native.Nat.{ℕ, zero, suc, _+_, _≤_, _<_}
@@ -8,7 +8,6 @@ use native.Mathlib.Omega.{arith}
 use Rattle.algebra.specs.Choice.{choose, pick}
 use Rattle.algebra.proofs.Choice.{pick-yes, pick-no}
 use Rattle.algebra.proofs.Counts.{true-not-false}
-use Rattle.algebra.proofs.Marks.{by-test}
 use Rattle.matrix.specs.Calls.{firstFrom}
 
 -- the test passes at its first place, or nowhere

@@ -1,13 +1,13 @@
 -- What a quasiinverse of a table in memory is: 01's D, I, J and r of that table, as the definitions name them, and no other.
 -- The marks are the chosen ones, and the inverse on these marks is one only.
-use mathlib.Core.Path.{_≡_, sym, ap, _∙_, fun-ext, subst, subst₂}
+use mathlib.Core.Path.{_≡_, ap, _∙_, fun-ext, subst, subst₂}
 use mathlib.Core.List.{List}
 use Prim.Native.Nat.{ℕ, _+_, _*_, _<_}
 use native.Mathlib.Omega.{arith}
 use lib.ListN.{length, getD}
 use Rattle.algebra.specs.Choice.{choose}
 use Rattle.algebra.specs.Matrix.{Matrix}
-use Rattle.algebra.specs.Quasiinverse.{Marks, count, IsInverseOn, IsQuasiinverse}
+use Rattle.algebra.specs.Quasiinverse.{Marks, count, IsQuasiinverse}
 use Rattle.algebra.proofs.Exists.{solved}
 use Rattle.algebra.proofs.Unique.{inverse-on, inverse-unique}
 use Rattle.modulus.specs.Prime.{IsModulus}

@@ -7,3 +7,7 @@ pub mod Answers
 pub mod Guards
 pub mod Solved
 pub mod Basis
+pub mod Finished
+pub mod Checker
+pub mod CheckedTables
+pub mod Examples

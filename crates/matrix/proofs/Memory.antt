@@ -1,6 +1,6 @@
 -- From numbers in memory to vectors, tables and marks: a list that reads as a table is that table written out, a list of
 -- marks sums to the number of members, and products of tables are sums of products along lines of memory.
-use mathlib.Core.Path.{_≡_, refl, sym, ap, ap₂, _∙_}
+use mathlib.Core.Path.{_≡_, sym, ap, ap₂, _∙_}
 use mathlib.Core.Bool.{true, false, not}
 use mathlib.Core.List.{List}
 use Prim.Native.Nat.{ℕ, zero, suc, _+_, _*_, _-_, _/_, _%_, _≤_, _<_}
@@ -10,14 +10,14 @@ use lib.ListN.{length, getD, take, drop, replicate, length-take, length-drop, le
 use borrow.Author.Tests.{eq-eqb, ne-eqb}
 use lib.Seq.{getD-take, getD-drop, ext-getD}
 use Rattle.algebra.specs.Choice.{choose}
-use Rattle.algebra.specs.Matrix.{Vector, Matrix, sum, unit, product, apply}
+use Rattle.algebra.specs.Matrix.{Matrix, sum, unit, product, apply}
 use Rattle.algebra.specs.Quasiinverse.{Marks, count}
 use Rattle.algebra.specs.Kernel.{kernelVector}
 use Rattle.algebra.specs.Solve.{mixOf}
 use Rattle.algebra.proofs.Sums as sums
 use Rattle.field.specs.Residue.{residues, reduce, _⊕_, _⊗_, negated}
 use Rattle.field.specs.View.{line, table, Below}
-use Rattle.field.specs.Written.{tabulate, numbers, rowsOf, marksOf}
+use Rattle.field.specs.Written.{tabulate, rowsOf, marksOf}
 use Rattle.field.proofs.Residues.{reduce-small}
 use Rattle.field.proofs.Totals.{total, total-zero, total-suc}
 use Rattle.field.proofs.Views.{table-entry}
@@ -54,6 +54,13 @@ copied-whole n xs zs long long′ h =
 pub marks-written : (n : ℕ) (I : Marks) (xs : List ℕ) → length xs ≡ n → ((c : ℕ) → c < n → getD xs c 0 ≡ choose (I c) 1 0) → xs ≡ marksOf n I
 marks-written n I xs long h = is-tabulate n _ xs long h
 
+-- and their sum is the number of members
+pub total-of-marks : (n : ℕ) (f : ℕ → ℕ) (I : Marks) → ((c : ℕ) → c < n → f c ≡ choose (I c) 1 0) → total n f ≡ count n I
+unfolding count
+total-of-marks zero f I h = total-zero f
+total-of-marks (suc n) f I h =
+    total-suc n f ∙ ap₂ _+_ (total-of-marks n f I (λ c l. h c (le-step l))) (h n (lt-suc-self n))
+
 -- a position is marked exactly if its number is not 0
 pub marked-no : (xs : List ℕ) (c : ℕ) → getD xs c 0 ≡ 0 → marked xs c ≡ false
 unfolding marked
@@ -62,13 +69,6 @@ marked-no xs c e = ap not (eq-eqb (getD xs c 0) 0 e)
 pub marked-yes : (xs : List ℕ) (c : ℕ) → (getD xs c 0 ≡ 0 → ⊥) → marked xs c ≡ true
 unfolding marked
 marked-yes xs c e = ap not (ne-eqb (getD xs c 0) 0 e)
-
--- and their sum is the number of members
-pub total-of-marks : (n : ℕ) (f : ℕ → ℕ) (I : Marks) → ((c : ℕ) → c < n → f c ≡ choose (I c) 1 0) → total n f ≡ count n I
-unfolding count
-total-of-marks zero f I h = total-zero f
-total-of-marks (suc n) f I h =
-    total-suc n f ∙ ap₂ _+_ (total-of-marks n f I (λ c l. h c (le-step l))) (h n (lt-suc-self n))
 
 -- a row of a table is a line of step 1, and a column a line of the table's width
 pub row-line : (p : ℕ) (x : List ℕ) (m n i t : ℕ) → i < m → t < n → table p x 0 n m n i t ≡ line p x (i * n) 1 t
@@ -104,13 +104,19 @@ part-line p x s k t h =
     ∙ getD-drop s x (0 + t * 1) 0
     ∙ ap (λ q. getD x q 0) (let e : s + (0 + t * 1) ≡ s + t * 1 = omega arith in e))
 
--- the sum of products along such a part
-pub dot-of-part : (p : ℕ) (x : List ℕ) (s k : ℕ) (y : List ℕ) (j width : ℕ) → s + k ≤ length x
-    → sum (residues p) (length (take (s + k - s) (drop s x))) (λ t. line p (take (s + k - s) (drop s x)) 0 1 t ⊗ line p y j width t)
-    ≡ sum (residues p) k (λ t. line p x s 1 t ⊗ line p y j width t)
-dot-of-part p x s k y j width h =
-    ap (λ q. sum (residues p) q (λ t. line p (take (s + k - s) (drop s x)) 0 1 t ⊗ line p y j width t)) (part-long x s k h)
-    ∙ sums.sum-same (residues p) k _ _ (λ t b. ap (λ r. r ⊗ line p y j width t) (part-line p x s k t b))
+-- the number that is the sum of products along such a part
+pub dot-of-part : (p : ℕ) (x : List ℕ) (i k : ℕ) (y : List ℕ) (j width r : ℕ) → i * k + k ≤ length x
+    → r
+    ≡ (sum (residues p) (length (take (i * k + k - i * k) (drop (i * k) x)))
+    (λ t. line p (take (i * k + k - i * k) (drop (i * k) x)) 0 1 t ⊗ line p y j width t)) .value
+    → r ≡ (crossed p k x i y j width) .value
+unfolding crossed
+dot-of-part p x i k y j width r h e =
+    let s = i * k in
+    e
+    ∙ ap (λ v. v .value)
+    (ap (λ q. sum (residues p) q (λ t. line p (take (s + k - s) (drop s x)) 0 1 t ⊗ line p y j width t)) (part-long x s k h)
+    ∙ sums.sum-same (residues p) k _ _ (λ t b. ap (λ v. v ⊗ line p y j width t) (part-line p x s k t b)))
 
 -- the entry of a product of tables: a row of the one along a column of the other
 pub product-lines : (p m k n : ℕ) (x y : List ℕ) (i j : ℕ) → i < m → j < n
@@ -119,26 +125,31 @@ unfolding product crossed
 product-lines p m k n x y i j h l =
     sums.sum-same (residues p) k _ _ (λ t b. ap₂ _⊗_ (row-line p x m k i t h b) (column-line p y k n j t b l))
 
--- the entries of 1 - D A and of 1 - A D, for a of m rows and n columns and d of n rows and m columns
-pub kernel-lines : (p m n : ℕ) (a d : List ℕ) (c j : ℕ) → c < n → j < n
-    → unit (residues p) j c ⊕ negated (crossed p m d j a c n)
-    ≡ kernelVector (residues p) m (table p d 0 m n m) (table p a 0 n m n) c j
+-- the numbers of 1 - D A and of 1 - A D, for a of m rows and n columns and d of n rows and m columns
+pub kernel-number : (p m n : ℕ) (a d : List ℕ) (c j r : ℕ) → c < n → j < n
+    → r ≡ (unit (residues p) j c ⊕ negated (crossed p m d j a c n)) .value
+    → r ≡ (kernelVector (residues p) m (table p d 0 m n m) (table p a 0 n m n) c j) .value
 unfolding kernelVector
-kernel-lines p m n a d c j h l = ap (λ r. unit (residues p) j c ⊕ negated r) (sym (product-lines p n m n d a j c l h))
+kernel-number p m n a d c j r h l e =
+    e ∙ ap (λ v. (unit (residues p) j c ⊕ negated v) .value) (sym (product-lines p n m n d a j c l h))
 
-pub mix-lines : (p m n : ℕ) (a d : List ℕ) (y t : ℕ) → y < m → t < m
-    → unit (residues p) y t ⊕ negated (crossed p n a y d t m)
-    ≡ mixOf (residues p) n (table p a 0 n m n) (table p d 0 m n m) y t
+pub mix-number : (p m n : ℕ) (a d : List ℕ) (y t r : ℕ) → y < m → t < m
+    → r ≡ (unit (residues p) y t ⊕ negated (crossed p n a y d t m)) .value
+    → r ≡ (mixOf (residues p) n (table p a 0 n m n) (table p d 0 m n m) y t) .value
 unfolding mixOf
-mix-lines p m n a d y t h l = ap (λ r. unit (residues p) y t ⊕ negated r) (sym (product-lines p m n m a d y t h l))
+mix-number p m n a d y t r h l e =
+    e ∙ ap (λ v. (unit (residues p) y t ⊕ negated v) .value) (sym (product-lines p m n m a d y t h l))
 
--- the entry of a table applied to a vector
-pub apply-lines : (p m k : ℕ) (x w : List ℕ) (i : ℕ) → i < m
-    → apply (residues p) k (table p x 0 k m k) (vectorOf p w) i ≡ crossed p k x i w 0 1
+-- the numbers of a table applied to a vector
+pub apply-number : (p m k : ℕ) (x w : List ℕ) (i r : ℕ) → i < m → r ≡ (crossed p k x i w 0 1) .value
+    → r ≡ (apply (residues p) k (table p x 0 k m k) (vectorOf p w) i) .value
 unfolding apply vectorOf crossed line
-apply-lines p m k x w i h =
-    sums.sum-same (residues p) k _ _
-    (λ t b. ap₂ _⊗_ (row-line p x m k i t h b) (ap (λ q. reduce p (getD w q 0)) (sym (zero-add (t * 1) ∙ mul-one t))))
+apply-number p m k x w i r h e =
+    e
+    ∙ ap (λ v. v .value)
+    (sym
+    (sums.sum-same (residues p) k _ _
+    (λ t b. ap₂ _⊗_ (row-line p x m k i t h b) (ap (λ q. reduce p (getD w q 0)) (sym (zero-add (t * 1) ∙ mul-one t))))))
 
 -- a loop that has written f's values to n places has written the list of them
 pub walked-numbers : (j n : ℕ) (f : ℕ → ℕ) (xs ys : List ℕ) → j ≡ n → length xs ≡ n → Walked j f xs ys → ys ≡ tabulate n f

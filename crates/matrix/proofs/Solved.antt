@@ -1,6 +1,6 @@
 -- How the numbers that the code compares decide a system: where A(Dw) and w agree at every place they are equal, and the
 -- first place where they differ is 01's row y.
-use mathlib.Core.Path.{_≡_, refl, sym, ap, _∙_, fun-ext, subst}
+use mathlib.Core.Path.{_≡_, sym, ap, _∙_, fun-ext, subst}
 use mathlib.Core.Bool.{true, false}
 use mathlib.Core.List.{List}
 use Prim.Native.Nat.{ℕ, _≤_, _<_}
@@ -21,18 +21,7 @@ use Rattle.field.proofs.Residues.{reduce-small, reduce-value}
 use Rattle.field.proofs.Field.{residue-equal?}
 use Rattle.field.proofs.Written.{length-tabulate, getD-tabulate}
 use Rattle.matrix.specs.Told.{done}
-use Rattle.matrix.specs.Calls.{
-  tableOf,
-  rankOf,
-  inverseOf,
-  solvedAs,
-  firstFrom,
-  wanted,
-  candidate,
-  solves?,
-  firstRow,
-  solution,
-}
+use Rattle.matrix.specs.Calls.{tableOf, rankOf, inverseOf, solvedAs, wanted, candidate, solves?, firstRow, solution}
 use Rattle.matrix.specs.Parts.{vectorOf, FirstDifference}
 use Rattle.matrix.proofs.First.{first-is}
 

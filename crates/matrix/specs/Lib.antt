@@ -5,3 +5,4 @@ pub mod Told
 pub mod Checks
 pub mod Calls
 pub mod Parts
+pub mod Examples

@@ -1,6 +1,6 @@
 -- What the parts of the calls ask and leave: leaves' contracts over tables in memory, not document 01's.
 use mathlib.Core.Path.{_≡_}
-use mathlib.Core.Bool.{Bool, not}
+use mathlib.Core.Bool.{not}
 use mathlib.Core.List.{List, _++_}
 use Prim.Native.Nat.{ℕ, _+_, _*_, _-_, _≤_, _<_}
 use lib.ListN.{length, getD, replicate}
@@ -85,6 +85,11 @@ pub record System (p m n : ℕ) (w z u : List ℕ) : Type 0 where
   pub w-below : Below p w
   pub z-long : length z ≡ n
   pub u-long : length u ≡ m
+
+-- d holds the table's D, and r is its rank
+pub record Solver (p : ℕ) (ok : IsModulus p) (m n : ℕ) (a d : List ℕ) (r : ℕ) : Type 0 where
+  pub is-D : table p d 0 m n m ≡ inverseOf p ok m n a
+  pub is-rank : r ≡ rankOf p ok m n a
 
 -- k zeros
 pub record Zeros (k : ℕ) (xs : List ℕ) : Type 0 where

@@ -1,7 +1,8 @@
-// The parts of the calls on tables: what is checked, and what is made of a table and its D.
+// The parts of the calls on tables: what is checked, what is made of a table and its D, and the work of each call once the
+// checks are passed. Leaves for `lib.rt`, which meets what each requires.
 ghost use mathlib.Core.Path.{_≡_};
 ghost use mathlib.Core.Bool.{true, false};
-ghost use Prim.Native.Nat.{ℕ, _+_, _*_, _-_, _≤_, _<_};
+ghost use Prim.Native.Nat.{ℕ, _+_, _*_, _≤_, _<_};
 ghost use lib.ListN.{length, getD};
 ghost use Rattle.algebra.specs.Choice.{pick};
 ghost use Rattle.algebra.specs.Matrix.{unit, apply};
@@ -13,9 +14,9 @@ ghost use Rattle.field.specs.View.{table};
 ghost use Rattle.field.specs.Written.{numbers};
 ghost use Rattle.field.proofs.Totals.{total};
 ghost use Rattle.matrix.specs.Checks.{below?};
-ghost use Rattle.matrix.specs.Calls.{rankOf, inverseOf, solvedAs, solution};
+ghost use Rattle.matrix.specs.Calls.{solvedAs, solution};
 ghost use Rattle.matrix.specs.Told.{tableTold};
-ghost use Rattle.matrix.specs.Parts.{Tables, Crossing, crossed, vectorOf, FirstDifference, KernelVectors, Zeros, Checked, Room, Inverted, Kernelled, System};
+ghost use Rattle.matrix.specs.Parts.{Tables, Crossing, crossed, vectorOf, FirstDifference, KernelVectors, Zeros, Checked, Room, Inverted, Kernelled, System, Solver};
 use crate::TableAnswer;
 use elimination::products;
 use modulus::Refusal;
@@ -162,7 +163,7 @@ fn line_room() -> [u32; 64]
     [0u32; 64]
 }
 
-// D, I and J of a table that has passed the checks.
+// D, I and J of a table that has passed the checks, by Algorithm Q on memory that is cleared first.
 pub fn invert(
     p: u32,
     m: usize,
@@ -199,6 +200,7 @@ fn kernel_with(
     kernel_vectors(p, m, n, a, d, columns, basis)
 }
 
+// The same, with room for D, I and J made here.
 pub fn kernel_of(p: u32, m: usize, n: usize, a: &[u32], basis: &mut [u32]) -> u32
     requires { ⌜ Checked p m n (now a) × (length (now basis) ≡ n * n) ⌝ }
     ensures { λ r. ⌜ ((ok : IsModulus p) → Kernelled p ok m n (now (a .entry)) (now (basis .exit)) r) ⌝ }
@@ -235,7 +237,7 @@ fn solve_by(
     u: &mut [u32],
 ) -> TableAnswer
     requires { ⌜ Tables p m n (now a) (now d) × System p m n (now w) (now z) (now u) × (length (now x) ≡ n) × (length (now image) ≡ m) ⌝ }
-    ensures { λ t. ⌜ ((ok : IsModulus p) → table p (now (d .entry)) 0 m n m ≡ inverseOf p ok m n (now (a .entry)) → r ≡ rankOf p ok m n (now (a .entry)) → solvedAs (tableTold t) (now (z .exit)) (now (u .exit)) ≡ solution p ok m n (now (a .entry)) (now (w .entry)) (now (z .entry))) ⌝ }
+    ensures { λ t. ⌜ ((ok : IsModulus p) → Solver p ok m n (now (a .entry)) (now (d .entry)) r → solvedAs (tableTold t) (now (z .exit)) (now (u .exit)) ≡ solution p ok m n (now (a .entry)) (now (w .entry)) (now (z .entry))) ⌝ }
 {
     times_vector(p, n, m, d, w, x);
     times_vector(p, m, n, a, x, image);
@@ -249,7 +251,7 @@ fn solve_by(
     TableAnswer::Done(r)
 }
 
-// The same with room for D, I and J.
+// The same by room for D, I and J, which is filled first.
 fn solve_with(
     p: u32,
     m: usize,
@@ -272,6 +274,7 @@ fn solve_with(
     solve_by(p, m, n, a, d, r, w, x, image, z, u)
 }
 
+// The same, with all room made here.
 pub fn solve_of(
     p: u32,
     m: usize,

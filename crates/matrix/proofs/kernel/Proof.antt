@@ -1,15 +1,12 @@
 -- `matrix::kernel` meets its contract: what the checks leave decides which of the call's answers holds.
-use mathlib.Core.Path.{_≡_, sym, ap, ap₂, _∙_}
-use Prim.Native.Nat.{_*_, _≤_}
+use mathlib.Core.Path.{sym}
 use native.Mathlib.Omega.{arith}
-use lib.ListN.{length}
 use Rattle.modulus.specs.Prime.{IsModulus}
 use Rattle.modulus.proofs.Guards.{no-modulus, is-modulus}
-use Rattle.field.specs.View.{Below}
 use Rattle.matrix.specs.Checks.{Sizes}
-use Rattle.matrix.specs.Told.{done}
-use Rattle.matrix.specs.Calls.{kernelled}
-use Rattle.matrix.proofs.Answers.{kernel-modulus, kernel-size, kernel-a-length, kernel-basis-length, kernel-number, kernel-done}
+use Rattle.matrix.specs.Parts.{Checked}
+use Rattle.matrix.proofs.Answers.{kernel-modulus, kernel-size, kernel-a-length, kernel-basis-length, kernel-number}
+use Rattle.matrix.proofs.Finished.{kernel-finished}
 use Rattle.matrix.proofs.Guards.{not-below, all-below}
 use Rattle.matrix.proofs.Memory.{table-most}
 use Rattle.matrix.proofs.kernel.Statement.{statement}
@@ -79,36 +76,32 @@ returns-6 c =
 abbrev ready : tie.Else6 → tie.Else5
 ready c = c .before .before
 
-numbers-below : (c : tie.Else6) → Below (start (begun (sized (ready c))) .args .p) (start (begun (sized (ready c))) .args .a .now)
-numbers-below c = all-below _ (start (begun (sized (ready c))) .args .a .now) _ (c .before .below .ensures) (c .if6 .left)
+checked : (c : tie.Else6)
+    → Checked (start (begun (sized (ready c))) .args .p) (start (begun (sized (ready c))) .args .m) (start (begun (sized (ready c))) .args .n)
+    (start (begun (sized (ready c))) .args .a .now)
+checked c =
+    let l = ready c in
+    let e = sized l in
+    record {
+      is-modulus = modulus (begun e);
+      m-most = sizes e .0;
+      n-most = sizes e .1;
+      a-long = l .before .if4 .left;
+      a-below = all-below _ (start (begun e) .args .a .now) _ (c .before .below .ensures) (c .if6 .left);
+    }
 
 kernel-of-requires : tie.Need-kernel-of-requires
-kernel-of-requires c κs =
-    let l = ready (c .before) in
-    let e = sized l in (
-      record {
-        is-modulus = modulus (begun e);
-        m-most = sizes e .0;
-        n-most = sizes e .1;
-        a-long = l .before .if4 .left;
-        a-below = numbers-below (c .before);
-      },
-      l .if5 .left,
-    )
+kernel-of-requires c κs = (checked (c .before), ready (c .before) .if5 .left)
 
 same-length : tie.Need-same-length
 same-length c = c .before .before .kernel-of .kept .1 .1 .1 .1 .0
 
 returns-7 : tie.Need-returns-7
 returns-7 c =
-    let k = c .before .before in
-    let b = k .before .before in
-    let l = ready b in
-    let e = sized l in
-    let ok = modulus (begun e) in
-    let h = k .kernel-of .ensures ok in
-    ap₂ (λ r l. kernelled (done r) l) (h .many) (h .filled)
-    ∙ sym (kernel-done _ _ _ _ _ ok (sizes e) (l .before .if4 .left) (l .if5 .left) (numbers-below b))
+    let q = c .before .before in
+    let b = q .before .before in
+    let k = checked b in
+    kernel-finished _ _ _ _ k _ _ _ (ready b .if5 .left) (q .kernel-of .ensures (k .is-modulus))
 
 pub kernel-spec : {M : Type 1} → statement M
 kernel-spec =

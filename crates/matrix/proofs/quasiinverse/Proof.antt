@@ -1,15 +1,11 @@
 -- `matrix::quasiinverse` meets its contract: what the checks leave decides which of the call's answers holds, and invert leaves
 -- D, I and J.
-use mathlib.Core.Path.{_≡_, sym, _∙_}
-use Prim.Native.Nat.{_*_, _≤_}
+use mathlib.Core.Path.{sym}
 use native.Mathlib.Omega.{arith}
-use lib.ListN.{length}
 use Rattle.modulus.specs.Prime.{IsModulus}
 use Rattle.modulus.proofs.Guards.{no-modulus, is-modulus}
-use Rattle.field.specs.View.{Below}
 use Rattle.matrix.specs.Checks.{Sizes}
-use Rattle.matrix.specs.Told.{done}
-use Rattle.matrix.specs.Calls.{quasiinverted}
+use Rattle.matrix.specs.Parts.{Checked, Room}
 use Rattle.matrix.proofs.Answers.{
   quasiinverse-modulus,
   quasiinverse-size,
@@ -18,9 +14,9 @@ use Rattle.matrix.proofs.Answers.{
   quasiinverse-columns-length,
   quasiinverse-rows-length,
   quasiinverse-number,
-  quasiinverse-done,
 }
-use Rattle.matrix.proofs.Basis.{columns-few, columns-sum}
+use Rattle.matrix.proofs.Basis.{columns-few}
+use Rattle.matrix.proofs.Finished.{quasiinverse-finished}
 use Rattle.matrix.proofs.Guards.{not-below, all-below}
 use Rattle.matrix.proofs.Memory.{table-most}
 use Rattle.matrix.proofs.quasiinverse.Statement.{statement}
@@ -106,27 +102,32 @@ returns-8 c =
 abbrev ready : tie.Else8 → tie.Else7
 ready c = c .before .before
 
-numbers-below : (c : tie.Else8) → Below (start (begun (sized (ready c))) .args .p) (start (begun (sized (ready c))) .args .a .now)
-numbers-below c = all-below _ (start (begun (sized (ready c))) .args .a .now) _ (c .before .below .ensures) (c .if8 .left)
+checked : (c : tie.Else8)
+    → Checked (start (begun (sized (ready c))) .args .p) (start (begun (sized (ready c))) .args .m) (start (begun (sized (ready c))) .args .n)
+    (start (begun (sized (ready c))) .args .a .now)
+checked c =
+    let l = ready c in
+    let e = sized l in
+    record {
+      is-modulus = modulus (begun e);
+      m-most = sizes e .0;
+      n-most = sizes e .1;
+      a-long = l .before .before .before .if4 .left;
+      a-below = all-below _ (start (begun e) .args .a .now) _ (c .before .below .ensures) (c .if8 .left);
+    }
+
+room : (c : tie.Else8)
+    → Room (start (begun (sized (ready c))) .args .m) (start (begun (sized (ready c))) .args .n)
+    (start (begun (sized (ready c))) .args .d .now) (start (begun (sized (ready c))) .args .columns .now)
+    (start (begun (sized (ready c))) .args .rows .now)
+room c =
+    let l = ready c in
+    record { d-long = l .before .before .if5 .left; columns-long = l .before .if6 .left; rows-long = l .if7 .left }
 
 invert-requires : tie.Need-invert-requires
 invert-requires c κs =
     let b = c .before .before .before in
-    let l = ready b in
-    let e = sized l in (
-      record {
-        is-modulus = modulus (begun e);
-        m-most = sizes e .0;
-        n-most = sizes e .1;
-        a-long = l .before .before .before .if4 .left;
-        a-below = numbers-below b;
-      },
-      record {
-        d-long = l .before .before .if5 .left;
-        columns-long = l .before .if6 .left;
-        rows-long = l .if7 .left;
-      },
-    )
+    (checked b, room b)
 
 -- invert has returned
 abbrev asked : tie.After-invert → tie.Else8
@@ -138,8 +139,8 @@ inverted c = c .before .before .before .before .before .before .before
 count-marks-requires : tie.Need-count-marks-requires
 count-marks-requires c κs =
     let i = inverted c in
-    let e = sized (ready (asked i)) in
-    columns-few (i .invert .ensures (modulus (begun e))) (sizes e .1)
+    let k = checked (asked i) in
+    columns-few (i .invert .ensures (k .is-modulus)) (k .n-most)
 
 same-length : tie.Need-same-length
 same-length c = inverted (c .before) .invert .kept .1 .1 .1 .1 .0
@@ -154,15 +155,8 @@ returns-9 : tie.Need-returns-9
 returns-9 c =
     let i = inverted (c .before) in
     let b = asked i in
-    let l = ready b in
-    let e = sized l in
-    let ok = modulus (begun e) in
-    let h = i .invert .ensures ok in
-    let r = c .count-marks .ensures ∙ columns-sum h in
-    (λ k. quasiinverted (done (r k)) (h .d-written k) (h .columns-written k) (h .rows-written k))
-    ∙ sym
-    (quasiinverse-done _ _ _ _ _ _ _ ok (sizes e) (l .before .before .before .if4 .left) (l .before .before .if5 .left)
-    (l .before .if6 .left) (l .if7 .left) (numbers-below b))
+    let k = checked b in
+    quasiinverse-finished _ _ _ _ k _ _ _ _ _ _ _ (room b) (i .invert .ensures (k .is-modulus)) (c .count-marks .ensures)
 
 pub quasiinverse-spec : {M : Type 1} → statement M
 quasiinverse-spec =

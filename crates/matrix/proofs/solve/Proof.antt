@@ -1,12 +1,10 @@
 -- `matrix::solve` meets its contract: what the checks leave decides which of the call's answers holds.
-use mathlib.Core.Path.{_≡_, sym, _∙_}
-use Prim.Native.Nat.{_*_, _≤_}
+use mathlib.Core.Path.{sym}
 use native.Mathlib.Omega.{arith}
-use lib.ListN.{length}
 use Rattle.modulus.specs.Prime.{IsModulus}
 use Rattle.modulus.proofs.Guards.{no-modulus, is-modulus}
-use Rattle.field.specs.View.{Below}
 use Rattle.matrix.specs.Checks.{Sizes}
+use Rattle.matrix.specs.Parts.{Checked, System}
 use Rattle.matrix.proofs.Answers.{
   solve-modulus,
   solve-size,
@@ -16,8 +14,8 @@ use Rattle.matrix.proofs.Answers.{
   solve-u-length,
   solve-a-number,
   solve-w-number,
-  solve-answered,
 }
+use Rattle.matrix.proofs.Finished.{solve-finished}
 use Rattle.matrix.proofs.Guards.{not-below, all-below}
 use Rattle.matrix.proofs.Memory.{table-most}
 use Rattle.matrix.proofs.solve.Statement.{statement}
@@ -96,8 +94,19 @@ returns-8 c =
 abbrev ready : tie.Else8 → tie.Else7
 ready c = c .before .before
 
-numbers-below : (c : tie.Else8) → Below (start (begun (sized (ready c))) .args .p) (start (begun (sized (ready c))) .args .a .now)
-numbers-below c = all-below _ (start (begun (sized (ready c))) .args .a .now) _ (c .before .below .ensures) (c .if8 .left)
+checked : (c : tie.Else8)
+    → Checked (start (begun (sized (ready c))) .args .p) (start (begun (sized (ready c))) .args .m) (start (begun (sized (ready c))) .args .n)
+    (start (begun (sized (ready c))) .args .a .now)
+checked c =
+    let l = ready c in
+    let e = sized l in
+    record {
+      is-modulus = modulus (begun e);
+      m-most = sizes e .0;
+      n-most = sizes e .1;
+      a-long = l .before .before .before .if4 .left;
+      a-below = all-below _ (start (begun e) .args .a .now) _ (c .before .below .ensures) (c .if8 .left);
+    }
 
 below-requires-2 : tie.Need-below-requires-2
 below-requires-2 c κs = tt
@@ -109,35 +118,30 @@ returns-9 c =
     let e = sized l in
     sym
     (solve-w-number _ _ _ _ _ _ _ (modulus (begun e)) (sizes e) (l .before .before .before .if4 .left) (l .before .before .if5 .left)
-    (l .before .if6 .left) (l .if7 .left) (numbers-below b)
+    (l .before .if6 .left) (l .if7 .left) (checked b .a-below)
     (not-below _ (start (begun e) .args .w .now) _ (c .before .below2 .ensures) (c .if9 .taken)))
 
 -- and for w
 abbrev told : tie.Else9 → tie.Else8
 told c = c .before .before
 
-right-below : (c : tie.Else9) → Below (start (begun (sized (ready (told c)))) .args .p) (start (begun (sized (ready (told c)))) .args .w .now)
-right-below c = all-below _ (start (begun (sized (ready (told c)))) .args .w .now) _ (c .before .below2 .ensures) (c .if9 .left)
+system : (c : tie.Else9)
+    → System (start (begun (sized (ready (told c)))) .args .p) (start (begun (sized (ready (told c)))) .args .m)
+    (start (begun (sized (ready (told c)))) .args .n) (start (begun (sized (ready (told c)))) .args .w .now)
+    (start (begun (sized (ready (told c)))) .args .z .now) (start (begun (sized (ready (told c)))) .args .u .now)
+system c =
+    let l = ready (told c) in
+    record {
+      w-long = l .before .before .if5 .left;
+      w-below = all-below _ (start (begun (sized l)) .args .w .now) _ (c .before .below2 .ensures) (c .if9 .left);
+      z-long = l .before .if6 .left;
+      u-long = l .if7 .left;
+    }
 
 solve-of-requires : tie.Need-solve-of-requires
 solve-of-requires c κs =
     let w = c .before .before in
-    let l = ready (told w) in
-    let e = sized l in (
-      record {
-        is-modulus = modulus (begun e);
-        m-most = sizes e .0;
-        n-most = sizes e .1;
-        a-long = l .before .before .before .if4 .left;
-        a-below = numbers-below (told w);
-      },
-      record {
-        w-long = l .before .before .if5 .left;
-        w-below = right-below w;
-        z-long = l .before .if6 .left;
-        u-long = l .if7 .left;
-      },
-    )
+    (checked (told w), system w)
 
 same-length : tie.Need-same-length
 same-length c = c .before .before .before .before .solve-of .kept .1 .1 .1 .1 .1 .0
@@ -149,13 +153,8 @@ returns-10 : tie.Need-returns-10
 returns-10 c =
     let s = c .before .before .before .before in
     let w = s .before .before .before in
-    let l = ready (told w) in
-    let e = sized l in
-    let ok = modulus (begun e) in
-    s .solve-of .ensures ok
-    ∙ sym
-    (solve-answered _ _ _ _ _ _ _ ok (sizes e) (l .before .before .before .if4 .left) (l .before .before .if5 .left)
-    (l .before .if6 .left) (l .if7 .left) (numbers-below (told w)) (right-below w))
+    let k = checked (told w) in
+    solve-finished _ _ _ _ k _ _ _ _ _ _ (system w) (s .solve-of .ensures (k .is-modulus))
 
 pub solve-spec : {M : Type 1} → statement M
 solve-spec =

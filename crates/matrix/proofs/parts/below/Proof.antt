@@ -1,5 +1,5 @@
 -- `matrix::parts::below` meets its contract. The loop's invariant: every number passed is below p.
-use mathlib.Core.Path.{_≡_, sym}
+use mathlib.Core.Path.{sym}
 use mathlib.Core.Bool.{true, false}
 use Prim.Native.Nat.{ℕ, _≤_, _<_, _-_}
 use native.Mathlib.Omega.{arith}

@@ -1,6 +1,6 @@
 -- `matrix::parts::count_marks` meets its contract. The loop's invariant: r is the sum of the marks passed, and at most their number.
 use mathlib.Core.Path.{_≡_, sym, ap, _∙_}
-use Prim.Native.Nat.{ℕ, _+_, _≤_, _<_, _-_}
+use Prim.Native.Nat.{_≤_, _-_}
 use native.Mathlib.Omega.{arith}
 use lib.ListN.{length, getD}
 use Rattle.field.proofs.Totals.{total, total-zero, total-more}

@@ -1,7 +1,5 @@
 -- `matrix::parts::invert` meets its contract: cleared memory is what the elimination asks for, and what it leaves is D, I and J.
 use mathlib.Core.Path.{_∙_}
-use mathlib.Core.List.{List}
-use Prim.Native.Nat.{ℕ}
 use Rattle.matrix.specs.Parts.{Room}
 use Rattle.matrix.proofs.Inverted.{cleared-eliminable, eliminated-inverted}
 use Rattle.matrix.proofs.parts.invert.Statement.{statement}

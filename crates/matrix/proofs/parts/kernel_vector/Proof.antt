@@ -1,14 +1,12 @@
 -- `matrix::parts::kernel_vector` meets its contract. The loop's invariant: the first j numbers are those of column c of 1 - D A.
-use mathlib.Core.Path.{_≡_, ap, _∙_}
 use mathlib.Core.List.{List}
-use Prim.Native.Nat.{ℕ, _+_, _*_, _-_, _≤_, _<_}
+use Prim.Native.Nat.{ℕ, _-_, _≤_, _<_}
 use native.Mathlib.Omega.{arith}
-use lib.ListN.{length}
 use Rattle.algebra.specs.Kernel.{kernelVector}
 use Rattle.field.specs.Residue.{residues}
 use Rattle.field.specs.View.{table}
 use Rattle.field.proofs.Walk.{Walked, walked-none, walked-more}
-use Rattle.matrix.proofs.Memory.{row-inside, place-inside, kernel-lines, walked-numbers}
+use Rattle.matrix.proofs.Memory.{row-inside, place-inside, kernel-number, walked-numbers}
 use Rattle.matrix.proofs.parts.kernel_vector.Statement.{statement}
 use Rattle.matrix.proofs.parts.kernel_vector.Tie as tie
 
@@ -58,7 +56,7 @@ loop-again c =
     let h : l .j < a .n = omega arith in (
       omega arith,
       walked-more (l .j) _ _ _ _ (l .inv .1) (omega (arith, s .pre .2))
-          (c .rest-entry .ensures ∙ ap (λ r. r .value) (kernel-lines (a .p) (a .m) (a .n) (a .a .now) (a .d .now) (a .c) (l .j) (s .pre .1) h)),
+          (kernel-number (a .p) (a .m) (a .n) (a .a .now) (a .d .now) (a .c) (l .j) (c .rest-entry .result) (s .pre .1) h (c .rest-entry .ensures)),
     )
 
 same-length : tie.Need-same-length Inv-loop μ-loop

@@ -1,16 +1,14 @@
 -- `matrix::parts::kernel_vectors` meets its contract. The loop's invariant: k vectors fill the front of the basis, those of the
 -- columns passed that are not marked.
-use mathlib.Core.Path.{_≡_, refl, sym, ap, _∙_}
+use mathlib.Core.Path.{_≡_, sym, ap, _∙_}
 use mathlib.Core.Logic.{⊎-elim}
-use Prim.Native.Nat.{ℕ, _+_, _*_, _-_, _≤_, _<_}
-use native.Mathlib.Nat.{mul-le-mul}
+use Prim.Native.Nat.{ℕ, _+_, _*_, _-_, _≤_}
 use native.Mathlib.Omega.{arith}
 use lib.ListN.{length}
-use borrow.Rule.Slice.PartMut.{same-len-mid}
 use Rattle.algebra.specs.Quasiinverse.{count}
 use Rattle.field.specs.View.{table}
 use Rattle.matrix.specs.Parts.{marked}
-use Rattle.matrix.proofs.Memory.{part-long, marked-no, marked-yes}
+use Rattle.matrix.proofs.Memory.{table-most, part-long, marked-no, marked-yes}
 use Rattle.matrix.proofs.Vectors.{Filled, filled-none, filled-skip, filled-vector, filled-room, filled-next, filled-long, filled-all}
 use Rattle.matrix.proofs.parts.kernel_vectors.Statement.{statement}
 use Rattle.matrix.proofs.parts.kernel_vectors.Tie as tie
@@ -33,7 +31,7 @@ few : (c : tie.At-loop Inv-loop μ-loop) → width c ≤ 64
 few c = c .before .before .before .before .before .pre .0 .n-most
 
 square : (c : tie.At-loop Inv-loop μ-loop) → width c * width c ≤ 4096
-square c = omega (arith, mul-le-mul (few c) (few c))
+square c = table-most (width c) (width c) (few c) (few c)
 
 -- the basis keeps its length, has room for the k vectors and, in a turn, for the next one
 long : (c : tie.At-loop Inv-loop μ-loop) → length (c .loop .basis) ≡ width c * width c
@@ -90,7 +88,10 @@ loop-again : tie.Need-loop-again Inv-loop μ-loop
 loop-again c =
     let l = c .before .before .before .loop in (
       omega arith,
-      ⊎-elim (λ w. rw (w .5, w .6) (filled-vector _ _ _ _ _ (l .inv .1) _ (marked-no _ _ (w .0 .taken)) (w .2 .ensures))) (λ w. rw (w .1, w .2) (filled-skip _ _ _ _ _ (l .inv .1) (marked-yes _ _ (w .0 .left)))) (c .if1 .came),
+      ⊎-elim
+          (λ w. rw (w .5, w .6) (filled-vector _ _ _ _ _ (l .inv .1) _ (marked-no _ _ (w .0 .taken)) (w .2 .ensures)))
+          (λ w. rw (w .1, w .2) (filled-skip _ _ _ _ _ (l .inv .1) (marked-yes _ _ (w .0 .left))))
+          (c .if1 .came),
     )
 
 mul-rest : tie.Need-mul-rest Inv-loop μ-loop
@@ -119,17 +120,17 @@ cast-result c =
 same-length : tie.Need-same-length Inv-loop μ-loop
 same-length c =
     let q = c .before .before .before .before .before in
-    same-len-mid (q .loop .k * width q) (length (q .loop .basis) - q .loop .k * width q) (q .loop .basis) (c .before .before .clear .last .0) (c .before .before .clear .ensures .0)
-    ∙ long q ∙ sym (q .before .before .before .before .before .pre .2)
+    c .before .basis2 .given .1 ∙ long q ∙ sym (q .before .before .before .before .before .pre .2)
 
 returns : tie.Need-returns Inv-loop μ-loop
 returns c =
     let q = c .before .before .before .before .before in
     let s = q .before .before .before .before .before in
     let l = q .loop in
+    let z = c .before .before .clear in
     let e : l .c ≡ s .args .n = omega arith in
     record {
-      filled = filled-all _ _ _ _ _ (c .before .before .clear .last .0) (l .inv .1) e (s .pre .2) (c .before .before .clear .ensures .0) (c .before .before .clear .ensures .1);
+      filled = filled-all _ _ _ _ _ (z .last .0) (l .inv .1) e (s .pre .2) (z .ensures .0) (z .ensures .1);
       many = ap (λ i. l .k + count i (marked (s .args .columns .now))) (sym e) ∙ l .inv .1 .counted ∙ e;
     }
 

@@ -1,6 +1,5 @@
 -- `matrix::parts::kernel_with` meets its contract: the kernel vectors of what invert leaves are the basis.
-use mathlib.Core.Path.{_≡_, _∙_}
-use Prim.Native.Nat.{_*_}
+use mathlib.Core.Path.{_∙_}
 use Rattle.matrix.proofs.Basis.{basis-filled, vectors-many}
 use Rattle.matrix.proofs.parts.kernel_with.Statement.{statement}
 use Rattle.matrix.proofs.parts.kernel_with.Tie as tie
@@ -14,7 +13,9 @@ abbrev filled : tie.After-kernel-vectors-arg3 → tie.After-invert
 filled c = c .before .before .before .before .before .before .before .before .before
 
 invert-requires : tie.Need-invert-requires
-invert-requires c κs = (c .before .before .before .before .before .before .before .before .pre .0, c .before .before .before .before .before .before .before .before .pre .1)
+invert-requires c κs =
+    let s = c .before .before .before .before .before .before .before .before in
+    (s .pre .0, s .pre .1)
 
 kernel-vectors-requires : tie.Need-kernel-vectors-requires
 kernel-vectors-requires c κs =

@@ -1,15 +1,9 @@
 -- `matrix::parts::product_entry` meets its contract: the part of x that is lent is the row, a line of x.
-use mathlib.Core.Path.{_≡_, ap, _∙_}
-use Prim.Native.Nat.{_+_, _*_, _-_, _≤_}
+use Prim.Native.Nat.{_*_}
 use native.Mathlib.Omega.{arith}
-use lib.ListN.{length}
-use Rattle.matrix.specs.Parts.{crossed}
 use Rattle.matrix.proofs.Memory.{part-long, dot-of-part}
 use Rattle.matrix.proofs.parts.product_entry.Statement.{statement}
 use Rattle.matrix.proofs.parts.product_entry.Tie as tie
-use Rattle.matrix.proofs.parts.product_entry.Reads as reads
-use Rattle.matrix.proofs.parts.product_entry.Lts as lts
-use Rattle.field.proofs.sums.dot.Reads as dot-reads
 
 mul-start : tie.Need-mul-start
 mul-start c = omega arith
@@ -37,12 +31,10 @@ dot-requires c κs =
     (omega (arith, s .pre .is-modulus .prime .two-or-more), omega (arith, long), λ t h. s .pre .column t (rw long at h))
 
 returns : tie.Need-returns
-unfolding crossed
 returns c =
     let s = c .before .before .before .before in
     let a = s .args in
-    c .dot .ensures
-    ∙ ap (λ r. r .value) (dot-of-part (a .p) (a .x .now) (a .i * a .k) (a .k) (a .y .now) (a .j) (a .width) (s .pre .row))
+    dot-of-part (a .p) (a .x .now) (a .i) (a .k) (a .y .now) (a .j) (a .width) (c .dot .result) (s .pre .row) (c .dot .ensures)
 
 pub product-entry-spec : {M : Type 1} → statement M
 product-entry-spec =

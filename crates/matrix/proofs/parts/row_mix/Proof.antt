@@ -1,14 +1,12 @@
 -- `matrix::parts::row_mix` meets its contract. The loop's invariant: the first t numbers are those of row y of 1 - A D.
-use mathlib.Core.Path.{_≡_, ap, _∙_}
 use mathlib.Core.List.{List}
-use Prim.Native.Nat.{ℕ, _+_, _*_, _-_, _≤_, _<_}
+use Prim.Native.Nat.{ℕ, _-_, _≤_, _<_}
 use native.Mathlib.Omega.{arith}
-use lib.ListN.{length}
 use Rattle.algebra.specs.Solve.{mixOf}
 use Rattle.field.specs.Residue.{residues}
 use Rattle.field.specs.View.{table}
 use Rattle.field.proofs.Walk.{Walked, walked-none, walked-more}
-use Rattle.matrix.proofs.Memory.{row-inside, place-inside, mix-lines, walked-numbers}
+use Rattle.matrix.proofs.Memory.{row-inside, place-inside, mix-number, walked-numbers}
 use Rattle.matrix.proofs.parts.row_mix.Statement.{statement}
 use Rattle.matrix.proofs.parts.row_mix.Tie as tie
 
@@ -58,7 +56,7 @@ loop-again c =
     let h : l .t < a .m = omega arith in (
       omega arith,
       walked-more (l .t) _ _ _ _ (l .inv .1) (omega (arith, s .pre .2))
-          (c .rest-entry .ensures ∙ ap (λ r. r .value) (mix-lines (a .p) (a .m) (a .n) (a .a .now) (a .d .now) (a .y) (l .t) (s .pre .1) h)),
+          (mix-number (a .p) (a .m) (a .n) (a .a .now) (a .d .now) (a .y) (l .t) (c .rest-entry .result) (s .pre .1) h (c .rest-entry .ensures)),
     )
 
 same-length : tie.Need-same-length Inv-loop μ-loop

@@ -1,5 +1,5 @@
 -- `matrix::parts::solve_of` meets its contract: the room is large enough, and what it is lent for answers.
-use mathlib.Core.Path.{_≡_, sym}
+use mathlib.Core.Path.{sym}
 use Prim.Native.Nat.{_*_, _≤_}
 use native.Mathlib.Omega.{arith}
 use lib.Seq.{length-take-le}

@@ -19,7 +19,9 @@ abbrev returned : tie.After-slice-known14 → tie.After-solve-by
 returned c = c .before .before .before .before .before .before .before .before
 
 invert-requires : tie.Need-invert-requires
-invert-requires c κs = (c .before .before .before .before .before .before .before .before .before .before .before .before .pre .0, c .before .before .before .before .before .before .before .before .before .before .before .before .pre .1)
+invert-requires c κs =
+    let s = c .before .before .before .before .before .before .before .before .before .before .before .before in
+    (s .pre .0, s .pre .1)
 
 count-marks-requires : tie.Need-count-marks-requires
 count-marks-requires c κs =
@@ -70,7 +72,8 @@ returns c ok =
     let b = returned c in
     let q = asking (b .before) in
     let i = counting q .invert .ensures ok in
-    b .solve-by .ensures ok (i .is-D) (b .before .before .before .before .before .before .count-marks .ensures ∙ columns-sum i)
+    let r = b .before .before .before .before .before .before .count-marks .ensures in
+    b .solve-by .ensures ok (record { is-D = i .is-D; is-rank = r ∙ columns-sum i })
 
 pub solve-with-spec : {M : Type 1} → statement M
 solve-with-spec =

@@ -1,15 +1,13 @@
 -- `matrix::parts::times_vector` meets its contract. The loop's invariant: the first i numbers are those of X w.
-use mathlib.Core.Path.{_≡_, sym, ap, _∙_}
 use mathlib.Core.List.{List}
-use Prim.Native.Nat.{ℕ, _+_, _*_, _-_, _≤_, _<_}
+use Prim.Native.Nat.{ℕ, _-_, _≤_, _<_}
 use native.Mathlib.Omega.{arith}
-use lib.ListN.{length}
 use Rattle.algebra.specs.Matrix.{apply}
 use Rattle.field.specs.Residue.{residues}
 use Rattle.field.specs.View.{table}
 use Rattle.field.proofs.Walk.{Walked, walked-none, walked-more}
 use Rattle.matrix.specs.Parts.{vectorOf}
-use Rattle.matrix.proofs.Memory.{row-inside, apply-lines, walked-numbers}
+use Rattle.matrix.proofs.Memory.{row-inside, apply-number, walked-numbers}
 use Rattle.matrix.proofs.parts.times_vector.Statement.{statement}
 use Rattle.matrix.proofs.parts.times_vector.Tie as tie
 
@@ -58,7 +56,7 @@ loop-again c =
     let h : l .i < a .rows = omega arith in (
       omega arith,
       walked-more (l .i) _ _ _ _ (l .inv .1) (omega (arith, s .pre .4))
-          (c .product-entry .ensures ∙ ap (λ r. r .value) (sym (apply-lines (a .p) (a .rows) (a .k) (a .x .now) (a .w .now) (l .i) h))),
+          (apply-number (a .p) (a .rows) (a .k) (a .x .now) (a .w .now) (l .i) (c .product-entry .result) h (c .product-entry .ensures)),
     )
 
 same-length : tie.Need-same-length Inv-loop μ-loop

@@ -1,0 +1,257 @@
+/* Document 01's examples, through the header alone. One line per example group; ends with 0 only if all of them hold. */
+#include "dauneroad.h"
+
+#include <stdio.h>
+#include <string.h>
+
+static int failures;
+static int wrong;
+
+static void expect(int holds, const char *what, int line)
+{
+    if (!holds) {
+        printf("basic.c:%d: %s does not hold\n", line, what);
+        wrong++;
+    }
+}
+
+#define EXPECT(what) expect((what), #what, __LINE__)
+#define SAME(got, ...) SAME_AS(got, ((const uint32_t[])__VA_ARGS__))
+#define SAME_AS(got, want) expect(memcmp((got), (want), sizeof(want)) == 0, #got " == " #want, __LINE__)
+
+static void group(const char *name)
+{
+    printf("%s: example, %s\n", wrong ? "error" : "ok", name);
+    failures += wrong != 0;
+    wrong = 0;
+}
+
+#define LEN(array) (sizeof(array) / sizeof((array)[0]))
+
+static void first_table(void)
+{
+    const uint32_t a[] = {1, 2, 0, 0, 1, 3};
+    uint32_t d[6], columns[3], rows[2], basis[9];
+    EXPECT(dauneroad_quasiinverse(7, 2, 3, a, LEN(a), d, LEN(d), columns, LEN(columns), rows, LEN(rows)) == 202);
+    SAME(d, {1, 5, 0, 1, 0, 0});
+    SAME(columns, {1, 1, 0});
+    SAME(rows, {1, 1});
+    EXPECT(dauneroad_kernel(7, 2, 3, a, LEN(a), basis, LEN(basis)) == 201);
+    SAME(basis, {6, 4, 1, 0, 0, 0, 0, 0, 0});
+    group("p = 7, A = (1 2 0), (0 1 3)");
+}
+
+static void second_table(void)
+{
+    const uint32_t a[] = {0, 1, 1, 1};
+    uint32_t d[4], columns[2], rows[2], basis[4] = {9, 9, 9, 9};
+    EXPECT(dauneroad_quasiinverse(5, 2, 2, a, LEN(a), d, LEN(d), columns, LEN(columns), rows, LEN(rows)) == 202);
+    SAME(d, {4, 1, 1, 0});
+    EXPECT(dauneroad_kernel(5, 2, 2, a, LEN(a), basis, LEN(basis)) == 200);
+    SAME(basis, {0, 0, 0, 0});
+    group("p = 5, A = (0 1), (1 1)");
+}
+
+static void third_table(void)
+{
+    const uint32_t a[] = {1, 2, 2, 4}, good[] = {1, 2}, bad[] = {1, 3};
+    uint32_t d[4], columns[2], rows[2], basis[4], z[2], u[2];
+    EXPECT(dauneroad_quasiinverse(5, 2, 2, a, LEN(a), d, LEN(d), columns, LEN(columns), rows, LEN(rows)) == 201);
+    SAME(d, {1, 0, 0, 0});
+    SAME(columns, {1, 0});
+    SAME(rows, {1, 0});
+    EXPECT(dauneroad_kernel(5, 2, 2, a, LEN(a), basis, LEN(basis)) == 201);
+    SAME(basis, {3, 1, 0, 0});
+    EXPECT(dauneroad_solve(5, 2, 2, a, LEN(a), good, LEN(good), z, LEN(z), u, LEN(u)) == 201);
+    SAME(z, {1, 0});
+    SAME(u, {0, 0});
+    z[0] = z[1] = 77;
+    EXPECT(dauneroad_solve(5, 2, 2, a, LEN(a), bad, LEN(bad), z, LEN(z), u, LEN(u)) == DAUNEROAD_INSOLUBLE);
+    SAME(z, {77, 77});
+    SAME(u, {3, 1});
+    group("p = 5, A = (1 2), (2 4), w = (1 2) and (1 3)");
+}
+
+static void small_tables(void)
+{
+    const uint32_t a[] = {0, 3}, zero[] = {0};
+    uint32_t d[2], columns[2], rows[1], basis[4], none[1] = {0};
+    EXPECT(dauneroad_quasiinverse(5, 1, 2, a, LEN(a), d, LEN(d), columns, LEN(columns), rows, LEN(rows)) == 201);
+    SAME(d, {0, 2});
+    EXPECT(dauneroad_kernel(5, 1, 2, a, LEN(a), basis, LEN(basis)) == 201);
+    SAME(basis, {1, 0, 0, 0});
+    EXPECT(dauneroad_quasiinverse(2, 1, 1, zero, 1, d, 1, columns, 1, rows, 1) == 200);
+    EXPECT(d[0] == 0 && columns[0] == 0 && rows[0] == 0);
+    EXPECT(dauneroad_kernel(2, 1, 1, zero, 1, basis, 1) == 201);
+    EXPECT(basis[0] == 1);
+    EXPECT(dauneroad_kernel(2, 0, 2, none, 0, basis, 4) == 202);
+    SAME(basis, {1, 0, 0, 1});
+    group("p = 5, A = (0 3); p = 2, A = (0); no rows");
+}
+
+static void moduli_and_sizes(void)
+{
+    static const uint32_t bad[] = {0, 1, 4, 2147117569, 2147483648, 4294967295};
+    static uint32_t a[65 * 65], d[65 * 65], columns[65], rows[65], board[DAUNEROAD_BOARD_WORDS(65)];
+    int32_t record = 0;
+    for (size_t i = 0; i < LEN(bad); i++) {
+        EXPECT(dauneroad_signed(bad[i], 0, &record) == DAUNEROAD_MODULUS);
+        EXPECT(dauneroad_open(bad[i], 1, board, DAUNEROAD_BOARD_WORDS(1)) == DAUNEROAD_MODULUS);
+        EXPECT(dauneroad_kernel(bad[i], 1, 1, a, 1, d, 1) == DAUNEROAD_MODULUS);
+    }
+    EXPECT(dauneroad_signed(2, 0, &record) == 0);
+    EXPECT(dauneroad_signed(2147483647, 0, &record) == 0);
+    EXPECT(dauneroad_quasiinverse(7, 64, 64, a, 4096, d, 4096, columns, 64, rows, 64) == 200);
+    EXPECT(dauneroad_quasiinverse(7, 65, 64, a, 4160, d, 4160, columns, 64, rows, 65) == DAUNEROAD_SIZE);
+    EXPECT(dauneroad_quasiinverse(7, 64, 65, a, 4160, d, 4160, columns, 65, rows, 64) == DAUNEROAD_SIZE);
+    EXPECT(dauneroad_open(7, 64, board, DAUNEROAD_BOARD_WORDS(64)) == 0);
+    EXPECT(dauneroad_open(7, 65, board, DAUNEROAD_BOARD_WORDS(65)) == DAUNEROAD_SIZE);
+    EXPECT(dauneroad_open(7, 0, board, DAUNEROAD_BOARD_WORDS(0)) == DAUNEROAD_SIZE);
+    EXPECT(dauneroad_open(7, 64, board, DAUNEROAD_BOARD_WORDS(64) - 1) == DAUNEROAD_LENGTH);
+    EXPECT(DAUNEROAD_BOARD_WORDS(64) == 4163);
+    group("moduli and sizes");
+}
+
+static void frames(void)
+{
+    static const uint8_t frame[] = {3, 0, 0, 0, 1, 0, 0, 0, 2, 0, 0, 0, 5};
+    static const uint8_t padded[] = {8, 0, 0, 0, 1, 0, 0, 0, 1};
+    static const uint8_t zero[] = {1, 0, 0, 0, 0, 0, 0, 0, 1};
+    static const uint8_t large[] = {1, 0, 0, 0, 7, 0, 0, 0, 1};
+    uint32_t multipliers[3], value = 0;
+    uint8_t bytes[DAUNEROAD_LONGEST_FRAME];
+    EXPECT(dauneroad_read(7, 3, frame, LEN(frame), multipliers, 3, &value) == 0);
+    SAME(multipliers, {1, 2, 0});
+    EXPECT(value == 5);
+    memset(bytes, 0xee, sizeof bytes);
+    EXPECT(dauneroad_write(7, 3, multipliers, 3, value, bytes, sizeof bytes) == 200 + LEN(frame));
+    EXPECT(memcmp(bytes, frame, sizeof frame) == 0);
+    for (size_t i = sizeof frame; i < sizeof bytes; i++)
+        EXPECT(bytes[i] == 0xee);
+    EXPECT(dauneroad_read(7, 3, padded, LEN(padded), multipliers, 3, &value) == DAUNEROAD_PADDING);
+    EXPECT(dauneroad_read(7, 3, zero, LEN(zero), multipliers, 3, &value) == DAUNEROAD_ZERO_MULTIPLIER);
+    EXPECT(dauneroad_read(7, 3, large, LEN(large), multipliers, 3, &value) == DAUNEROAD_NUMBER);
+    EXPECT(dauneroad_read(7, 3, frame, LEN(frame) - 1, multipliers, 3, &value) == DAUNEROAD_FRAME_LENGTH);
+    EXPECT(dauneroad_read(7, 3, frame, 0, multipliers, 3, &value) == DAUNEROAD_FRAME_LENGTH);
+    SAME(multipliers, {1, 2, 0});
+    EXPECT(value == 5);
+    group("frames of n = 3, p = 7");
+}
+
+static void fresh_board(void)
+{
+    static const uint8_t nothing[] = {0, 0, 0, 0, 0}, lie[] = {0, 0, 0, 0, 1};
+    uint32_t board[DAUNEROAD_BOARD_WORDS(3)], mix[3] = {9, 9, 9};
+    EXPECT(dauneroad_open(7, 3, board, LEN(board)) == 0);
+    EXPECT(dauneroad_take(board, LEN(board), nothing, LEN(nothing), mix, LEN(mix)) == DAUNEROAD_REPEAT);
+    SAME(mix, {0, 0, 0});
+    mix[0] = mix[1] = mix[2] = 9;
+    EXPECT(dauneroad_take(board, LEN(board), lie, LEN(lie), mix, LEN(mix)) == DAUNEROAD_CONFLICT);
+    SAME(mix, {0, 0, 0});
+    SAME(board, {7, 3, 0, 0, 0, 0, 0, 0, 0, 0, 0, 0, 0, 0, 0});
+    EXPECT(dauneroad_withdraw(board, LEN(board), 0) == 200);
+    EXPECT(dauneroad_withdraw(board, LEN(board), 1) == DAUNEROAD_WITHDRAWAL);
+    board[14] = 1;
+    EXPECT(dauneroad_withdraw(board, LEN(board), 0) == DAUNEROAD_NOT_BOARD);
+    group("the empty frame on a fresh board");
+}
+
+/* Writes the frame and takes it. */
+static uint32_t take(uint32_t *board, uint32_t a, uint32_t b, uint32_t c, uint32_t value, uint32_t *mix)
+{
+    const uint32_t multipliers[] = {a, b, c};
+    uint8_t bytes[DAUNEROAD_LONGEST_FRAME];
+    uint32_t answer = dauneroad_write(7, 3, multipliers, 3, value, bytes, sizeof bytes);
+    EXPECT(answer >= DAUNEROAD_DONE);
+    return dauneroad_take(board, DAUNEROAD_BOARD_WORDS(3), bytes, answer - DAUNEROAD_DONE, mix, 3);
+}
+
+static void sheet(void)
+{
+    uint32_t board[DAUNEROAD_BOARD_WORDS(3)], before[DAUNEROAD_BOARD_WORDS(3)], mix[3] = {9, 9, 9}, marks[3];
+    int32_t numbers[3] = {5, 5, 5};
+    EXPECT(dauneroad_open(7, 3, board, LEN(board)) == 0);
+    EXPECT(take(board, 1, 2, 0, 5, mix) == DAUNEROAD_NEW);
+    EXPECT(take(board, 0, 1, 3, 4, mix) == DAUNEROAD_NEW);
+    SAME(mix, {9, 9, 9});
+    /* columns 0 and 1 are independent, and yet no record is settled */
+    EXPECT(dauneroad_show(board, LEN(board), marks, 3, numbers, 3) == 201);
+    SAME(marks, {0, 0, 0});
+    EXPECT(numbers[0] == 0 && numbers[1] == 0 && numbers[2] == 0);
+    EXPECT(take(board, 1, 3, 3, 2, mix) == DAUNEROAD_REPEAT);
+    SAME(mix, {1, 1, 0});
+    EXPECT(take(board, 1, 3, 3, 3, mix) == DAUNEROAD_CONFLICT);
+    SAME(mix, {1, 1, 0});
+    memcpy(before, board, sizeof board);
+    EXPECT(take(board, 0, 0, 1, 6, mix) == DAUNEROAD_NEW);
+    EXPECT(dauneroad_show(board, LEN(board), marks, 3, numbers, 3) == 200);
+    SAME(marks, {1, 1, 1});
+    EXPECT(numbers[0] == -2 && numbers[1] == 0 && numbers[2] == -1);
+    SAME(board, {7, 3, 3, 1, 2, 0, 5, 0, 1, 3, 4, 0, 0, 1, 6});
+    EXPECT(dauneroad_withdraw(board, LEN(board), 1) == 202);
+    SAME_AS(board, before);
+    EXPECT(dauneroad_show(board, LEN(board), marks, 2, numbers, 3) == DAUNEROAD_LENGTH);
+    group("the sheet of five frames: -2, 0, -1, missing 0");
+}
+
+static void sealing(void)
+{
+    const int32_t records[] = {-2, 0, -1};
+    const uint32_t rows[][3] = {{1, 2, 0}, {0, 1, 3}, {1, 3, 3}, {0, 0, 1}}, values[] = {5, 4, 2, 6};
+    uint32_t value = 99;
+    for (size_t i = 0; i < LEN(values); i++) {
+        EXPECT(dauneroad_seal(7, 3, records, 3, rows[i], 3, &value) == 0);
+        EXPECT(value == values[i]);
+    }
+    const int32_t outside[] = {-2, 4, -1};
+    value = 99;
+    EXPECT(dauneroad_seal(7, 3, outside, 3, rows[0], 3, &value) == DAUNEROAD_NUMBER);
+    EXPECT(value == 99);
+    group("sealing the sheet's frames");
+}
+
+static void readings(void)
+{
+    static const struct {
+        uint32_t p, residue;
+        int32_t record;
+    } table[] = {{2, 0, 0}, {2, 1, 1}, {3, 1, 1}, {3, 2, -1}, {7, 3, 3}, {7, 4, -3}, {7, 6, -1}, {2147483647, 0, 0},
+                 {2147483647, 1073741823, 1073741823}, {2147483647, 1073741824, -1073741823}, {2147483647, 2147483646, -1}};
+    static const struct {
+        uint32_t p;
+        int32_t record;
+    } outside[] = {{2, -1}, {2, 2}, {7, 4}, {7, -4}, {2147483647, 1073741824}, {2147483647, -1073741824},
+                   {2147483647, INT32_MIN}, {2147483647, INT32_MAX}, {2, INT32_MIN}};
+    for (size_t i = 0; i < LEN(table); i++) {
+        int32_t record = 55;
+        uint32_t residue = 55;
+        EXPECT(dauneroad_signed(table[i].p, table[i].residue, &record) == 0);
+        EXPECT(record == table[i].record);
+        EXPECT(dauneroad_residue(table[i].p, table[i].record, &residue) == 0);
+        EXPECT(residue == table[i].residue);
+        EXPECT(dauneroad_signed(table[i].p, table[i].p, &record) == DAUNEROAD_NUMBER);
+        EXPECT(record == table[i].record);
+    }
+    for (size_t i = 0; i < LEN(outside); i++) {
+        uint32_t residue = 55;
+        EXPECT(dauneroad_residue(outside[i].p, outside[i].record, &residue) == DAUNEROAD_NUMBER);
+        EXPECT(residue == 55);
+    }
+    group("signed readings, both ends of the range");
+}
+
+int main(void)
+{
+    first_table();
+    second_table();
+    third_table();
+    small_tables();
+    moduli_and_sizes();
+    frames();
+    fresh_board();
+    sheet();
+    sealing();
+    readings();
+    printf("basic: done\n");
+    return failures != 0;
+}

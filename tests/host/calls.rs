@@ -1,0 +1,384 @@
+//! Each exported call, made on guarded memory and compared with the model: the number, and every word lent, whole.
+
+use crate::lent::{Lent, Rng};
+use crate::model::{self, Ledger};
+
+#[rustfmt::skip]
+extern "C" {
+    fn dauneroad_open(p: u32, n: u32, board: *mut u32, board_len: usize) -> u32;
+    fn dauneroad_take(
+        board: *mut u32, board_len: usize, frame: *const u8, frame_len: usize, mix: *mut u32, mix_len: usize,
+    ) -> u32;
+    fn dauneroad_withdraw(board: *mut u32, board_len: usize, t: u32) -> u32;
+    fn dauneroad_show(
+        board: *const u32, board_len: usize, marks: *mut u32, marks_len: usize, numbers: *mut i32, numbers_len: usize,
+    ) -> u32;
+    fn dauneroad_read(
+        p: u32, n: u32, frame: *const u8, frame_len: usize, multipliers: *mut u32, multipliers_len: usize, value: *mut u32,
+    ) -> u32;
+    fn dauneroad_write(
+        p: u32, n: u32, multipliers: *const u32, multipliers_len: usize, value: u32, bytes: *mut u8, bytes_len: usize,
+    ) -> u32;
+    fn dauneroad_seal(
+        p: u32, n: u32, records: *const i32, records_len: usize, multipliers: *const u32, multipliers_len: usize,
+        value: *mut u32,
+    ) -> u32;
+    fn dauneroad_signed(p: u32, v: u32, record: *mut i32) -> u32;
+    fn dauneroad_residue(p: u32, record: i32, residue: *mut u32) -> u32;
+    fn dauneroad_quasiinverse(
+        p: u32, m: u32, n: u32, a: *const u32, a_len: usize, d: *mut u32, d_len: usize, column_marks: *mut u32,
+        column_marks_len: usize, row_marks: *mut u32, row_marks_len: usize,
+    ) -> u32;
+    fn dauneroad_kernel(p: u32, m: u32, n: u32, a: *const u32, a_len: usize, basis: *mut u32, basis_len: usize) -> u32;
+    fn dauneroad_solve(
+        p: u32, m: u32, n: u32, a: *const u32, a_len: usize, w: *const u32, w_len: usize, z: *mut u32, z_len: usize,
+        u: *mut u32, u_len: usize,
+    ) -> u32;
+}
+
+/// One group of tests: its random numbers, and what it has counted.
+pub struct Group {
+    pub rng: Rng,
+    pub name: &'static str,
+    pub calls: u64,
+    pub wrong: u64,
+}
+
+impl Group {
+    pub fn new(name: &'static str, seed: u64) -> Group {
+        Group { rng: Rng(seed), name, calls: 0, wrong: 0 }
+    }
+
+    /// Counts a disagreement; the first few are told with all that is needed to repeat them.
+    pub fn demand(&mut self, good: bool, tell: impl FnOnce() -> String) {
+        if !good {
+            self.wrong += 1;
+            if self.wrong <= 3 {
+                let told: String = tell().chars().take(20_000).collect();
+                println!("disagreement in {}: {told}", self.name);
+            }
+        }
+    }
+}
+
+pub fn open(g: &mut Group, p: u32, n: u32, board_len: usize) -> (u32, Option<Ledger>) {
+    let mut board = Lent::any(&mut g.rng, board_len);
+    let mut want_board = board.entry().to_vec();
+    let (want, ledger) = model::open(p, n, &mut want_board);
+    let got = unsafe { dauneroad_open(p, n, board.mut_ptr(), board.len()) };
+    g.calls += 1;
+    g.demand(got == want && board.holds(&want_board), || {
+        format!(
+            "open(p {p}, n {n}, {board_len} words): library {got} {:?} guards {}, document {want} {want_board:?}",
+            board.body(),
+            board.guarded()
+        )
+    });
+    (got, ledger)
+}
+
+/// Take on these words; the ledger is theirs, or None where they are no board. Answers the number and the words after.
+pub fn take(g: &mut Group, words: &[u32], ledger: Option<&mut Ledger>, frame: &[u8], mix_len: usize) -> (u32, Vec<u32>) {
+    let mut board = Lent::with(&mut g.rng, words);
+    let lent_frame = Lent::read_only(&mut g.rng, frame);
+    let mut mix = Lent::any(&mut g.rng, mix_len);
+    let mut want_mix = mix.entry().to_vec();
+    let (want, want_words) = match ledger {
+        None => (11, words.to_vec()),
+        Some(ledger) => {
+            let number = ledger.take(frame, &mut want_mix);
+            (number, if number == 0 { ledger.words() } else { words.to_vec() })
+        }
+    };
+    let got =
+        unsafe { dauneroad_take(board.mut_ptr(), board.len(), lent_frame.ptr(), lent_frame.len(), mix.mut_ptr(), mix.len()) };
+    g.calls += 1;
+    let good = got == want && board.holds(&want_words) && lent_frame.untouched() && mix.holds(&want_mix);
+    g.demand(good, || {
+        format!(
+            "take on {words:?} of frame {frame:02x?} with {mix_len} mix words {:?}: library {got} board {:?} mix {:?} guards \
+             {} {} {}, document {want} board {want_words:?} mix {want_mix:?}",
+            mix.entry(),
+            board.body(),
+            mix.body(),
+            board.guarded(),
+            lent_frame.untouched(),
+            mix.guarded()
+        )
+    });
+    (got, board.body().to_vec())
+}
+
+pub fn withdraw(g: &mut Group, words: &[u32], ledger: Option<&mut Ledger>, t: u32) -> (u32, Vec<u32>) {
+    let mut board = Lent::with(&mut g.rng, words);
+    let (want, want_words) = match ledger {
+        None => (11, words.to_vec()),
+        Some(ledger) => {
+            let number = ledger.withdraw(t);
+            (number, if number == 10 { words.to_vec() } else { ledger.words() })
+        }
+    };
+    let got = unsafe { dauneroad_withdraw(board.mut_ptr(), board.len(), t) };
+    g.calls += 1;
+    g.demand(got == want && board.holds(&want_words), || {
+        format!(
+            "withdraw {t} on {words:?}: library {got} {:?} guards {}, document {want} {want_words:?}",
+            board.body(),
+            board.guarded()
+        )
+    });
+    (got, board.body().to_vec())
+}
+
+pub fn show(
+    g: &mut Group,
+    words: &[u32],
+    ledger: Option<&Ledger>,
+    marks_len: usize,
+    numbers_len: usize,
+) -> (u32, Vec<u32>, Vec<i32>) {
+    let board = Lent::read_only(&mut g.rng, words);
+    let mut marks = Lent::any(&mut g.rng, marks_len);
+    let mut numbers = Lent::any(&mut g.rng, numbers_len);
+    let (mut want_marks, mut want_numbers) = (marks.entry().to_vec(), numbers.entry().to_vec());
+    let want = match ledger {
+        None => 11,
+        Some(ledger) => ledger.show(&mut want_marks, &mut want_numbers),
+    };
+    let got =
+        unsafe { dauneroad_show(board.ptr(), board.len(), marks.mut_ptr(), marks.len(), numbers.mut_ptr(), numbers.len()) };
+    g.calls += 1;
+    let good = got == want && board.untouched() && marks.holds(&want_marks) && numbers.holds(&want_numbers);
+    g.demand(good, || {
+        format!(
+            "show on {words:?} with {marks_len} marks and {numbers_len} numbers: library {got} {:?} {:?} guards {} {} {}, \
+             document {want} {want_marks:?} {want_numbers:?}",
+            marks.body(),
+            numbers.body(),
+            board.untouched(),
+            marks.guarded(),
+            numbers.guarded()
+        )
+    });
+    (got, marks.body().to_vec(), numbers.body().to_vec())
+}
+
+pub fn read(g: &mut Group, p: u32, n: u32, frame: &[u8], multipliers_len: usize) -> (u32, Vec<u32>, u32) {
+    let lent_frame = Lent::read_only(&mut g.rng, frame);
+    let mut multipliers = Lent::any(&mut g.rng, multipliers_len);
+    let mut value = Lent::any(&mut g.rng, 1);
+    let (mut want_multipliers, mut want_value) = (multipliers.entry().to_vec(), value.entry().to_vec());
+    let want = model::read(p, n, frame, &mut want_multipliers, &mut want_value);
+    let got = unsafe {
+        let (frame, len) = (lent_frame.ptr(), lent_frame.len());
+        dauneroad_read(p, n, frame, len, multipliers.mut_ptr(), multipliers.len(), value.mut_ptr())
+    };
+    g.calls += 1;
+    let good = got == want && lent_frame.untouched() && multipliers.holds(&want_multipliers) && value.holds(&want_value);
+    g.demand(good, || {
+        format!(
+            "read(p {p}, n {n}, frame {frame:02x?}, {multipliers_len} multipliers): library {got} {:?} {:?} guards {} {} {}, \
+             document {want} {want_multipliers:?} {want_value:?}",
+            multipliers.body(),
+            value.body(),
+            lent_frame.untouched(),
+            multipliers.guarded(),
+            value.guarded()
+        )
+    });
+    (got, multipliers.body().to_vec(), value.body()[0])
+}
+
+pub fn write(g: &mut Group, p: u32, n: u32, multipliers: &[u32], value: u32, bytes_len: usize) -> (u32, Vec<u8>) {
+    let lent_multipliers = Lent::read_only(&mut g.rng, multipliers);
+    let mut bytes = Lent::any(&mut g.rng, bytes_len);
+    let mut want_bytes = bytes.entry().to_vec();
+    let want = model::write(p, n, multipliers, value, &mut want_bytes);
+    let got =
+        unsafe { dauneroad_write(p, n, lent_multipliers.ptr(), lent_multipliers.len(), value, bytes.mut_ptr(), bytes.len()) };
+    g.calls += 1;
+    g.demand(got == want && lent_multipliers.untouched() && bytes.holds(&want_bytes), || {
+        format!(
+            "write(p {p}, n {n}, multipliers {multipliers:?}, value {value}, {bytes_len} bytes): library {got} {:02x?} guards \
+             {} {}, document {want} {want_bytes:02x?}",
+            bytes.body(),
+            lent_multipliers.untouched(),
+            bytes.guarded()
+        )
+    });
+    (got, bytes.body().to_vec())
+}
+
+pub fn seal(g: &mut Group, p: u32, n: u32, records: &[i32], multipliers: &[u32]) -> (u32, u32) {
+    let lent_records = Lent::read_only(&mut g.rng, records);
+    let lent_multipliers = Lent::read_only(&mut g.rng, multipliers);
+    let mut value = Lent::any(&mut g.rng, 1);
+    let mut want_value = value.entry().to_vec();
+    let want = model::seal(p, n, records, multipliers, &mut want_value);
+    let got = unsafe {
+        let (multipliers, len) = (lent_multipliers.ptr(), lent_multipliers.len());
+        dauneroad_seal(p, n, lent_records.ptr(), lent_records.len(), multipliers, len, value.mut_ptr())
+    };
+    g.calls += 1;
+    let good = got == want && lent_records.untouched() && lent_multipliers.untouched() && value.holds(&want_value);
+    g.demand(good, || {
+        format!(
+            "seal(p {p}, n {n}, records {records:?}, multipliers {multipliers:?}): library {got} {:?} guards {} {} {}, \
+             document {want} {want_value:?}",
+            value.body(),
+            lent_records.untouched(),
+            lent_multipliers.untouched(),
+            value.guarded()
+        )
+    });
+    (got, value.body()[0])
+}
+
+pub fn signed(g: &mut Group, p: u32, v: u32) -> (u32, i32) {
+    let mut record = Lent::any(&mut g.rng, 1);
+    let mut want_record = record.entry().to_vec();
+    let want = model::signed(p, v, &mut want_record);
+    let got = unsafe { dauneroad_signed(p, v, record.mut_ptr()) };
+    g.calls += 1;
+    g.demand(got == want && record.holds(&want_record), || {
+        format!("signed(p {p}, v {v}): library {got} {:?}, document {want} {want_record:?}", record.body())
+    });
+    (got, record.body()[0])
+}
+
+pub fn residue(g: &mut Group, p: u32, record: i32) -> (u32, u32) {
+    let mut residue = Lent::any(&mut g.rng, 1);
+    let mut want_residue = residue.entry().to_vec();
+    let want = model::residue(p, record, &mut want_residue);
+    let got = unsafe { dauneroad_residue(p, record, residue.mut_ptr()) };
+    g.calls += 1;
+    g.demand(got == want && residue.holds(&want_residue), || {
+        format!("residue(p {p}, record {record}): library {got} {:?}, document {want} {want_residue:?}", residue.body())
+    });
+    (got, residue.body()[0])
+}
+
+pub struct Quasi {
+    pub number: u32,
+    pub d: Vec<u32>,
+    pub columns: Vec<u32>,
+    pub rows: Vec<u32>,
+}
+
+/// A table that a call is given, with its sizes as the call is told them.
+#[derive(Clone)]
+pub struct Given {
+    pub p: u32,
+    pub m: u32,
+    pub n: u32,
+    pub a: Vec<u32>,
+}
+
+pub fn quasiinverse(g: &mut Group, t: &Given, d_len: usize, columns_len: usize, rows_len: usize) -> Quasi {
+    let (p, m, n) = (t.p, t.m, t.n);
+    let a = Lent::read_only(&mut g.rng, &t.a);
+    let mut d = Lent::any(&mut g.rng, d_len);
+    let mut columns = Lent::any(&mut g.rng, columns_len);
+    let mut rows = Lent::any(&mut g.rng, rows_len);
+    let (mut want_d, mut want_columns, mut want_rows) = (d.entry().to_vec(), columns.entry().to_vec(), rows.entry().to_vec());
+    let want = model::quasiinverse(p, m, n, &t.a, &mut want_d, &mut want_columns, &mut want_rows);
+    let got = unsafe {
+        let (d, d_len) = (d.mut_ptr(), d.len());
+        let (columns, columns_len, rows, rows_len) = (columns.mut_ptr(), columns.len(), rows.mut_ptr(), rows.len());
+        dauneroad_quasiinverse(p, m, n, a.ptr(), a.len(), d, d_len, columns, columns_len, rows, rows_len)
+    };
+    g.calls += 1;
+    let good = got == want && a.untouched() && d.holds(&want_d) && columns.holds(&want_columns) && rows.holds(&want_rows);
+    g.demand(good, || {
+        format!(
+            "quasiinverse(p {p}, m {m}, n {n}, a {:?}, {d_len} d, {columns_len} columns, {rows_len} rows): library {got} \
+             d {:?} columns {:?} rows {:?} guards {} {} {} {}, document {want} d {want_d:?} columns {want_columns:?} \
+             rows {want_rows:?}",
+            t.a,
+            d.body(),
+            columns.body(),
+            rows.body(),
+            a.untouched(),
+            d.guarded(),
+            columns.guarded(),
+            rows.guarded()
+        )
+    });
+    Quasi { number: got, d: d.body().to_vec(), columns: columns.body().to_vec(), rows: rows.body().to_vec() }
+}
+
+pub fn kernel(g: &mut Group, t: &Given, basis_len: usize) -> (u32, Vec<u32>) {
+    let (p, m, n) = (t.p, t.m, t.n);
+    let a = Lent::read_only(&mut g.rng, &t.a);
+    let mut basis = Lent::any(&mut g.rng, basis_len);
+    let mut want_basis = basis.entry().to_vec();
+    let want = model::kernel(p, m, n, &t.a, &mut want_basis);
+    let got = unsafe { dauneroad_kernel(p, m, n, a.ptr(), a.len(), basis.mut_ptr(), basis.len()) };
+    g.calls += 1;
+    g.demand(got == want && a.untouched() && basis.holds(&want_basis), || {
+        format!(
+            "kernel(p {p}, m {m}, n {n}, a {:?}, {basis_len} basis): library {got} {:?} guards {} {}, document {want} \
+             {want_basis:?}",
+            t.a,
+            basis.body(),
+            a.untouched(),
+            basis.guarded()
+        )
+    });
+    (got, basis.body().to_vec())
+}
+
+pub fn solve(g: &mut Group, t: &Given, w: &[u32], z_len: usize, u_len: usize) -> (u32, Vec<u32>, Vec<u32>) {
+    let (p, m, n) = (t.p, t.m, t.n);
+    let a = Lent::read_only(&mut g.rng, &t.a);
+    let lent_w = Lent::read_only(&mut g.rng, w);
+    let mut z = Lent::any(&mut g.rng, z_len);
+    let mut u = Lent::any(&mut g.rng, u_len);
+    let (mut want_z, mut want_u) = (z.entry().to_vec(), u.entry().to_vec());
+    let want = model::solve(p, m, n, &t.a, w, &mut want_z, &mut want_u);
+    let got = unsafe {
+        let (z, z_len, u, u_len) = (z.mut_ptr(), z.len(), u.mut_ptr(), u.len());
+        dauneroad_solve(p, m, n, a.ptr(), a.len(), lent_w.ptr(), lent_w.len(), z, z_len, u, u_len)
+    };
+    g.calls += 1;
+    let good = got == want && a.untouched() && lent_w.untouched() && z.holds(&want_z) && u.holds(&want_u);
+    g.demand(good, || {
+        format!(
+            "solve(p {p}, m {m}, n {n}, a {:?}, w {w:?}, {z_len} z, {u_len} u): library {got} z {:?} u {:?} guards {} {} {} \
+             {}, document {want} z {want_z:?} u {want_u:?}",
+            t.a,
+            z.body(),
+            u.body(),
+            a.untouched(),
+            lent_w.untouched(),
+            z.guarded(),
+            u.guarded()
+        )
+    });
+    (got, z.body().to_vec(), u.body().to_vec())
+}
+
+/// Calls whose slices are all empty, with nothing behind their pointers.
+pub fn empty_slices(g: &mut Group) {
+    let none = std::ptr::NonNull::<u32>::dangling().as_ptr();
+    let bytes = std::ptr::NonNull::<u8>::dangling().as_ptr();
+    let signed = std::ptr::NonNull::<i32>::dangling().as_ptr();
+    let mut value = 77;
+    let got = unsafe {
+        [
+            dauneroad_quasiinverse(7, 0, 0, none, 0, none, 0, none, 0, none, 0),
+            dauneroad_kernel(7, 0, 0, none, 0, none, 0),
+            dauneroad_solve(7, 0, 0, none, 0, none, 0, none, 0, none, 0),
+            dauneroad_open(7, 1, none, 0),
+            dauneroad_take(none, 0, bytes, 0, none, 0),
+            dauneroad_withdraw(none, 0, 0),
+            dauneroad_show(none, 0, none, 0, signed, 0),
+            dauneroad_read(7, 1, bytes, 0, none, 0, &mut value),
+            dauneroad_write(7, 1, none, 0, 0, bytes, 0),
+            dauneroad_seal(7, 1, signed, 0, none, 0, &mut value),
+        ]
+    };
+    let want = [200, 200, 200, 3, 11, 11, 11, 3, 3, 3];
+    g.calls += want.len() as u64;
+    g.demand(got == want && value == 77, || format!("empty slices: library {got:?} value {value}, document {want:?}"));
+}

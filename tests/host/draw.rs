@@ -1,0 +1,242 @@
+//! What the tests draw: moduli, numbers, tables, frames and their damage, lengths.
+
+use crate::calls::Given;
+use crate::lent::Rng;
+use crate::model::{self, Table};
+
+pub const PRIMES: [u32; 8] = [2, 3, 5, 7, 251, 65537, 2_147_483_629, 2_147_483_647];
+pub const BAD: [u32; 6] = [0, 1, 4, 2_147_117_569, 2_147_483_648, 4_294_967_295];
+pub const WIDE: [u32; 4] = [65, 66, 65_536, 4_294_967_295];
+
+pub fn any_p(rng: &mut Rng) -> u32 {
+    if !rng.once_in(8) {
+        return rng.pick(&PRIMES);
+    }
+    let bits = 2 + rng.below(30);
+    let mut p = 2 + rng.below((1 << bits) - 2) as u32;
+    while !model::prime(p) {
+        p -= 1;
+    }
+    p
+}
+
+pub fn any_bad_p(rng: &mut Rng) -> u32 {
+    if !rng.once_in(4) {
+        return rng.pick(&BAD);
+    }
+    loop {
+        let p = rng.next() as u32;
+        if !model::prime(p) {
+            return p;
+        }
+    }
+}
+
+/// A number that is not below p, as far as there is one.
+pub fn too_large(rng: &mut Rng, p: u32) -> u32 {
+    let far = p.saturating_add(rng.under(1 << 20));
+    rng.pick(&[p, p.saturating_add(1), far, u32::MAX])
+}
+
+/// One of the ends, or anything between.
+pub fn number(rng: &mut Rng, p: u32) -> u32 {
+    match rng.below(8) {
+        0 => 0,
+        1 => 1 % p,
+        2 => p - 1,
+        3 => p / 2,
+        _ => rng.under(p),
+    }
+}
+
+pub fn table(rng: &mut Rng, p: u32, m: usize, n: usize) -> Vec<u32> {
+    let mut a = vec![0; m * n];
+    if m * n == 0 {
+        return a;
+    }
+    match rng.below(9) {
+        0 | 1 => a.iter_mut().for_each(|x| *x = rng.under(p)),
+        2 => {
+            let r = rng.below(m.min(n) + 1);
+            low_rank(rng, p, m, n, r, &mut a);
+        }
+        3 => low_rank(rng, p, m, n, m.min(n) / 2, &mut a),
+        4 => {
+            let times = 2 + rng.below(12);
+            a.iter_mut().for_each(|x| *x = if rng.once_in(times) { rng.under(p) } else { 0 });
+        }
+        5 => a.iter_mut().for_each(|x| *x = rng.pick(&[0, 0, 1 % p, p - 1])),
+        6 => {
+            // zero columns, zero rows, and rows that are multiples of earlier ones
+            a.iter_mut().for_each(|x| *x = rng.under(p));
+            for j in 0..n {
+                if rng.once_in(3) {
+                    (0..m).for_each(|i| a[i * n + j] = 0);
+                }
+            }
+            for i in 0..m {
+                if rng.once_in(2) {
+                    let (from, by) = (rng.below(i + 1), rng.under(p) as u64);
+                    let row: Vec<u32> = a[from * n..][..n].to_vec();
+                    (0..n).for_each(|j| a[i * n + j] = (row[j] as u64 * by % p as u64) as u32);
+                }
+            }
+        }
+        7 => {
+            // at most one number in each row and column
+            let mut columns: Vec<usize> = (0..n).collect();
+            for i in 0..m {
+                if !columns.is_empty() && !rng.once_in(4) {
+                    let j = columns.swap_remove(rng.below(columns.len()));
+                    a[i * n + j] = 1 + rng.under(p - 1);
+                }
+            }
+        }
+        _ => {
+            // a staircase: row i begins at about column i, from the top or from the bottom
+            let up = rng.once_in(2);
+            for i in 0..m {
+                for j in 0..n {
+                    let begin = if up { m - 1 - i } else { i };
+                    a[i * n + j] = if j >= begin { rng.under(p) } else { 0 };
+                }
+            }
+        }
+    }
+    a
+}
+
+pub fn low_rank(rng: &mut Rng, p: u32, m: usize, n: usize, r: usize, a: &mut [u32]) {
+    let x: Table = (0..m).map(|_| (0..r).map(|_| rng.under(p) as u64).collect()).collect();
+    let y: Table = (0..r).map(|_| (0..n).map(|_| rng.under(p) as u64).collect()).collect();
+    let table = model::product(p as u64, &x, &y, n);
+    a.iter_mut().zip(table.iter().flatten()).for_each(|(place, x)| *place = *x as u32);
+}
+
+/// A right hand side: mostly one that has a solution, or one that misses it at few rows.
+pub fn right_side(rng: &mut Rng, t: &Given) -> Vec<u32> {
+    let (p, m, n) = (t.p as u64, t.m as usize, t.n as usize);
+    let x: Vec<u64> = (0..n).map(|_| rng.under(t.p) as u64).collect();
+    let rows = model::rows_of(m, n, &t.a);
+    let mut w: Vec<u32> = rows.iter().map(|row| model::dot(p, row.iter().copied(), x.iter().copied()) as u32).collect();
+    match rng.below(4) {
+        0 | 1 => {}
+        2 if m > 0 => {
+            let any = rng.below(m);
+            let i = rng.pick(&[0, m - 1, any]);
+            w[i] = ((w[i] as u64 + 1 + rng.under(t.p - 1) as u64) % p) as u32;
+        }
+        _ => w.iter_mut().for_each(|x| *x = rng.under(t.p)),
+    }
+    w
+}
+
+pub fn multipliers(rng: &mut Rng, p: u32, n: usize) -> Vec<u32> {
+    match rng.below(6) {
+        0 => {
+            let j = rng.below(n);
+            (0..n).map(|i| if i == j { 1 + rng.under(p - 1) } else { 0 }).collect()
+        }
+        1 => (0..n).map(|_| if rng.once_in(4) { number(rng, p) } else { 0 }).collect(),
+        2 => (0..n).map(|_| 1 + rng.under(p - 1)).collect(),
+        3 => (0..n).map(|_| number(rng, p)).collect(),
+        _ => (0..n).map(|_| rng.under(p)).collect(),
+    }
+}
+
+/// A frame with something wrong about its bytes, most likely.
+pub fn damaged(rng: &mut Rng, p: u32, n: usize, frame: &[u8]) -> Vec<u8> {
+    let mut bytes = frame.to_vec();
+    let map = n.div_ceil(8);
+    let standing: usize = bytes[..map].iter().map(|byte| byte.count_ones() as usize).sum();
+    let place = |which: usize| map + 4 * which..map + 4 * which + 4;
+    match rng.below(16) {
+        0 => bytes.truncate(rng.below(bytes.len())),
+        1 => bytes.truncate(rng.below(map + 1)),
+        2 => {
+            bytes.pop();
+        }
+        3 => bytes.push(rng.next() as u8),
+        4 => {
+            let more = 1 + rng.below(300);
+            bytes.extend((0..more).map(|_| rng.next() as u8));
+        }
+        5 | 6 if n % 8 != 0 => {
+            // a bit at n or above, with or without the number for it
+            bytes[map - 1] |= 1 << (n % 8 + rng.below(8 - n % 8));
+            if rng.once_in(2) {
+                bytes.splice(map..map, [0, 0, 0, 1]);
+            }
+        }
+        7 | 8 if standing > 0 => {
+            let at = rng.below(standing);
+            bytes[place(at)].copy_from_slice(&[0; 4]);
+        }
+        9 if standing > 0 => {
+            let at = rng.below(standing);
+            bytes[place(at)].copy_from_slice(&too_large(rng, p).to_be_bytes());
+        }
+        10 => bytes[place(standing)].copy_from_slice(&too_large(rng, p).to_be_bytes()),
+        11 if standing > 0 => {
+            // several numbers wrong at once, perhaps the length too
+            for at in 0..standing + 1 {
+                match rng.below(4) {
+                    0 => bytes[place(at)].copy_from_slice(&[0; 4]),
+                    1 => bytes[place(at)].copy_from_slice(&too_large(rng, p).to_be_bytes()),
+                    _ => {}
+                }
+            }
+            if rng.once_in(4) {
+                bytes.pop();
+            }
+        }
+        12 => {
+            let at = rng.below(map);
+            bytes[at] ^= 1 << rng.below(8);
+        }
+        13 => {
+            let at = rng.below(bytes.len());
+            bytes[at] ^= 1 << rng.below(8);
+        }
+        14 => bytes.clear(),
+        _ => bytes.iter_mut().for_each(|byte| *byte = rng.next() as u8),
+    }
+    bytes
+}
+
+pub fn off_by_one(rng: &mut Rng, named: usize) -> usize {
+    if named > 0 && rng.once_in(2) {
+        named - 1
+    } else {
+        named + 1
+    }
+}
+
+/// The length that is named, seldom one off.
+pub fn length(rng: &mut Rng, named: usize) -> usize {
+    if rng.once_in(8) {
+        off_by_one(rng, named)
+    } else {
+        named
+    }
+}
+
+pub fn resized<T: Copy>(mut from: Vec<T>, len: usize, fill: T) -> Vec<T> {
+    from.resize(len, fill);
+    from
+}
+
+/// All lists of `len` numbers below p.
+pub fn each(p: u32, len: usize, mut to: impl FnMut(&[u32])) {
+    let mut list = vec![0; len];
+    loop {
+        to(&list);
+        let Some(at) = (0..len).find(|&j| list[j] + 1 < p) else { break };
+        list[at] += 1;
+        list[..at].fill(0);
+    }
+}
+
+pub fn wide(list: &[u32]) -> Vec<u64> {
+    list.iter().map(|&x| x as u64).collect()
+}

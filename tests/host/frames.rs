@@ -1,0 +1,227 @@
+//! Moduli, signed readings, and frames: read, written and sealed.
+
+use crate::calls::{self, Group};
+use crate::draw::*;
+use crate::model;
+
+// ---- the modulus and signed readings ----
+
+pub fn moduli(g: &mut Group, rounds: usize) {
+    let mut list: Vec<u32> = (0..3000).chain(PRIMES).chain(BAD).collect();
+    // squares and products of neighbouring primes up to the root of the range, and numbers that fool Fermat's test
+    let near: Vec<u32> = (46_000..46_341).filter(|&q| model::prime(q)).collect();
+    for (i, &q) in near.iter().enumerate() {
+        list.push(q * q);
+        if i > 0 {
+            list.push(q * near[i - 1]);
+        }
+    }
+    list.extend([46_337u32.pow(2), 46_339 * 46_341, 46_341u32.pow(2), 561, 1105, 1729, 2047, 3277, 4033, 1_373_653]);
+    list.extend([25_326_001, 1_093u32.pow(2), 3_511u32.pow(2), 2_147_483_587, 3_215_031_751, 65_537 * 32_749]);
+    list.extend(2_147_483_547..2_147_483_747);
+    list.extend((0..64).map(|i| u32::MAX - i));
+    for _ in 0..rounds {
+        list.push(g.rng.next() as u32);
+        list.push(g.rng.next() as u32 >> 1 | 1);
+    }
+    for p in list {
+        let v = number(&mut g.rng, p.max(1));
+        calls::signed(g, p, v);
+        if g.rng.once_in(16) {
+            calls::residue(g, p, v as i32);
+            calls::open(g, p, 1, 5);
+        }
+    }
+}
+
+pub fn readings(g: &mut Group) {
+    // whole ranges and their surroundings
+    for p in [2u32, 3, 5, 7, 11, 13, 251, 257, 1009] {
+        for v in 0..p + 3 {
+            let (number, record) = calls::signed(g, p, v);
+            if number == 0 {
+                let back = calls::residue(g, p, record);
+                g.demand(back == (0, v), || format!("p {p}: {v} reads as {record}, which goes back as {back:?}"));
+            }
+        }
+        let (low, high) = (-((p as i32 - 1) / 2), p as i32 / 2);
+        for record in low - 3..=high + 3 {
+            let (number, v) = calls::residue(g, p, record);
+            if number == 0 {
+                let back = calls::signed(g, p, v);
+                g.demand(back == (0, record), || format!("p {p}: {record} goes to {v}, which reads as {back:?}"));
+            }
+        }
+    }
+    for p in PRIMES.into_iter().chain(BAD) {
+        let half = p / 2;
+        for v in
+            [0, 1, 2, half.saturating_sub(1), half, half + 1, p.saturating_sub(1), p, p.saturating_add(1), 1 << 31, u32::MAX]
+        {
+            calls::signed(g, p, v);
+        }
+        let (low, high) = (-((p as i64 - 1) / 2), p as i64 / 2);
+        for record in [low - 1, low, low + 1, -1, 0, 1, high - 1, high, high + 1, i32::MIN as i64, i32::MAX as i64, -(p as i64)]
+        {
+            calls::residue(g, p, record.clamp(i32::MIN as i64, i32::MAX as i64) as i32);
+        }
+    }
+    for _ in 0..4000 {
+        let p = any_p(&mut g.rng);
+        let v = g.rng.under(p);
+        let (_, record) = calls::signed(g, p, v);
+        let back = calls::residue(g, p, record);
+        g.demand(back == (0, v), || format!("p {p}: {v} reads as {record}, which goes back as {back:?}"));
+        let any = g.rng.next() as i32;
+        calls::residue(g, p, any);
+    }
+}
+
+// ---- frames ----
+
+/// A written frame reads back, and an accepted one rewrites to its bytes.
+pub fn frame_round(g: &mut Group, p: u32, n: usize, numbers: &[u32], value: u32) {
+    let (number, bytes) = calls::write(g, p, n as u32, numbers, value, 268);
+    g.demand((200..=468).contains(&number), || format!("write refuses {numbers:?} {value} modulo {p}: {number}"));
+    if (200..=468).contains(&number) {
+        let frame = &bytes[..number as usize - 200];
+        let (answer, back, back_value) = calls::read(g, p, n as u32, frame, n);
+        g.demand(answer == 0 && back == numbers && back_value == value, || {
+            format!("written {frame:02x?} of {numbers:?} {value} reads as {answer} {back:?} {back_value}")
+        });
+    }
+}
+
+pub fn read_round(g: &mut Group, p: u32, n: usize, frame: &[u8]) {
+    let (answer, numbers, value) = calls::read(g, p, n as u32, frame, n);
+    if answer == 0 {
+        let (number, bytes) = calls::write(g, p, n as u32, &numbers, value, 268);
+        g.demand(number as usize == 200 + frame.len() && bytes[..frame.len()] == *frame, || {
+            format!("accepted {frame:02x?} modulo {p}, n {n}, rewrites with {number} to {bytes:02x?}")
+        });
+    }
+}
+
+pub fn frames(g: &mut Group, rounds: usize) {
+    for round in 0..rounds {
+        let p = any_p(&mut g.rng);
+        let n = if round < 256 { 1 + round % 64 } else { 1 + g.rng.below(64) };
+        let numbers = multipliers(&mut g.rng, p, n);
+        let value = number(&mut g.rng, p);
+        frame_round(g, p, n, &numbers, value);
+        for _ in 0..3 {
+            let bad = damaged(&mut g.rng, p, n, &model::frame_of(&numbers, value));
+            read_round(g, p, n, &bad);
+        }
+    }
+}
+
+pub fn frame_refusals(g: &mut Group, rounds: usize) {
+    for _ in 0..rounds {
+        let mut p = any_p(&mut g.rng);
+        let most = if g.rng.once_in(8) { 64 } else { 12 };
+        let mut n = 1 + g.rng.below(most);
+        let mut numbers = multipliers(&mut g.rng, p, n);
+        let mut value = number(&mut g.rng, p);
+        let mut records: Vec<i32> = (0..n).map(|_| model::reading(p, g.rng.under(p))).collect();
+        let mut frame = model::frame_of(&numbers, value);
+        if g.rng.once_in(2) {
+            frame = damaged(&mut g.rng, p, n, &frame);
+        }
+        if g.rng.once_in(4) {
+            p = any_bad_p(&mut g.rng);
+        }
+        let mut told = n as u32;
+        if g.rng.once_in(4) {
+            told = if g.rng.once_in(3) { 0 } else { g.rng.pick(&WIDE) };
+            if told < 1000 && g.rng.once_in(2) {
+                n = told as usize;
+                numbers.resize(n, 1);
+                records.resize(n, 0);
+            }
+        }
+        if n > 0 && g.rng.once_in(3) {
+            let at = g.rng.below(n);
+            numbers[at] = too_large(&mut g.rng, p);
+        }
+        if n > 0 && g.rng.once_in(3) {
+            let high = p as i64 / 2 + 1;
+            let low = -((p as i64 - 1) / 2) - 1;
+            let at = g.rng.below(n);
+            let record = g.rng.pick(&[high, low, i32::MIN as i64, i32::MAX as i64]);
+            records[at] = record.clamp(i32::MIN as i64, i32::MAX as i64) as i32;
+        }
+        if g.rng.once_in(4) {
+            value = too_large(&mut g.rng, p);
+        }
+        let (len, bytes_len) = (length(&mut g.rng, n), length(&mut g.rng, 268));
+        calls::read(g, p, told, &frame, len);
+        calls::write(g, p, told, &resized(numbers.clone(), len, 0), value, bytes_len);
+        let records_len = length(&mut g.rng, n);
+        calls::seal(g, p, told, &resized(records, records_len, 0), &resized(numbers, len, 0));
+    }
+}
+
+pub fn frames_exhaustive(g: &mut Group) {
+    // every frame of two bytes at most
+    for n in [1, 8, 9] {
+        read_round(g, 2, n, &[]);
+        for x in 0..=255u8 {
+            read_round(g, 7, n, &[x]);
+        }
+        for x in 0..=65_535u16 {
+            read_round(g, 2, n, &x.to_be_bytes());
+        }
+    }
+    // every map of one byte with its length, one byte off and one number off; all numbers right, or one of them wrong
+    for n in 1..=8 {
+        for map in 0..=255u8 {
+            let standing = map.count_ones() as usize;
+            for p in [2, 3, 2_147_483_647] {
+                let numbers: Vec<u32> = (0..standing).map(|_| 1 + g.rng.under(p - 1)).collect();
+                let value = g.rng.under(p);
+                let frame = |numbers: &[u32], value: u32| -> Vec<u8> {
+                    let numbers = numbers.iter().chain([&value]).flat_map(|x| x.to_be_bytes());
+                    [map].into_iter().chain(numbers).collect()
+                };
+                let right = frame(&numbers, value);
+                read_round(g, p, n, &right);
+                if p == 3 {
+                    for len in [right.len() - 4, right.len() - 1, right.len() + 1, right.len() + 4] {
+                        read_round(g, p, n, &resized(right.clone(), len, 0));
+                    }
+                    for at in 0..standing {
+                        for wrong in [0, p] {
+                            let mut numbers = numbers.clone();
+                            numbers[at] = wrong;
+                            read_round(g, p, n, &frame(&numbers, value));
+                        }
+                    }
+                    read_round(g, p, n, &frame(&numbers, p));
+                }
+            }
+        }
+    }
+    // every row of multipliers and value
+    for (p, most) in [(2u32, 6), (3, 4), (5, 3), (7, 2)] {
+        for n in 1..=most {
+            each(p, n + 1, |numbers| frame_round(g, p, n, &numbers[..n], numbers[n]));
+        }
+    }
+}
+
+pub fn seals(g: &mut Group, rounds: usize) {
+    for round in 0..rounds {
+        let p = any_p(&mut g.rng);
+        let n = if round < 128 { 1 + round % 64 } else { 1 + g.rng.below(64) };
+        let ends = g.rng.once_in(4);
+        let records: Vec<i32> = (0..n)
+            .map(|_| {
+                let v = if ends { g.rng.pick(&[p / 2, (p / 2 + 1) % p, p - 1, 0]) } else { number(&mut g.rng, p) };
+                model::reading(p, v)
+            })
+            .collect();
+        let numbers = if ends { vec![p - 1; n] } else { multipliers(&mut g.rng, p, n) };
+        calls::seal(g, p, n as u32, &records, &numbers);
+    }
+}

@@ -1,0 +1,186 @@
+//! The host tests: libdauneroad.a against the model of document 01 in model.rs, on seeded random, exhaustive and damaged
+//! inputs. One line per group; ends with 0 only if no group disagrees.
+
+mod boards;
+mod calls;
+mod draw;
+mod frames;
+mod lent;
+mod model;
+mod tables;
+
+use boards::*;
+use calls::Group;
+use draw::{BAD, PRIMES};
+use frames::*;
+use lent::{set_fence, Fence};
+use model::Met;
+use std::time::Instant;
+use tables::*;
+
+fn fenced(g: &mut Group) {
+    for fence in [Fence::Behind, Fence::Before] {
+        set_fence(fence);
+        readings_few(g);
+        opens(g);
+        frames(g, 500);
+        frame_refusals(g, 1500);
+        seals(g, 150);
+        tables(g, 240, 24);
+        tables_largest(g, 4);
+        table_refusals(g, 1500);
+        histories(g, 40, 12, 20);
+        tampering(g, 1500, 8);
+        histories(g, 2, 64, 20);
+        set_fence(Fence::Off);
+    }
+}
+
+fn readings_few(g: &mut Group) {
+    for p in PRIMES.into_iter().chain(BAD) {
+        for v in [0, 1, p / 2, p.saturating_sub(1), p] {
+            calls::signed(g, p, v);
+            calls::residue(g, p, v as i32);
+        }
+    }
+}
+
+/// Boards of their own may be worked on at the same time.
+fn at_once(g: &mut Group) {
+    let seeds: Vec<u64> = (0..4).map(|_| g.rng.next()).collect();
+    let threads: Vec<_> = seeds
+        .into_iter()
+        .map(|seed| {
+            std::thread::spawn(move || {
+                let mut g = Group::new("calls at the same time", seed);
+                histories(&mut g, 24, 12, 40);
+                tables(&mut g, 60, 12);
+                (g.calls, g.wrong)
+            })
+        })
+        .collect();
+    for thread in threads {
+        let (calls, wrong) = thread.join().expect("a thread's own end");
+        g.calls += calls;
+        g.wrong += wrong;
+    }
+}
+
+/// What must have been met, call by call; document 01 has no other refusal for these calls.
+fn required() -> Vec<String> {
+    let mut labels = Vec::new();
+    let mut of = |call: &str, list: &str| labels.extend(list.split(", ").map(|what| format!("{call} {what}")));
+    of("signed", "done, 1 alone, 4 alone, 1 before 4");
+    of("residue", "done, 1 alone, 4 alone, 1 before 4");
+    of("open", "done, 1 alone, 2 alone, 3 alone, 1 before 2, 1 before 3, 2 before 3, 3 board below, 3 board above");
+    let sizes = "1 alone, 2 alone, 3 alone, 4 alone, 1 before 2, 1 before 3, 1 before 4, 2 before 3, 2 before 4, 3 before 4";
+    for call in ["write", "seal", "quasiinverse", "kernel", "solve"] {
+        of(call, "done");
+        of(call, sizes);
+    }
+    of("read", "done, 1 alone, 2 alone, 3 alone, 1 before 2, 1 before 3, 2 before 3, 3 multipliers below, 3 multipliers above");
+    of(
+        "write",
+        "all 268, 3 multipliers below, 3 multipliers above, 3 bytes below, 3 bytes above, 4 multipliers, 4 value, 4 both",
+    );
+    of("seal", "3 records below, 3 records above, 3 multipliers below, 3 multipliers above, 4 records, 4 multipliers, 4 both");
+    let frame = "6 cut map, 7 alone, 7 with a wrong length, 6 short, 6 long, 6 with a zero, 6 with a large number, 8 alone, \
+                 8 before 4, 4 before 8, 4 multiplier, 4 value";
+    of("read", frame);
+    of("take", frame);
+    of("take", "new, repeat, 9, 3, 3 mix below, 3 mix above, 3 before the frame, 11, 11 before 3");
+    of("withdraw", "done, all, 10, 10 by one, 11, 11 before 10");
+    of("show", "done, some settled, 3, 3 marks below, 3 marks above, 3 numbers below, 3 numbers above, 11, 11 before 3");
+    for call in ["take", "withdraw", "show"] {
+        of(call, "11 no header, 11 modulus, 11 size, 11 length, 11 count, 11 entry, 11 later word, 11 dependent");
+    }
+    let table = "2 m, 2 n, 2 both, 3 a below, 3 a above, 4 a, 64 by 64 rank full, 64 by 64 rank lower";
+    for call in ["quasiinverse", "kernel", "solve"] {
+        of(call, table);
+        (0..=64).for_each(|size| of(call, &format!("m {size}, n {size}")));
+    }
+    of("quasiinverse", "3 d below, 3 d above, 3 columns below, 3 columns above, 3 rows below, 3 rows above");
+    of("kernel", "3 basis below, 3 basis above");
+    of("solve", "solved, 5, 3 w below, 3 w above, 3 z below, 3 z above, 3 u below, 3 u above, 4 w, 4 both");
+    for size in 1..=64 {
+        ["read", "write", "seal", "take", "show"].iter().for_each(|call| of(call, &format!("n {size}")));
+        ["take", "show"].iter().for_each(|call| of(call, &format!("at {size}")));
+    }
+    of("take", "at 0");
+    of("show", "at 0");
+    for call in ["open", "read", "write", "seal", "quasiinverse", "kernel", "solve"] {
+        of(call, "told n 0, told n 64, told n 65, told n 4294967295");
+    }
+    for call in ["quasiinverse", "kernel", "solve"] {
+        of(call, "told m 0, told m 64, told m 65, told m 4294967295");
+    }
+    let calls = ["signed", "residue", "open", "take", "withdraw", "show", "read", "write", "seal"];
+    for call in calls.into_iter().chain(["quasiinverse", "kernel", "solve"]) {
+        PRIMES.iter().chain(&BAD).for_each(|p| of(call, &format!("p {p}")));
+    }
+    labels
+}
+
+fn main() {
+    let groups: [(&'static str, &dyn Fn(&mut Group)); 23] = [
+        ("the prime test", &|g| moduli(g, 1500)),
+        ("signed readings", &readings),
+        ("frames, tiny ones all", &frames_exhaustive),
+        ("frames, written, read and damaged", &|g| frames(g, 6000)),
+        ("frames, refusals and their order", &|g| frame_refusals(g, 12_000)),
+        ("seals", &|g| seals(g, 3000)),
+        ("tables, tiny ones all", &tables_exhaustive),
+        ("tables, all sizes", &|g| tables(g, 500, 64)),
+        ("tables, small sizes", &|g| tables(g, 6000, 9)),
+        ("tables, 64 by 64", &|g| tables_largest(g, 40)),
+        ("tables, refusals and their order", &|g| table_refusals(g, 12_000)),
+        ("empty slices", &calls::empty_slices),
+        ("opens", &opens),
+        ("boards, all sizes and counts", &boards),
+        ("histories, tiny ones all", &histories_exhaustive),
+        ("histories, small boards", &|g| histories(g, 900, 9, 40)),
+        ("histories, all sizes", &|g| histories(g, 80, 64, 20)),
+        ("histories, 64 standing frames", &|g| histories_largest(g, &[2, 251, 2_147_483_647])),
+        ("withdrawals restore", &|g| restored(g, 300)),
+        ("heats, sealed to shown", &|g| heats(g, 100)),
+        ("words that are no board, tiny ones all", &boards_exhaustive),
+        ("words that are no board, tampered", &|g| {
+            tampering(g, 12_000, 10);
+            tampering_largest(g, 60);
+        }),
+        ("slices at fences, read only where read", &fenced),
+    ];
+    let begin = Instant::now();
+    let (mut total, mut failed) = (0, 0);
+    let mut close = |g: Group, began: Instant| {
+        total += g.calls;
+        let time = began.elapsed().as_secs_f64();
+        if g.wrong == 0 {
+            println!("ok: {}: {} calls, {time:.1} s", g.name, g.calls);
+        } else {
+            failed += 1;
+            println!("error: {}: {} disagreements in {} calls, {time:.1} s", g.name, g.wrong, g.calls);
+        }
+    };
+    for (i, (name, run)) in groups.iter().enumerate() {
+        let began = Instant::now();
+        let mut g = Group::new(name, 0x0dd_ba11 + i as u64);
+        run(&mut g);
+        close(g, began);
+    }
+    let began = Instant::now();
+    let mut g = Group::new("calls at the same time", 0x7177);
+    at_once(&mut g);
+    close(g, began);
+
+    let seen: Met = model::take_met();
+    let missed: Vec<String> = required().into_iter().filter(|label| !seen.contains_key(label)).collect();
+    if missed.is_empty() {
+        println!("ok: every refusal, every order of two, every size and modulus was met: {} of them", required().len());
+    } else {
+        failed += 1;
+        println!("error: never met: {}", missed.join(", "));
+    }
+    println!("host: {total} calls in {:.1} s", begin.elapsed().as_secs_f64());
+    std::process::exit((failed > 0) as i32);
+}
