@@ -269,4 +269,5 @@ def main():
     print('answers', dict(sorted(count.items())), file=sys.stderr)
 
 
-main()
+if __name__ == '__main__':
+    main()

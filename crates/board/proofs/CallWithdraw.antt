@@ -79,13 +79,13 @@ module _ (n k m : ℕ) (ws ys : List ℕ) (fewer : m ≤ k) (inside : 3 + k * (n
       }
 
 -- where the rows end that stay when t are dropped, what stands behind, and the words with ys there and the count lowered
-abbrev pub keptEnd : List ℕ → ℕ → ℕ
+abbrev keptEnd : List ℕ → ℕ → ℕ
 keptEnd ws t = 3 + (countWord ws - t) * (sizeWord ws + 1)
 
-abbrev pub lastPart : List ℕ → ℕ → List ℕ
+abbrev lastPart : List ℕ → ℕ → List ℕ
 lastPart ws t = take (length ws - keptEnd ws t) (drop (keptEnd ws t) ws)
 
-abbrev pub clearedWords : List ℕ → ℕ → List ℕ → List ℕ
+abbrev clearedWords : List ℕ → ℕ → List ℕ → List ℕ
 clearedWords ws t ys = set (replaced ws (keptEnd ws t) (length ws - keptEnd ws t) ys) 2 (countWord ws - t)
 
 -- refusal 11
@@ -109,9 +109,6 @@ module _ (ws : List ℕ) (b : IsBoard ws) (t : ℕ) where
       (pick-no (decLe t (length (entriesOf ws))) _ _ (λ l. omega (arith, words-count ws)))
       ∙ ap (opened (refused Withdrawal)) (board-layout ws b))
 
-  pub kept-inside : keptEnd ws t ≤ length ws
-  kept-inside = omega (arith, rows-inside ws (board-header b), mul-le-mul-right (sizeWord ws + 1) (sub-le (countWord ws) t))
-
   -- 0 behind the rows, in the words and past them
   board-behind : (q : ℕ) → 3 + countWord ws * (sizeWord ws + 1) ≤ q → getD ws q 0 ≡ 0
   unfolding headerLength rowLength
@@ -123,17 +120,6 @@ module _ (ws : List ℕ) (b : IsBoard ws) (t : ℕ) where
 
   -- with the last t rows cleared the words are the layout of the other entries
   module _ (few : t ≤ countWord ws) (ys : List ℕ) (long : length ys ≡ length (lastPart ws t)) (zero : (j : ℕ) → getD ys j 0 ≡ 0) where
-    -- the count's place is still there
-    pub count-inside : 2 < length (replaced ws (keptEnd ws t) (length ws - keptEnd ws t) ys)
-    count-inside =
-        let fits : keptEnd ws t + (length ws - keptEnd ws t) ≤ length ws = omega (arith, kept-inside) in
-        omega (
-          arith,
-          replaced-length ws (keptEnd ws t) (length ws - keptEnd ws t) ys fits
-              (long ∙ part-length ws (keptEnd ws t) (length ws - keptEnd ws t) fits),
-          b .three,
-        )
-
     kept-layout : clearedWords ws t ys ≡ layout (modulusWord ws) (sizeWord ws) (take (countWord ws - t) (entriesOf ws))
     kept-layout =
         dropped-layout (modulusWord ws) (sizeWord ws) (entriesOf ws) (countWord ws - t) (clearedWords ws t ys) (board-wide ws b)

@@ -1,9 +1,5 @@
 // The board: open, take, withdraw and show. The ledger that they keep is in the words that the caller lends.
 ghost use mathlib.Core.Path.{_≡_};
-ghost use mathlib.Core.Bool.{true, false};
-ghost use Prim.Native.Nat.{ℕ, _+_, _*_, _≤_, _<_};
-ghost use lib.ListN.{length, getD};
-ghost use Rattle.algebra.specs.Choice.{pick};
 ghost use Rattle.board.specs.Told.{openTold, takeTold, answerTold};
 ghost use Rattle.ledger.specs.Steps.{shown};
 ghost use Rattle.ledger.specs.Calls.{opened, openCall, takeOutcome, takeCall, withdrawCall, showCall};

@@ -2,7 +2,7 @@
 // a quasiinverse of them, serves the calls.
 ghost use mathlib.Core.Path.{_≡_};
 ghost use mathlib.Core.Bool.{true, false};
-ghost use Prim.Native.Nat.{ℕ, _+_, _*_, _≤_, _<_};
+ghost use Prim.Native.Nat.{ℕ};
 ghost use lib.ListN.{length, getD};
 ghost use Rattle.algebra.specs.Choice.{pick};
 ghost use Rattle.ledger.specs.Decide.{board?};

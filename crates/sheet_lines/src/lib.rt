@@ -9,7 +9,7 @@ ghost use Rattle.modulus.specs.Told.{refused};
 ghost use Rattle.board.specs.Told.{takeTold};
 ghost use Rattle.sheet_lines.specs.Lines.{digit, decimal, signedDecimal, wordLine, refusedLine, missingLine, answerLine, recordText, recordLine};
 ghost use Rattle.sheet_lines.specs.Written.{Put, Printed};
-ghost use Rattle.sheet_lines.specs.Input.{headerTold, headerCall, frameLength};
+ghost use Rattle.sheet_lines.specs.Input.{headerTold, headerCall, frameLength, frameTold, frameStart, frameBody, lengthIn};
 use board::TakeAnswer;
 use modulus::Refusal;
 
@@ -17,6 +17,13 @@ use modulus::Refusal;
 pub enum HeaderAnswer {
     Cut,
     Open(u32, u32),
+}
+
+// What came where a frame could: the end of the input, a cut frame, or a frame of so many bytes.
+pub enum FrameInput {
+    End,
+    Cut,
+    Frame(usize),
 }
 
 // Writes the word from `at` on.
@@ -172,4 +179,28 @@ pub fn frame_length(hi: u8, lo: u8) -> usize
     ensures { λ r. ⌜ r ≡ frameLength hi lo ⌝ }
 {
     pair(hi, lo) as usize
+}
+
+// What comes next, from the bytes that came of a frame's two length bytes: none where the input ends.
+pub fn frame_start(bytes: &[u8]) -> FrameInput
+    ensures { λ r. ⌜ frameTold r ≡ frameStart (now (bytes .entry)) ⌝ }
+    ensures { λ r. ⌜ lengthIn r ≤ 65535 ⌝ }
+{
+    if bytes.len() == 0 {
+        return FrameInput::End;
+    }
+    if bytes.len() < 2 {
+        return FrameInput::Cut;
+    }
+    FrameInput::Frame(frame_length(bytes[0], bytes[1]))
+}
+
+// Whether a frame of that length is whole, from how many of its bytes came.
+pub fn frame_body(length: usize, came: usize) -> FrameInput
+    ensures { λ r. ⌜ frameTold r ≡ frameBody length came ⌝ }
+{
+    if came < length {
+        return FrameInput::Cut;
+    }
+    FrameInput::Frame(length)
 }

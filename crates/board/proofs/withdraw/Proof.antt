@@ -1,13 +1,15 @@
 -- `board::withdraw` meets its contract: off a board it is refusal 11, with more to drop than stand it is refusal 10, and else the
 -- words that stay are the layout of the entries that stay.
 use Prim.Native.Nat.{_+_, _*_, _-_, _≤_}
+use native.Mathlib.Nat.{sub-le, mul-le-mul-right}
 use native.Mathlib.Omega.{arith}
 use lib.ListN.{length}
 use borrow.Author.Needs.{needs}
 use Rattle.ledger.specs.Board.{IsBoard, sizeWord, countWord}
-use Rattle.board.proofs.TestSizes.{rows-most}
+use Rattle.board.proofs.TestSizes.{rows-most, rows-inside}
+use Rattle.board.proofs.TestBoard.{board-header}
 use Rattle.board.proofs.CallBoard.{is-held, no-board}
-use Rattle.board.proofs.CallWithdraw.{withdraw-no-board, withdraw-too-many, kept-inside, keptEnd, count-inside, withdraw-done}
+use Rattle.board.proofs.CallWithdraw.{withdraw-no-board, withdraw-too-many, withdraw-done}
 use Rattle.board.proofs.withdraw.Statement.{statement}
 use Rattle.board.proofs.withdraw.Tie as tie
 
@@ -15,17 +17,24 @@ use Rattle.board.proofs.withdraw.Tie as tie
 board : (c : tie.Else1) → IsBoard (c .before .before .before .before .before .before .before .before .before .before .args .board .now)
 board c = is-held (c .before .before .before .is-board .ensures) (c .if1 .left) .board
 
--- the rows that stay are few, and lie in the words
-few :
-    (c : tie.Else2) →
-    let a = c .before .before .before .before .before .before .before .before .before .before .before .before .args in
-    (countWord (a .board .now) - a .t) * (sizeWord (a .board .now) + 1) ≤ 4160
+-- the rows are few, those that stay are no more, and all lie in the words
+abbrev start-of : tie.Else2 → tie.Start
+start-of c = c .before .before .before .before .before .before .before .before .before .before .before .before
+
+few : (c : tie.Else2) → let ws = start-of c .args .board .now in countWord ws * (sizeWord ws + 1) ≤ 4160
 few c =
     let b = board (c .before .before) in
     rows-most (omega (arith, b .count, b .size .1)) (b .size .1)
 
-inside : (c : tie.Else2) → let a = c .before .before .before .before .before .before .before .before .before .before .before .before .args in keptEnd (a .board .now) (a .t) ≤ length (a .board .now)
-inside c = kept-inside _ (board (c .before .before)) _
+fewer :
+    (c : tie.Else2) →
+    let a = start-of c .args in
+    let ws = a .board .now in
+    (countWord ws - a .t) * (sizeWord ws + 1) ≤ countWord ws * (sizeWord ws + 1)
+fewer c = mul-le-mul-right _ (sub-le _ _)
+
+inside : (c : tie.Else2) → let ws = start-of c .args .board .now in 3 + countWord ws * (sizeWord ws + 1) ≤ length ws
+inside c = rows-inside _ (board-header (board (c .before .before)))
 
 table-room-requires : tie.Need-table-room-requires
 table-room-requires c κs = search needs
@@ -70,19 +79,19 @@ add-from : tie.Need-add-from
 add-from c = omega (arith, board (c .before .before .before) .size .1)
 
 mul-from : tie.Need-mul-from
-mul-from c = omega (arith, few (c .before))
+mul-from c = omega (arith, few (c .before), fewer (c .before))
 
 add-from-2 : tie.Need-add-from-2
-add-from-2 c = omega (arith, few (c .before))
+add-from-2 c = omega (arith, few (c .before), fewer (c .before))
 
 mul-clear : tie.Need-mul-clear
-mul-clear c = omega (arith, few (c .before))
+mul-clear c = omega (arith, few (c .before), fewer (c .before))
 
 sub-clear : tie.Need-sub-clear
-sub-clear c = inside (c .before)
+sub-clear c = omega (arith, inside (c .before), fewer (c .before))
 
 part-clear-start : tie.Need-part-clear-start
-part-clear-start c = inside (c .before)
+part-clear-start c = omega (arith, inside (c .before), fewer (c .before))
 
 part-clear-end : tie.Need-part-clear-end
 part-clear-end c = search needs
@@ -91,11 +100,7 @@ clear-requires : tie.Need-clear-requires
 clear-requires c κs = search needs
 
 slice-write-board : tie.Need-slice-write-board
-slice-write-board c =
-    let e = c .before .before .before .before .before in
-    let cleared = c .before .before in
-    count-inside _ (board (e .before .before)) _ (e .if2 .left) (cleared .clear .last .0) (cleared .clear .ensures .0)
-    (cleared .clear .ensures .1)
+slice-write-board c = omega (arith, board (c .before .before .before .before .before .before .before) .three)
 
 same-length-3 : tie.Need-same-length-3
 same-length-3 c = search needs

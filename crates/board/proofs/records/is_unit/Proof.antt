@@ -35,7 +35,8 @@ wanted c =
 
 returns : tie.Need-returns Inv-loop μ-loop
 returns c =
-    tells-no (λ row. c .if2 .taken (row (c .before .before .before .before .loop .t) (omega arith) ∙ sym (wanted (c .before .before))))
+    let t = c .before .before .before .before .loop .t in
+    tells-no (λ row. omega (arith, row t (omega arith), wanted (c .before .before)))
 
 add-t : tie.Need-add-t Inv-loop μ-loop
 add-t c = omega arith
@@ -46,7 +47,7 @@ loop-less c = omega arith
 loop-again : tie.Need-loop-again Inv-loop μ-loop
 loop-again c = (
   omega arith,
-  below-more _ _ (c .before .before .before .before .loop .inv .1) (c .if2 .left ∙ wanted (c .before .before)),
+  below-more _ _ (c .before .before .before .before .loop .inv .1) (omega (arith, wanted (c .before .before))),
 )
 
 returns-2 : tie.Need-returns-2 Inv-loop μ-loop

@@ -1,0 +1,2 @@
+pub mod FreshBoard
+pub mod Starred

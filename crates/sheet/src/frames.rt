@@ -1,0 +1,66 @@
+// The frames of the input, taken one by one, each with its line.
+ghost use mathlib.Core.Path.{_≡_};
+ghost use Prim.Native.Nat.{_≤_};
+ghost use lib.ListN.{length};
+use super::lent;
+use super::lines;
+use libc::STDIN_FILENO;
+use modulus::Refusal;
+use sheet_lines::FrameInput;
+
+// A whole frame: the board takes it, and word 2 of the board is the count afterwards.
+fn take(board: &mut [u32], frame: &[u8], mix: &mut [u32])
+    requires { ⌜ 3 ≤ length (now board) ⌝ }
+{
+    let answer = board::take(board, frame, mix);
+    lines::answer(answer, board[2]);
+}
+
+// Reads a frame's bytes into the lent ones, which are as many as its length says, and takes it. Answers whether it was whole.
+fn take_body(board: &mut [u32], frame: &mut [u8], mix: &mut [u32]) -> bool
+    requires { ⌜ 3 ≤ length (now board) ⌝ }
+{
+    let came = io::read_full(STDIN_FILENO, frame);
+    let FrameInput::Frame(_) = sheet_lines::frame_body(frame.len(), came) else {
+        lines::refused(Refusal::FrameLength);
+        return false;
+    };
+    take(board, frame, mix);
+    true
+}
+
+// Reads and takes the next frame. Answers whether there was one, and whole.
+fn take_next(board: &mut [u32], bytes: &mut [u8], mix: &mut [u32]) -> bool
+    requires { ⌜ (3 ≤ length (now board)) × (65536 ≡ length (now bytes)) ⌝ }
+{
+    let mut pair = lent::frame_length();
+    let came = io::read_full(STDIN_FILENO, &mut pair);
+    match sheet_lines::frame_start(&pair[..came]) {
+        FrameInput::End => false,
+        FrameInput::Cut => {
+            lines::refused(Refusal::FrameLength);
+            false
+        }
+        FrameInput::Frame(length) => take_body(board, &mut bytes[..length], mix),
+    }
+}
+
+// Takes the frames one after the other. A proved loop has to end, and nothing says that the input does, so it counts down, from
+// a number of frames that no line sends: at a thousand million frames a second that takes five hundred years.
+fn take_each(board: &mut [u32], bytes: &mut [u8], mix: &mut [u32])
+    requires { ⌜ (3 ≤ length (now board)) × (65536 ≡ length (now bytes)) ⌝ }
+{
+    let mut left = u64::MAX;
+    while 0 < left && take_next(board, bytes, mix) {
+        left -= 1;
+    }
+}
+
+// All frames, onto the board of n records. A length has two bytes, so that every frame has room.
+pub fn take_all(n: usize, board: &mut [u32])
+    requires { ⌜ (n ≤ 64) × (3 ≤ length (now board)) ⌝ }
+{
+    let mut bytes = io::large_buffer();
+    let mut mix = lent::words();
+    take_each(board, &mut bytes, &mut mix[..n]);
+}

@@ -1,0 +1,40 @@
+// A heat: its board is opened, all frames are taken, and the records are shown.
+ghost use mathlib.Core.Path.{_≡_};
+ghost use Prim.Native.Nat.{_+_, _*_, _≤_};
+ghost use lib.ListN.{length};
+use super::frames;
+use super::lent;
+use super::lines;
+use super::records;
+use board::OpenAnswer;
+
+// How many words are lent for n records: those of a board, and where n is above 64, and there is none, three.
+fn board_length(n: u32) -> usize
+    ensures { λ r. ⌜ (3 ≤ r) × (r ≤ 4163) × (n ≤ 64 → r ≡ 3 + n * (n + 1)) ⌝ }
+{
+    if 64 < n {
+        return 3;
+    }
+    let size = n as usize;
+    3 + size * (size + 1)
+}
+
+// Opens the board in the lent words, takes the frames and shows the records; a refused open is one line.
+fn open_in(p: u32, n: u32, board: &mut [u32])
+    requires { ⌜ 3 ≤ length (now board) ⌝ }
+{
+    match board::open(p, n, board) {
+        OpenAnswer::Opened => {
+            frames::take_all(n as usize, board);
+            records::show(n as usize, board);
+        }
+        OpenAnswer::Refused(kind) => lines::refused(kind),
+    }
+}
+
+// The heat that the header opens.
+pub fn open(p: u32, n: u32) {
+    let mut words = lent::board();
+    let size = board_length(n);
+    open_in(p, n, &mut words[..size]);
+}

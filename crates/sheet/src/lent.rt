@@ -1,0 +1,45 @@
+// The memory that the program lends. Each function gives only the length, so that no goal holds the zeros.
+ghost use mathlib.Core.Path.{_≡_};
+ghost use lib.ListN.{length};
+
+// The header's bytes: p in four, n in one.
+pub fn header() -> [u8; 5]
+    ensures { λ r. ⌜ 5 ≡ length r ⌝ }
+{
+    [0; 5]
+}
+
+// The bytes of a frame's length.
+pub fn frame_length() -> [u8; 2]
+    ensures { λ r. ⌜ 2 ≡ length r ⌝ }
+{
+    [0; 2]
+}
+
+// The words of the largest board, 3 + 64 × 65.
+pub fn board() -> [u32; 4163]
+    ensures { λ r. ⌜ 4163 ≡ length r ⌝ }
+{
+    [0; 4163]
+}
+
+// A word for each of 64 records: the mix, the marks.
+pub fn words() -> [u32; 64]
+    ensures { λ r. ⌜ 64 ≡ length r ⌝ }
+{
+    [0; 64]
+}
+
+// A signed number for each of 64 records.
+pub fn numbers() -> [i32; 64]
+    ensures { λ r. ⌜ 64 ≡ length r ⌝ }
+{
+    [0; 64]
+}
+
+// A line.
+pub fn line() -> [u8; 32]
+    ensures { λ r. ⌜ 32 ≡ length r ⌝ }
+{
+    [0; 32]
+}

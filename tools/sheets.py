@@ -1,0 +1,185 @@
+#!/usr/bin/env python3
+"""Stored runs of the sheet program: tests/sheet/NAME.in and NAME.out, and the crate's own run, crates/sheet/stdin and stdout.
+
+A model of the sheet, straight from document 01's section "The sheet program and the C side", says what each input prints. Its
+ledger is a reduced echelon form that each new frame joins; primes and the bytes of frames are those of tools/boards.py, whose
+ledger solves a system for each frame instead. The example of document 01 is also written out here, and the model must print it.
+
+  tools/sheets.py             writes all files again, from the repository's root
+"""
+import os
+import random
+import struct
+import sys
+
+sys.dont_write_bytecode = True
+from boards import frame_of, prime, read  # noqa: E402
+
+EXAMPLE = b'new 1\nnew 2\nrepeat 2\nconflict 2\nnew 3\n0 -2\n1 0\n2 -1\nmissing 0\n'
+
+
+class Ledger:
+    """The standing frames as a reduced echelon form: rows of n multipliers and the value, by their leading column."""
+
+    def __init__(self, p, n):
+        self.p, self.n, self.rows = p, n, {}
+
+    def take(self, row, value):
+        """'new', 'repeat' or 'conflict'."""
+        p, rest = self.p, row + [value]
+        for lead, standing in self.rows.items():
+            factor = rest[lead]
+            rest = [(x - factor * y) % p for x, y in zip(rest, standing)]
+        lead = next((j for j in range(self.n) if rest[j]), None)
+        if lead is None:
+            return 'conflict' if rest[self.n] else 'repeat'
+        inverse = pow(rest[lead], -1, p)
+        rest = [x * inverse % p for x in rest]
+        for other, standing in self.rows.items():
+            factor = standing[lead]
+            self.rows[other] = [(x - factor * y) % p for x, y in zip(standing, rest)]
+        self.rows[lead] = rest
+        return 'new'
+
+    def record(self, j):
+        """Its signed reading, where its row has no multiplier but its own."""
+        row = self.rows.get(j)
+        if row is None or any(x for c, x in enumerate(row[:self.n]) if c != j):
+            return 'unknown'
+        return str(row[self.n] if 2 * row[self.n] <= self.p else row[self.n] - self.p)
+
+
+def sheet(data):
+    """What the program prints for these bytes."""
+    if len(data) < 5:
+        return b'refused 6\n'
+    p, n, at, lines = int.from_bytes(data[:4], 'big'), data[4], 5, []
+    if not prime(p) or not 1 <= n <= 64:
+        return b'refused 1\n' if not prime(p) else b'refused 2\n'
+    ledger = Ledger(p, n)
+    while at < len(data):
+        size = int.from_bytes(data[at:at + 2], 'big')
+        frame = data[at + 2:at + 2 + size]
+        if len(data) < at + 2 or len(frame) < size:
+            lines.append('refused 6')
+            break
+        found = read(p, n, frame)
+        if isinstance(found, int):
+            lines.append('refused %d' % found)
+        else:
+            answer = ledger.take(*found)
+            lines.append('%s %d' % (answer, len(ledger.rows)))
+        at += 2 + size
+    lines += ['%d %s' % (j, ledger.record(j)) for j in range(n)]
+    lines.append('missing %d' % (n - len(ledger.rows)))
+    return ''.join(line + '\n' for line in lines).encode()
+
+
+def header(p, n):
+    return struct.pack('>IB', p, n)
+
+
+def sized(frame):
+    return struct.pack('>H', len(frame)) + frame
+
+
+def stream(p, n, *frames):
+    """Each frame is its bytes, or (multipliers, value)."""
+    return header(p, n) + b''.join(sized(f if isinstance(f, bytes) else frame_of(n, *f)) for f in frames)
+
+
+def heat(rng, p, n, count):
+    """A heat as the hall hears it: frames of random rows, some doubled, summed, falsified or damaged."""
+    records = [rng.randrange(p) for _ in range(n)]
+    heard, frames = [], []
+    for _ in range(count):
+        part = rng.choice([0.1, 0.5, 1.0])
+        row = [rng.randrange(p) if rng.random() < part else 0 for _ in range(n)]
+        kind = rng.random()
+        if kind < 0.1 and heard:
+            row = rng.choice(heard)
+        elif kind < 0.25 and heard:
+            f, g, a, b = rng.randrange(p), rng.randrange(p), rng.choice(heard), rng.choice(heard)
+            row = [(f * x + g * y) % p for x, y in zip(a, b)]
+        value = sum(x * r for x, r in zip(row, records)) % p
+        if rng.random() < 0.1:
+            value = (value + 1) % p
+        else:
+            heard.append(row)
+        frame = bytearray(frame_of(n, row, value))
+        kind = rng.random()
+        if kind < 0.03:
+            frame = frame[:rng.randrange(len(frame))]
+        elif kind < 0.06:
+            frame += bytes(rng.randrange(256) for _ in range(rng.randrange(1, 400)))
+        elif kind < 0.09:
+            frame[rng.randrange(len(frame))] ^= 1 << rng.randrange(8)
+        frames.append(bytes(frame))
+    return stream(p, n, *frames)
+
+
+ROWS = [([1, 2, 0], 5), ([0, 1, 3], 4), ([1, 3, 3], 2), ([1, 3, 3], 3), ([0, 0, 1], 6)]
+FIRST, SECOND = [frame_of(3, *f) for f in ROWS[:2]]
+
+
+def cut_inputs():
+    whole = stream(7, 3, *ROWS)
+    yield from ((f'header-{k}-bytes', whole[:k]) for k in range(5))
+    yield 'header-alone', whole[:5]
+    one = stream(7, 3, FIRST)
+    yield 'cut-length', one + b'\0'
+    yield 'cut-length-alone', header(7, 3) + b'\x01'
+    yield from ((f'cut-frame-{k}-bytes', one + sized(SECOND)[:2 + k]) for k in (0, 1, 5, len(SECOND) - 1))
+    # the bytes that came of these would be another frame's answer
+    yield 'cut-frame-whole-inside', one + struct.pack('>H', 20) + SECOND
+    yield 'cut-frame-padding-inside', one + struct.pack('>H', 13) + b'\x08' + bytes(8)
+    yield 'cut-frame-long', one + struct.pack('>H', 65535) + bytes(65534)
+
+
+def refused_inputs():
+    yield from ((f'open-modulus-{p}', stream(p, 3, *ROWS)) for p in (0, 1, 4, 2147117569, 2147483648, 4294967295))
+    yield from ((f'open-records-{n}', header(7, n) + sized(FIRST)) for n in (0, 65, 255))
+    yield 'open-modulus-before-records', header(4, 0)
+    yield 'frame-number', stream(7, 3, b'\x01' + struct.pack('>II', 7, 0), ([1, 0, 0], 7), FIRST)
+    yield 'frame-length', stream(7, 3, FIRST[:-1], FIRST + b'\0', b'\x01', FIRST)
+    yield 'frame-no-bytes', stream(7, 3, b'', FIRST, b'', SECOND, b'')
+    yield 'frame-300-bytes', stream(7, 3, FIRST + bytes(300 - len(FIRST)), SECOND)
+    yield 'frame-65535-bytes', stream(7, 3, FIRST + bytes(65535 - len(FIRST)), b'\x80' + bytes(65534), SECOND)
+    yield 'frame-padding', stream(7, 3, b'\x08' + struct.pack('>II', 1, 2), FIRST)
+    yield 'frame-multiplier-zero', stream(7, 3, b'\x01' + bytes(8), FIRST)
+    yield 'frame-conflict', stream(7, 3, ([0, 0, 0], 0), ([0, 0, 0], 1), FIRST, ([2, 4, 0], 3), ([2, 4, 0], 4))
+
+
+def heats():
+    rng = random.Random(2029)
+    yield 'one-record-modulus-2', stream(2, 1, ([0], 0), ([1], 1), ([1], 0), ([1], 1))
+    yield 'modulus-2', heat(rng, 2, 9, 60)
+    yield 'both-ends', stream(2147483647, 3, ([1, 0, 0], 1073741823), ([0, 1, 0], 1073741824), ([0, 0, 5], 2147483642))
+    yield 'none-settled', stream(7, 3, *ROWS[:2])
+    yield '64-records', heat(rng, 2147483629, 64, 90)
+    yield '64-records-modulus-2', heat(rng, 2, 64, 120)
+    yield '64-records-longest', stream(251, 64, frame_of(64, [1] * 64, 5), frame_of(64, [1] * 64, 5) + b'\0', bytes(269))
+    yield 'many-frames', heat(rng, 251, 16, 1000)
+    yield from ((f'heat-{n}-records', heat(rng, p, n, 3 * n)) for p, n in ((3, 5), (5, 8), (65537, 12), (2147483647, 33)))
+
+
+def store(path, data):
+    with open(path, 'wb') as f:
+        f.write(data)
+
+
+def main():
+    root = os.path.join(os.path.dirname(os.path.abspath(__file__)), '..')
+    example = stream(7, 3, *ROWS)
+    assert sheet(example) == EXAMPLE
+    store(os.path.join(root, 'crates/sheet/stdin'), example)
+    store(os.path.join(root, 'crates/sheet/stdout'), EXAMPLE)
+    folder = os.path.join(root, 'tests/sheet')
+    runs = [*cut_inputs(), *refused_inputs(), *heats()]
+    for name, data in runs:
+        store(os.path.join(folder, name + '.in'), data)
+        store(os.path.join(folder, name + '.out'), sheet(data))
+    print('%d runs, and the example' % len(runs), file=sys.stderr)
+
+
+main()
