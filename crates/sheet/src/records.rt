@@ -6,6 +6,7 @@ use super::lent;
 use super::lines;
 use board::CountAnswer;
 
+// A line for each record.
 fn print(marks: &[u32], numbers: &[i32])
     requires { ⌜ (length (now marks) ≡ length (now numbers)) × (length (now marks) ≤ 64) ⌝ }
 {
@@ -16,7 +17,7 @@ fn print(marks: &[u32], numbers: &[i32])
     }
 }
 
-// Show is not refused here: the words are those that open and takes have left (11), and n marks and n numbers are lent (3).
+// Show is not refused here: after open and takes 11 never occurs (demand 3), and n marks and n numbers are lent (3).
 fn show_in(board: &[u32], marks: &mut [u32], numbers: &mut [i32])
     requires { ⌜ (length (now marks) ≡ length (now numbers)) × (length (now marks) ≤ 64) ⌝ }
 {
