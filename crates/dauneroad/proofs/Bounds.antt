@@ -12,9 +12,9 @@ use Rattle.algebra.proofs.Choice.{pick-elim}
 use Rattle.algebra.proofs.Independent.{count-most}
 use Rattle.modulus.specs.Prime.{IsModulus}
 use Rattle.modulus.specs.Decide.{modulus?}
-use Rattle.matrix.specs.Checks.{sizes?, long?, below?}
-use Rattle.matrix.specs.Chosen.{rank}
-use Rattle.matrix.specs.Calls.{Quasiinverted, Kernel, Solved, columnsOf, rankOf, solves?, solution, quasiinverseCall, kernelCall, solveCall}
+use Rattle.tables.specs.Checks.{sizes?, long?, below?}
+use Rattle.tables.specs.Chosen.{rank}
+use Rattle.tables.specs.Calls.{Quasiinverted, Kernel, Solved, columnsOf, rankOf, solves?, solution, quasiinverseCall, kernelCall, solveCall}
 use Rattle.frame.specs.Format.{longest}
 use Rattle.frame.specs.Checks.{frameSize?, below? as all-below?}
 use Rattle.frame.specs.Calls.{Outcome, writeCall}

@@ -5,7 +5,7 @@ use Prim.Native.Nat.{ℕ}
 use lib.IntN.{ℤ, natAbs}
 use Rattle.modulus.specs.Told.{Told}
 use Rattle.signed.specs.Calls.{signedCall, residueCall}
-use Rattle.matrix.specs.Calls.{quasiinverseCall, kernelCall, solveCall}
+use Rattle.tables.specs.Calls.{quasiinverseCall, kernelCall, solveCall}
 use Rattle.frame.specs.Calls.{readCall, writeCall, sealCall}
 use Rattle.ledger.specs.Calls.{openCall, takeCall, withdrawCall, showCall}
 

@@ -6,10 +6,10 @@ use mathlib.Core.List.{List, map, Memᴰ·of-map, List·Memᴰ, List·Memᴰ·ca
 use native.Mathlib.Omega.{arith}
 use Rattle.modulus.specs.Prime.{IsModulus}
 use Rattle.field.specs.Written.{tabulate}
-use Rattle.matrix.specs.Examples.{tableExamples}
-use Rattle.matrix.proofs.Checker.{_and_, everyBelow}
-use Rattle.matrix.proofs.CheckedTables.{isPrime, prime-checked}
-use Rattle.matrix.proofs.Examples.{starred-tables-hold}
+use Rattle.tables.specs.Examples.{tableExamples}
+use Rattle.tables.proofs.Checker.{_and_, everyBelow}
+use Rattle.tables.proofs.CheckedTables.{isPrime, prime-checked}
+use Rattle.tables.proofs.Examples.{starred-tables-hold}
 use Rattle.frame.specs.Format.{width, mapLength, bytesOf, stands, mapByte, mapBytes, packed, valueBytes, frameOf}
 use Rattle.frame.specs.Examples.{frameExamples}
 use Rattle.frame.proofs.Examples.{starred-frames-read}

@@ -6,7 +6,7 @@ use Prim.Native.Nat.{ℕ}
 use lib.ListN.{length}
 use Rattle.modulus.specs.declared.Refusal.the-variants.{Conflict}
 use Rattle.modulus.specs.Told.{Told, refused}
-use Rattle.matrix.specs.Examples.{TableExample, tableExamples, Holds as TableHolds}
+use Rattle.tables.specs.Examples.{TableExample, tableExamples, Holds as TableHolds}
 use Rattle.frame.specs.Reading.{accepted, readFrame}
 use Rattle.frame.specs.Examples.{FrameExample, frameExamples}
 use Rattle.ledger.specs.Board.{layout}

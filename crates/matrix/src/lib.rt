@@ -1,17 +1,13 @@
 // Tables: quasiinverse, kernel and solution. Each call checks, in this order, 1, p; 2, the sizes; 3, the lengths; 4, the
 // numbers; and leaves all lent memory as it was where it refuses by these.
 ghost use mathlib.Core.Path.{_≡_};
-ghost use Rattle.matrix.specs.Told.{tableTold};
-ghost use Rattle.matrix.specs.Calls.{quasiinverted, quasiinverseCall, kernelled, kernelCall, solvedAs, solveCall};
+ghost use Rattle.tables.specs.Told.{tableTold};
+ghost use Rattle.tables.specs.Calls.{quasiinverted, quasiinverseCall, kernelled, kernelCall, solvedAs, solveCall};
 use modulus::Refusal;
+use tables::TableAnswer;
+use tables::parts;
 
-pub mod parts;
-
-// What a call on a table answers: its result, or why it refuses.
-pub enum TableAnswer {
-    Done(u32),
-    Refused(Refusal),
-}
+pub mod work;
 
 // The quasiinverse D of the table a, m rows and n columns, the marks of its columns I and of its rows J, and the rank.
 pub fn quasiinverse(
@@ -80,7 +76,7 @@ pub fn kernel(p: u32, m: u32, n: u32, a: &[u32], basis: &mut [u32]) -> TableAnsw
     if !parts::below(p, a) {
         return TableAnswer::Refused(Refusal::Number);
     }
-    TableAnswer::Done(parts::kernel_of(p, height, width, a, basis))
+    TableAnswer::Done(work::kernel_of(p, height, width, a, basis))
 }
 
 // A solution z of A x = w, with the mix u 0 and the rank; or 5, with z as it was and a mix u that shows that there is none.
@@ -124,5 +120,5 @@ pub fn solve(
     if !parts::below(p, w) {
         return TableAnswer::Refused(Refusal::Number);
     }
-    parts::solve_of(p, height, width, a, w, z, u)
+    work::solve_of(p, height, width, a, w, z, u)
 }

@@ -3,12 +3,12 @@ use mathlib.Core.Path.{sym}
 use native.Mathlib.Omega.{arith}
 use Rattle.modulus.specs.Prime.{IsModulus}
 use Rattle.modulus.proofs.Guards.{no-modulus, is-modulus}
-use Rattle.matrix.specs.Checks.{Sizes}
-use Rattle.matrix.specs.Parts.{Checked}
-use Rattle.matrix.proofs.Answers.{kernel-modulus, kernel-size, kernel-a-length, kernel-basis-length, kernel-number}
-use Rattle.matrix.proofs.Finished.{kernel-finished}
-use Rattle.matrix.proofs.Guards.{not-below, all-below}
-use Rattle.matrix.proofs.Memory.{table-most}
+use Rattle.tables.specs.Checks.{Sizes}
+use Rattle.tables.specs.Parts.{Checked}
+use Rattle.tables.proofs.Answers.{kernel-modulus, kernel-size, kernel-a-length, kernel-basis-length, kernel-number}
+use Rattle.tables.proofs.Finished.{kernel-finished}
+use Rattle.tables.proofs.Guards.{not-below, all-below}
+use Rattle.tables.proofs.Memory.{table-most}
 use Rattle.matrix.proofs.kernel.Statement.{statement}
 use Rattle.matrix.proofs.kernel.Tie as tie
 

@@ -4,9 +4,9 @@ use mathlib.Core.Path.{sym}
 use native.Mathlib.Omega.{arith}
 use Rattle.modulus.specs.Prime.{IsModulus}
 use Rattle.modulus.proofs.Guards.{no-modulus, is-modulus}
-use Rattle.matrix.specs.Checks.{Sizes}
-use Rattle.matrix.specs.Parts.{Checked, Room}
-use Rattle.matrix.proofs.Answers.{
+use Rattle.tables.specs.Checks.{Sizes}
+use Rattle.tables.specs.Parts.{Checked, Room}
+use Rattle.tables.proofs.Answers.{
   quasiinverse-modulus,
   quasiinverse-size,
   quasiinverse-a-length,
@@ -15,10 +15,10 @@ use Rattle.matrix.proofs.Answers.{
   quasiinverse-rows-length,
   quasiinverse-number,
 }
-use Rattle.matrix.proofs.Basis.{columns-few}
-use Rattle.matrix.proofs.Finished.{quasiinverse-finished}
-use Rattle.matrix.proofs.Guards.{not-below, all-below}
-use Rattle.matrix.proofs.Memory.{table-most}
+use Rattle.tables.proofs.Basis.{columns-few}
+use Rattle.tables.proofs.Finished.{quasiinverse-finished}
+use Rattle.tables.proofs.Guards.{not-below, all-below}
+use Rattle.tables.proofs.Memory.{table-most}
 use Rattle.matrix.proofs.quasiinverse.Statement.{statement}
 use Rattle.matrix.proofs.quasiinverse.Tie as tie
 

@@ -3,9 +3,9 @@ use mathlib.Core.Path.{sym}
 use native.Mathlib.Omega.{arith}
 use Rattle.modulus.specs.Prime.{IsModulus}
 use Rattle.modulus.proofs.Guards.{no-modulus, is-modulus}
-use Rattle.matrix.specs.Checks.{Sizes}
-use Rattle.matrix.specs.Parts.{Checked, System}
-use Rattle.matrix.proofs.Answers.{
+use Rattle.tables.specs.Checks.{Sizes}
+use Rattle.tables.specs.Parts.{Checked, System}
+use Rattle.tables.proofs.Answers.{
   solve-modulus,
   solve-size,
   solve-a-length,
@@ -15,9 +15,9 @@ use Rattle.matrix.proofs.Answers.{
   solve-a-number,
   solve-w-number,
 }
-use Rattle.matrix.proofs.Finished.{solve-finished}
-use Rattle.matrix.proofs.Guards.{not-below, all-below}
-use Rattle.matrix.proofs.Memory.{table-most}
+use Rattle.tables.proofs.Finished.{solve-finished}
+use Rattle.tables.proofs.Guards.{not-below, all-below}
+use Rattle.tables.proofs.Memory.{table-most}
 use Rattle.matrix.proofs.solve.Statement.{statement}
 use Rattle.matrix.proofs.solve.Tie as tie
 

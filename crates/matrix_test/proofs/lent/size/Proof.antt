@@ -1,6 +1,6 @@
 -- `matrix_test::lent::size` meets its contract: at most 64 rows of at most 64 words are at most 4,096.
 use native.Mathlib.Omega.{arith}
-use Rattle.matrix.proofs.Memory.{table-most}
+use Rattle.tables.proofs.Memory.{table-most}
 use Rattle.matrix_test.proofs.lent.size.Statement.{statement}
 use Rattle.matrix_test.proofs.lent.size.Tie as tie
 
