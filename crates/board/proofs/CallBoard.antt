@@ -7,9 +7,9 @@ use Prim.Native.Nat.{ℕ}
 use borrow.Author.Tests.{not-false}
 use Rattle.ledger.specs.Board.{IsBoard}
 use Rattle.ledger.specs.Decide.{board?}
-use Rattle.board.specs.Held.{Held}
-use Rattle.board.proofs.TestAnswers.{tells-pick, guard-taken}
-use Rattle.board.proofs.TestBoard.{BoardTold}
+use Rattle.standing.specs.Held.{Held}
+use Rattle.standing.proofs.TestAnswers.{tells-pick, guard-taken}
+use Rattle.standing.proofs.TestBoard.{BoardTold}
 
 module _ {ws rows d : List ℕ} {t : Bool} (told : BoardTold ws rows d t) where
   pub is-held : not t ≡ false → Held ws rows d

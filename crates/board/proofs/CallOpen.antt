@@ -16,7 +16,7 @@ use Rattle.ledger.specs.Board.{boardLength}
 use Rattle.ledger.specs.Calls.{opened, openCall}
 use Rattle.ledger.specs.Changes.{Fresh}
 use Rattle.ledger.proofs.LayoutChanges.{fresh-layout}
-use Rattle.board.proofs.TestSizes.{board-long}
+use Rattle.standing.proofs.TestSizes.{board-long}
 
 -- cleared words with p and n at the front are a fresh board
 fresh : (p n : ℕ) (ws : List ℕ) → length ws ≡ boardLength n → ((q : ℕ) → getD ws q 0 ≡ 0) → Fresh p n (set (set ws 0 p) 1 n)

@@ -19,8 +19,8 @@ use Rattle.ledger.specs.Changes.{Dropped}
 use Rattle.ledger.proofs.Parse.{words-count, board-layout, board-wide}
 use Rattle.ledger.proofs.LayoutChanges.{dropped-layout}
 use Rattle.ledger.proofs.WordsCalls.{withdraw-on-board, withdraw-off-board}
-use Rattle.board.proofs.TestSizes.{rows-inside}
-use Rattle.board.proofs.TestBoard.{board-header}
+use Rattle.standing.proofs.TestSizes.{rows-inside}
+use Rattle.standing.proofs.TestBoard.{board-header}
 
 -- the words with the part from row m on cleared to ys, and m for the count
 module _ (n k m : ℕ) (ws ys : List ℕ) (fewer : m ≤ k) (inside : 3 + k * (n + 1) ≤ length ws)

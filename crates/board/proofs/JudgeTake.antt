@@ -31,7 +31,7 @@ use Rattle.ledger.proofs.Parse.{words-count, rows-table, rows-values, board-pro
 use Rattle.ledger.proofs.Proper.{append-proper, length-more}
 use Rattle.ledger.proofs.LayoutChanges.{appended-layout}
 use Rattle.ledger.proofs.LedgerLaws.{take-new, take-repeat, take-conflict}
-use Rattle.board.specs.Held.{Held}
+use Rattle.standing.specs.Held.{Held}
 use Rattle.board.proofs.JudgeRows.{Mixed}
 use Rattle.board.proofs.JudgeCombinations.{residuesOf, line-residues, Compared, same-combines, combines-same, multiplier-below}
 

@@ -1,15 +1,3 @@
-pub mod TestAnswers
-pub mod TestSizes
-pub mod TestFilled
-pub mod TestRows
-pub mod TestIndependent
-pub mod TestBoard
-pub mod RecordUnits
-pub mod RecordTables
-pub mod RecordRows
-pub mod RecordSolutions
-pub mod RecordSettled
-pub mod RecordShown
 pub mod JudgeWrites
 pub mod JudgeRows
 pub mod JudgeCombinations

@@ -1,5 +1,1 @@
 pub mod Told
-pub mod Answers
-pub mod Held
-pub mod Tested
-pub mod Records

@@ -13,7 +13,7 @@ ghost use Rattle.ledger.specs.Changes.{Appended};
 ghost use Rattle.ledger.specs.Steps.{takeAccepted};
 ghost use Rattle.ledger.specs.Calls.{takeOutcome, laidOut};
 ghost use Rattle.board.specs.Told.{takeTold};
-ghost use Rattle.board.specs.Held.{Held};
+ghost use Rattle.standing.specs.Held.{Held};
 use crate::TakeAnswer;
 use modulus::Refusal;
 

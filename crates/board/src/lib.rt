@@ -4,10 +4,10 @@ ghost use Rattle.board.specs.Told.{openTold, takeTold, answerTold};
 ghost use Rattle.ledger.specs.Steps.{shown};
 ghost use Rattle.ledger.specs.Calls.{opened, openCall, takeOutcome, takeCall, withdrawCall, showCall};
 use modulus::Refusal;
+use standing::records;
+use standing::test;
 
 pub mod judge;
-pub mod records;
-pub mod test;
 
 pub enum OpenAnswer {
     Opened,

@@ -2,7 +2,7 @@
 -- writes what the ledger shows.
 use native.Mathlib.Omega.{arith}
 use borrow.Author.Needs.{needs}
-use Rattle.board.specs.Held.{Held}
+use Rattle.standing.specs.Held.{Held}
 use Rattle.board.proofs.CallBoard.{is-held, no-board}
 use Rattle.board.proofs.CallShow.{show-no-board, show-no-marks, show-no-numbers, show-done}
 use Rattle.board.proofs.show.Statement.{statement}

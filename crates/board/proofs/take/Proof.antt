@@ -6,7 +6,7 @@ use lib.Seq.{length-take-le}
 use borrow.Author.Needs.{needs}
 use Rattle.ledger.specs.Board.{modulusWord, sizeWord}
 use Rattle.ledger.proofs.Proper.{Numbers}
-use Rattle.board.specs.Held.{Held}
+use Rattle.standing.specs.Held.{Held}
 use Rattle.board.proofs.CallBoard.{is-held, no-board}
 use Rattle.board.proofs.CallTake.{take-no-board, take-no-length, numbers-found, row-inside, row-long, row-below, take-unread, take-read}
 use Rattle.board.proofs.take.Statement.{statement}

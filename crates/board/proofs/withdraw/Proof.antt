@@ -6,8 +6,8 @@ use native.Mathlib.Omega.{arith}
 use lib.ListN.{length}
 use borrow.Author.Needs.{needs}
 use Rattle.ledger.specs.Board.{IsBoard, sizeWord, countWord}
-use Rattle.board.proofs.TestSizes.{rows-most, rows-inside}
-use Rattle.board.proofs.TestBoard.{board-header}
+use Rattle.standing.proofs.TestSizes.{rows-most, rows-inside}
+use Rattle.standing.proofs.TestBoard.{board-header}
 use Rattle.board.proofs.CallBoard.{is-held, no-board}
 use Rattle.board.proofs.CallWithdraw.{withdraw-no-board, withdraw-too-many, withdraw-done}
 use Rattle.board.proofs.withdraw.Statement.{statement}

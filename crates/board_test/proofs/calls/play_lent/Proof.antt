@@ -4,7 +4,7 @@ use mathlib.Core.Path.{sym}
 use Prim.Native.Nat.{_+_, _*_, _≤_}
 use native.Mathlib.Omega.{arith}
 use lib.Seq.{length-take-le}
-use Rattle.board.proofs.TestSizes.{rows-most}
+use Rattle.standing.proofs.TestSizes.{rows-most}
 use borrow.Author.Needs.{needs}
 use Rattle.board_test.proofs.calls.play_lent.Statement.{statement}
 use Rattle.board_test.proofs.calls.play_lent.Tie as tie

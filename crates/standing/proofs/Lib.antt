@@ -1,0 +1,12 @@
+pub mod TestAnswers
+pub mod TestSizes
+pub mod TestFilled
+pub mod TestRows
+pub mod TestIndependent
+pub mod TestBoard
+pub mod RecordUnits
+pub mod RecordTables
+pub mod RecordRows
+pub mod RecordSolutions
+pub mod RecordSettled
+pub mod RecordShown

@@ -1,0 +1,109 @@
+-- `standing::records::settled` meets its contract: row j of D R, combined into a row of zeros, is the unit row of j as numbers
+-- exactly if it is as residues.
+use mathlib.Core.Path.{_≡_, sym}
+use mathlib.Core.List.{List}
+use Prim.Native.Nat.{ℕ, _+_, _*_, _≤_, _<_}
+use native.Mathlib.Omega.{arith}
+use lib.ListN.{length}
+use Rattle.standing.proofs.RecordTables.{row-inside, rowPart, part-length}
+use Rattle.standing.proofs.RecordRows.{front-length, row-fits, row-front-length, row-tells}
+use Rattle.standing.proofs.records.settled.Statement.{statement}
+use Rattle.standing.proofs.records.settled.Tie as tie
+
+zero-row-requires : tie.Need-zero-row-requires
+zero-row-requires c κs = tt
+
+-- row j of D lies in d
+in-d : (c : tie.Start) → c .args .j * c .args .k + c .args .k ≤ 4096
+in-d c = row-inside (c .args .j) (c .args .k) (omega arith) (omega arith)
+
+part-in-d : (c : tie.Start) → length (rowPart (c .args .k) (c .args .j) (c .args .d .now)) ≡ c .args .k
+part-in-d c = part-length (c .args .k) (c .args .j) (c .args .d .now) (omega (arith, in-d c))
+
+mul-at : tie.Need-mul-at
+mul-at c = omega (arith, in-d (c .before .before .before))
+
+add-end : tie.Need-add-end
+add-end c = omega (arith, in-d (c .before .before .before))
+
+mul-combine : tie.Need-mul-combine
+mul-combine c = omega (arith, in-d (c .before .before .before))
+
+sub-combine : tie.Need-sub-combine
+sub-combine c = omega arith
+
+part-combine-start : tie.Need-part-combine-start
+part-combine-start c = omega arith
+
+part-combine-end : tie.Need-part-combine-end
+part-combine-end c = omega (arith, in-d (c .before .before .before))
+
+array-borrow-prefix-e : tie.Need-array-borrow-prefix-e
+array-borrow-prefix-e c = omega arith
+
+slice-aggregate-combine : tie.Need-slice-aggregate-combine
+slice-aggregate-combine c =
+    let z = c .before .before in
+    sym (front-length (z .before .before .before .args .n) (z .zero-row .result) (omega arith) (z .zero-row .ensures))
+
+combine-requires : tie.Need-combine-requires
+combine-requires c κs =
+    let z = c .before .before in
+    let s = z .before .before .before in
+    let n = s .args .n in
+    let long = part-in-d s in
+    let front = front-length n (z .zero-row .result) (omega arith) (z .zero-row .ensures) in (
+      omega arith,
+      omega (arith, long),
+      omega (arith, front),
+      λ t h. let inside : t < 64 = omega (arith, long) in omega (arith, front, row-inside t n inside (s .pre .1)),
+    )
+
+-- the row that `combine` leaves
+abbrev out : tie.After-combine → List ℕ
+out c = c .combine .last .1 .1 .1 .1 .1 .0
+
+array-share-prefix-e : tie.Need-array-share-prefix-e
+array-share-prefix-e c =
+    let r = c .before in
+    let z = r .before .before .before in
+    let n = z .before .before .before .args .n in
+    row-fits n (z .zero-row .result) (omega arith) (z .zero-row .ensures) (out r) (r .combine .ensures .0)
+
+slice-aggregate-is-unit : tie.Need-slice-aggregate-is-unit
+slice-aggregate-is-unit c =
+    let r = c .before .before in
+    let z = r .before .before .before in
+    let n = z .before .before .before .args .n in
+    sym (row-front-length n (z .zero-row .result) (omega arith) (z .zero-row .ensures) (out r) (r .combine .ensures .0))
+
+is-unit-requires : tie.Need-is-unit-requires
+is-unit-requires c κs = tt
+
+returns : tie.Need-returns
+returns c =
+    let r = c .before .before .before in
+    let z = r .before .before .before in
+    let s = z .before .before .before in
+    let a = s .args in
+    row-tells (a .p) (a .n) (a .k) (a .j) (a .rows .now) (a .d .now) (z .zero-row .result) (out r) (omega arith) (omega arith)
+    (omega arith) (omega (arith, in-d s)) (z .zero-row .ensures) (r .combine .ensures) (c .is-unit .ensures)
+
+pub settled-spec : {M : Type 1} → statement M
+settled-spec =
+    tie.close
+    (tie.spec
+    zero-row-requires
+    mul-at
+    add-end
+    mul-combine
+    sub-combine
+    part-combine-start
+    part-combine-end
+    array-borrow-prefix-e
+    slice-aggregate-combine
+    combine-requires
+    array-share-prefix-e
+    slice-aggregate-is-unit
+    is-unit-requires
+    returns)

@@ -1,0 +1,4 @@
+pub mod Answers
+pub mod Held
+pub mod Tested
+pub mod Records
