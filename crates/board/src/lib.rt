@@ -111,5 +111,7 @@ pub fn show(board: &[u32], marks: &mut [u32], numbers: &mut [i32]) -> CountAnswe
         return CountAnswer::Refused(Refusal::Length);
     }
     records::show_records(board, &rows, &d, marks, numbers);
-    CountAnswer::Count(board[1] - board[2])
+    let count = board[2];
+    let missing = board[1] - count;
+    CountAnswer::Count(missing)
 }

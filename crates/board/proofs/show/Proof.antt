@@ -56,14 +56,14 @@ show-records-requires c κs =
     let e = c .before .before .before .before in
     (held (e .before .before .before), e .before .if2 .left, e .if3 .left)
 
-shared-slice-read-t16 : tie.Need-shared-slice-read-t16
-shared-slice-read-t16 c = omega (arith, held (c .before .before .before .before .before .before .before .before .before .before .before .before) .board .three)
+shared-slice-read-count : tie.Need-shared-slice-read-count
+shared-slice-read-count c = omega (arith, held (c .before .before .before .before .before .before .before .before .before .before .before .before) .board .three)
 
-shared-slice-read-t31 : tie.Need-shared-slice-read-t31
-shared-slice-read-t31 c = omega (arith, held (c .before .before .before .before .before .before .before .before .before .before .before .before .before) .board .three)
+shared-slice-read-missing : tie.Need-shared-slice-read-missing
+shared-slice-read-missing c = omega (arith, held (c .before .before .before .before .before .before .before .before .before .before .before .before .before) .board .three)
 
-sub-t32 : tie.Need-sub-t32
-sub-t32 c = held (c .before .before .before .before .before .before .before .before .before .before .before .before .before) .board .count
+sub-missing : tie.Need-sub-missing
+sub-missing c = held (c .before .before .before .before .before .before .before .before .before .before .before .before .before) .board .count
 
 same-length : tie.Need-same-length
 same-length c = search needs
@@ -95,9 +95,9 @@ show-spec =
     slice-aggregate-show-records
     slice-aggregate-show-records-2
     show-records-requires
-    shared-slice-read-t16
-    shared-slice-read-t31
-    sub-t32
+    shared-slice-read-count
+    shared-slice-read-missing
+    sub-missing
     same-length
     same-length-2
     returns-4)
