@@ -11,7 +11,7 @@ use Rattle.modulus.specs.declared.Refusal.the-variants.{Modulus, Size, Length}
 use Rattle.modulus.specs.Told.{refused}
 use Rattle.modulus.specs.Prime.{IsModulus}
 use Rattle.modulus.specs.Decide.{modulus?}
-use Rattle.frame.specs.Checks.{FrameSize, frameSize?}
+use Rattle.frame_bytes.specs.Checks.{FrameSize, frameSize?}
 use Rattle.ledger.specs.Board.{boardLength}
 use Rattle.ledger.specs.Calls.{opened, openCall}
 use Rattle.ledger.specs.Changes.{Fresh}

@@ -23,11 +23,11 @@ use Rattle.modulus.specs.declared.Refusal.the-variants.{
 }
 use Rattle.modulus.specs.Refusal.{numberOf}
 use Rattle.modulus.specs.Told.{Told, refused}
-use Rattle.frame.specs.declared.ReadAnswer.{ReadAnswer}
-use Rattle.frame.specs.declared.ReadAnswer.the-variants.{Value, Refused}
-use Rattle.frame.specs.Told.{readTold}
-use Rattle.frame.specs.Reading.{Found, accepted, rejected, readFrame}
-use Rattle.frame.specs.Calls.{Outcome, outcome, readOutcome}
+use Rattle.frame_bytes.specs.declared.ReadAnswer.{ReadAnswer}
+use Rattle.frame_bytes.specs.declared.ReadAnswer.the-variants.{Value, Refused}
+use Rattle.frame_bytes.specs.Told.{readTold}
+use Rattle.frame_bytes.specs.Reading.{Found, accepted, rejected, readFrame}
+use Rattle.frame_bytes.specs.Calls.{Outcome, outcome, readOutcome}
 use Rattle.ledger.specs.Steps.{Taken, taken, takeAccepted, ledgerTake}
 use Rattle.ledger.specs.Board.{IsBoard, modulusWord, sizeWord, entriesOf}
 use Rattle.ledger.specs.Calls.{TakeOutcome, takeOutcome, laidOut, takeCall}

@@ -67,9 +67,9 @@ pub fn take(board: &mut [u32], frame: &[u8], mix: &mut [u32]) -> TakeAnswer
         return TakeAnswer::Refused(Refusal::Length);
     }
     let mut f = test::row_room();
-    match frame::read_frame(p, n, frame, &mut f[..n]) {
-        frame::ReadAnswer::Value(v) => judge::take_row(board, &rows, &d, &f[..n], v, mix),
-        frame::ReadAnswer::Refused(kind) => TakeAnswer::Refused(kind),
+    match frame_bytes::reading::read_frame(p, n, frame, &mut f[..n]) {
+        frame_bytes::ReadAnswer::Value(v) => judge::take_row(board, &rows, &d, &f[..n], v, mix),
+        frame_bytes::ReadAnswer::Refused(kind) => TakeAnswer::Refused(kind),
     }
 }
 

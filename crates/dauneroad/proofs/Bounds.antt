@@ -15,10 +15,10 @@ use Rattle.modulus.specs.Decide.{modulus?}
 use Rattle.tables.specs.Checks.{sizes?, long?, below?}
 use Rattle.tables.specs.Chosen.{rank}
 use Rattle.tables.specs.Calls.{Quasiinverted, Kernel, Solved, columnsOf, rankOf, solves?, solution, quasiinverseCall, kernelCall, solveCall}
-use Rattle.frame.specs.Format.{longest}
-use Rattle.frame.specs.Checks.{frameSize?, below? as all-below?}
-use Rattle.frame.specs.Calls.{Outcome, writeCall}
-use Rattle.frame.proofs.Round.{longest-frame}
+use Rattle.frame_bytes.specs.Format.{longest}
+use Rattle.frame_bytes.specs.Checks.{frameSize?, below? as all-below?}
+use Rattle.frame_bytes.specs.Calls.{Outcome, writeCall}
+use Rattle.frame_bytes.proofs.Round.{longest-frame}
 use Rattle.ledger.specs.Ledger.{Entry}
 use Rattle.ledger.specs.Steps.{Withdrawn, Shown}
 use Rattle.ledger.specs.Board.{modulusWord, sizeWord, entriesOf, IsBoard}

@@ -6,7 +6,7 @@ use lib.IntN.{ℤ, natAbs}
 use Rattle.modulus.specs.Told.{Told}
 use Rattle.signed.specs.Calls.{signedCall, residueCall}
 use Rattle.tables.specs.Calls.{quasiinverseCall, kernelCall, solveCall}
-use Rattle.frame.specs.Calls.{readCall, writeCall, sealCall}
+use Rattle.frame_bytes.specs.Calls.{readCall, writeCall, sealCall}
 use Rattle.ledger.specs.Calls.{openCall, takeCall, withdrawCall, showCall}
 
 -- the value that is told, or what stood there

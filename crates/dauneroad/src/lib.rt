@@ -137,8 +137,8 @@ pub extern "C" fn dauneroad_quasiinverse(
     ensures { λ r. ⌜ answer r (now (d .exit), now (columns .exit), now (rows .exit)) ≡ quasiinverseAnswer p m n (now (a .entry)) (now (d .entry)) (now (columns .entry)) (now (rows .entry)) ⌝ }
 {
     match matrix::quasiinverse(p, m, n, a, d, columns, rows) {
-        tables::TableAnswer::Done(k) => 200 + k,
-        tables::TableAnswer::Refused(kind) => modulus::number_of(kind),
+        matrix::TableAnswer::Done(k) => 200 + k,
+        matrix::TableAnswer::Refused(kind) => modulus::number_of(kind),
     }
 }
 
@@ -147,8 +147,8 @@ pub extern "C" fn dauneroad_kernel(p: u32, m: u32, n: u32, a: &[u32], basis: &mu
     ensures { λ r. ⌜ answer r (now (basis .exit)) ≡ kernelAnswer p m n (now (a .entry)) (now (basis .entry)) ⌝ }
 {
     match matrix::kernel(p, m, n, a, basis) {
-        tables::TableAnswer::Done(k) => 200 + k,
-        tables::TableAnswer::Refused(kind) => modulus::number_of(kind),
+        matrix::TableAnswer::Done(k) => 200 + k,
+        matrix::TableAnswer::Refused(kind) => modulus::number_of(kind),
     }
 }
 
@@ -165,7 +165,7 @@ pub extern "C" fn dauneroad_solve(
     ensures { λ r. ⌜ answer r (now (z .exit), now (u .exit)) ≡ solveAnswer p m n (now (a .entry)) (now (w .entry)) (now (z .entry)) (now (u .entry)) ⌝ }
 {
     match matrix::solve(p, m, n, a, w, z, u) {
-        tables::TableAnswer::Done(k) => 200 + k,
-        tables::TableAnswer::Refused(kind) => modulus::number_of(kind),
+        matrix::TableAnswer::Done(k) => 200 + k,
+        matrix::TableAnswer::Refused(kind) => modulus::number_of(kind),
     }
 }

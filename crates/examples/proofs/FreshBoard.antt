@@ -14,10 +14,10 @@ use Rattle.field.specs.Residue.{reduce}
 use Rattle.field.specs.Written.{tabulate}
 use Rattle.field.proofs.Halves.{zeros-at}
 use Rattle.field.proofs.Residues.{nonzero-of-positive}
-use Rattle.frame.specs.Checks.{FrameSize}
-use Rattle.frame.specs.Format.{frameOf}
-use Rattle.frame.specs.Reading.{accepted, readFrame}
-use Rattle.frame.proofs.Round.{written-reads-back}
+use Rattle.frame_bytes.specs.Checks.{FrameSize}
+use Rattle.frame_bytes.specs.Format.{frameOf}
+use Rattle.frame_bytes.specs.Reading.{accepted, readFrame}
+use Rattle.frame_bytes.proofs.Round.{written-reads-back}
 use Rattle.ledger.specs.Ledger.{Combined}
 use Rattle.ledger.specs.Board.{layout}
 use Rattle.ledger.specs.Steps.{Taken, taken, repeatTold, mixWords, takeAccepted}

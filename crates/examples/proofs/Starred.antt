@@ -10,9 +10,9 @@ use Rattle.tables.specs.Examples.{tableExamples}
 use Rattle.tables.proofs.Checker.{_and_, everyBelow}
 use Rattle.tables.proofs.CheckedTables.{isPrime, prime-checked}
 use Rattle.tables.proofs.Examples.{starred-tables-hold}
-use Rattle.frame.specs.Format.{width, mapLength, bytesOf, stands, mapByte, mapBytes, packed, valueBytes, frameOf}
-use Rattle.frame.specs.Examples.{frameExamples}
-use Rattle.frame.proofs.Examples.{starred-frames-read}
+use Rattle.frame_bytes.specs.Format.{width, mapLength, bytesOf, stands, mapByte, mapBytes, packed, valueBytes, frameOf}
+use Rattle.frame_bytes.specs.Examples.{frameExamples}
+use Rattle.frame_bytes.proofs.Examples.{starred-frames-read}
 use Rattle.examples.specs.Starred.{BoardExample, boardExamples, Starred, table, frame, board, starred, BoardHolds, Holds}
 use Rattle.examples.proofs.FreshBoard.{empty-repeats, empty-conflicts}
 

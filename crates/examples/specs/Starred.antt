@@ -7,8 +7,8 @@ use lib.ListN.{length}
 use Rattle.modulus.specs.declared.Refusal.the-variants.{Conflict}
 use Rattle.modulus.specs.Told.{Told, refused}
 use Rattle.tables.specs.Examples.{TableExample, tableExamples, Holds as TableHolds}
-use Rattle.frame.specs.Reading.{accepted, readFrame}
-use Rattle.frame.specs.Examples.{FrameExample, frameExamples}
+use Rattle.frame_bytes.specs.Reading.{accepted, readFrame}
+use Rattle.frame_bytes.specs.Examples.{FrameExample, frameExamples}
 use Rattle.ledger.specs.Board.{layout}
 use Rattle.ledger.specs.Steps.{repeatTold}
 use Rattle.ledger.specs.Calls.{takeOutcome, takeCall}

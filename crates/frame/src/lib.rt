@@ -1,55 +1,19 @@
-// Frames, as the console sends them: reading, writing and sealing.
+// Frames: the calls read, write and seal. Each checks 1, the modulus; 2, the size; 3, the lengths; then what 01 says of the
+// frame or of the numbers.
 ghost use mathlib.Core.Path.{_≡_};
-ghost use Prim.Native.Nat.{_≤_, _<_};
-ghost use lib.ListN.{length};
-ghost use Rattle.frame.specs.Told.{readTold};
-ghost use Rattle.frame.specs.Reading.{readFrame};
-ghost use Rattle.frame.specs.Calls.{outcome, readOutcome, readCall};
+ghost use Rattle.frame_bytes.specs.Told.{readTold, writeTold, sealTold};
+ghost use Rattle.frame_bytes.specs.Calls.{outcome, readCall, writeCall, sealCall};
 
-mod bitmap;
-pub mod checks;
-mod reading;
-pub mod sealer;
-pub mod writer;
+mod sealer;
 
+pub use frame_bytes::ReadAnswer;
+pub use frame_bytes::SealAnswer;
+pub use frame_bytes::WriteAnswer;
+use frame_bytes::checks::all_below;
+use frame_bytes::checks::all_records;
+use frame_bytes::reading::read_frame;
+use frame_bytes::writer::write_frame;
 use modulus::Refusal;
-pub use sealer::seal;
-pub use writer::write;
-
-pub enum ReadAnswer {
-    Value(u32),
-    Refused(Refusal),
-}
-
-pub enum WriteAnswer {
-    Length(u32),
-    Refused(Refusal),
-}
-
-pub enum SealAnswer {
-    Value(u32),
-    Refused(Refusal),
-}
-
-// Reads a frame whose modulus and sizes are known to be right: for the board, which has checked them.
-pub fn read_frame(p: u32, n: usize, bytes: &[u8], multipliers: &mut [u32]) -> ReadAnswer
-    requires { ⌜ (0 < p) × (1 ≤ n) × (n ≤ 64) × (length (now multipliers) ≡ n) ⌝ }
-    ensures { λ r. ⌜ outcome (readTold r) (now (multipliers .exit)) ≡ readOutcome (now (multipliers .entry)) (readFrame p n (now (bytes .entry))) ⌝ }
-{
-    let len = (n + 7) / 8;
-    if bytes.len() < len {
-        return ReadAnswer::Refused(Refusal::FrameLength);
-    }
-    let map = bitmap::from_bytes(bytes, len);
-    if !bitmap::unpadded(map, n) {
-        return ReadAnswer::Refused(Refusal::Padding);
-    }
-    let count = bitmap::standing(map);
-    if bytes.len() != len + 4 * count + 4 {
-        return ReadAnswer::Refused(Refusal::FrameLength);
-    }
-    reading::read_numbers(p, map, bytes, len, count, multipliers)
-}
 
 // Reads a frame of n records modulo p: its multipliers go to the lent memory, its value is the answer. Refused are 1, 2, 3,
 // then what the frame itself is refused for.
@@ -70,4 +34,63 @@ pub fn read(p: u32, n: u32, bytes: &[u8], multipliers: &mut [u32]) -> ReadAnswer
         return ReadAnswer::Refused(Refusal::Length);
     }
     read_frame(p, size, bytes, multipliers)
+}
+
+// Writes the frame of n multipliers and a value modulo p to the front of the lent 268 bytes and returns its length; bytes
+// behind it keep their contents. Refused are 1, p no modulus; 2, n not 1 to 64; 3, not n multipliers or not 268 bytes; 4, a
+// multiplier or then the value not below p.
+pub fn write(p: u32, n: u32, multipliers: &[u32], value: u32, bytes: &mut [u8]) -> WriteAnswer
+    ensures { λ r. ⌜ outcome (writeTold r) (now (bytes .exit)) ≡ writeCall p n (now (multipliers .entry)) value (now (bytes .entry)) ⌝ }
+{
+    if !modulus::is_modulus(p) {
+        return WriteAnswer::Refused(Refusal::Modulus);
+    }
+    if n < 1 {
+        return WriteAnswer::Refused(Refusal::Size);
+    }
+    if 64 < n {
+        return WriteAnswer::Refused(Refusal::Size);
+    }
+    if multipliers.len() != n as usize {
+        return WriteAnswer::Refused(Refusal::Length);
+    }
+    if bytes.len() != 268 {
+        return WriteAnswer::Refused(Refusal::Length);
+    }
+    if !all_below(p, multipliers) {
+        return WriteAnswer::Refused(Refusal::Number);
+    }
+    if p <= value {
+        return WriteAnswer::Refused(Refusal::Number);
+    }
+    WriteAnswer::Length(write_frame(n as usize, multipliers, value, bytes) as u32)
+}
+
+// The value of the frame of n records and n multipliers modulo p. Refused are 1, p no modulus; 2, n not 1 to 64; 3, not n
+// records or not n multipliers; 4, a multiplier not below p or then a record out of range.
+pub fn seal(p: u32, n: u32, records: &[i32], multipliers: &[u32]) -> SealAnswer
+    ensures { λ r. ⌜ sealTold r ≡ sealCall p n (now (records .entry)) (now (multipliers .entry)) ⌝ }
+{
+    if !modulus::is_modulus(p) {
+        return SealAnswer::Refused(Refusal::Modulus);
+    }
+    if n < 1 {
+        return SealAnswer::Refused(Refusal::Size);
+    }
+    if 64 < n {
+        return SealAnswer::Refused(Refusal::Size);
+    }
+    if records.len() != n as usize {
+        return SealAnswer::Refused(Refusal::Length);
+    }
+    if multipliers.len() != n as usize {
+        return SealAnswer::Refused(Refusal::Length);
+    }
+    if !all_below(p, multipliers) {
+        return SealAnswer::Refused(Refusal::Number);
+    }
+    if !all_records(p, records) {
+        return SealAnswer::Refused(Refusal::Number);
+    }
+    SealAnswer::Value(sealer::value_of(p, records, multipliers))
 }

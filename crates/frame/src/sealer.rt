@@ -4,13 +4,8 @@ ghost use Prim.Native.Nat.{ℕ, _≤_, _<_};
 ghost use lib.IntN.{pos};
 ghost use lib.ListN.{length, getD};
 ghost use Rattle.signed.specs.Reading.{residueOf};
-ghost use Rattle.frame.specs.Checks.{Records};
-ghost use Rattle.frame.specs.Told.{sealTold};
-ghost use Rattle.frame.specs.Calls.{sealed, sealCall};
-use super::SealAnswer;
-use super::checks::all_below;
-use super::checks::all_records;
-use modulus::Refusal;
+ghost use Rattle.frame_bytes.specs.Checks.{Records};
+ghost use Rattle.frame_bytes.specs.Calls.{sealed};
 
 // Room for the residues of 64 records.
 fn no_residues() -> [u32; 64]
@@ -41,33 +36,4 @@ pub fn value_of(p: u32, records: &[i32], multipliers: &[u32]) -> u32
     let mut residues = no_residues();
     put_residues(p, records, &mut residues);
     field::sums::dot(p, &residues[..n], multipliers, 0, 1)
-}
-
-// The value of the frame of n records and n multipliers modulo p. Refused are 1, p no modulus; 2, n not 1 to 64; 3, not n
-// records or not n multipliers; 4, a multiplier not below p or then a record out of range.
-pub fn seal(p: u32, n: u32, records: &[i32], multipliers: &[u32]) -> SealAnswer
-    ensures { λ r. ⌜ sealTold r ≡ sealCall p n (now (records .entry)) (now (multipliers .entry)) ⌝ }
-{
-    if !modulus::is_modulus(p) {
-        return SealAnswer::Refused(Refusal::Modulus);
-    }
-    if n < 1 {
-        return SealAnswer::Refused(Refusal::Size);
-    }
-    if 64 < n {
-        return SealAnswer::Refused(Refusal::Size);
-    }
-    if records.len() != n as usize {
-        return SealAnswer::Refused(Refusal::Length);
-    }
-    if multipliers.len() != n as usize {
-        return SealAnswer::Refused(Refusal::Length);
-    }
-    if !all_below(p, multipliers) {
-        return SealAnswer::Refused(Refusal::Number);
-    }
-    if !all_records(p, records) {
-        return SealAnswer::Refused(Refusal::Number);
-    }
-    SealAnswer::Value(value_of(p, records, multipliers))
 }

@@ -11,7 +11,7 @@ use lib.Seq.{take-append-seam}
 use Rattle.algebra.proofs.Choice.{pick-yes, pick-elim}
 use Rattle.modulus.specs.Prime.{IsModulus}
 use Rattle.modulus.specs.Decide.{modulus?}
-use Rattle.frame.specs.Checks.{FrameSize, frameSize?}
+use Rattle.frame_bytes.specs.Checks.{FrameSize, frameSize?}
 use Rattle.ledger.specs.Ledger.{Entry}
 use Rattle.ledger.specs.Steps.{Withdrawn, Shown, ledgerWithdraw}
 use Rattle.ledger.specs.Board.{boardLength, modulusWord, sizeWord, layout, entriesOf, IsBoard}

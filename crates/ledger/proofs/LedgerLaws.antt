@@ -24,7 +24,7 @@ use Rattle.field.specs.Written.{tabulate, numbers}
 use Rattle.field.proofs.Field.{residues-field, residue-equal?}
 use Rattle.field.proofs.Written.{length-tabulate, getD-tabulate, is-tabulate}
 use Rattle.signed.specs.Reading.{reading}
-use Rattle.frame.specs.Reading.{accepted, rejected, readFrame}
+use Rattle.frame_bytes.specs.Reading.{accepted, rejected, readFrame}
 use Rattle.ledger.specs.Ledger.{Entry, entry, Assignment, Combined, MeetsAll, Settled, Agreed, multiplierRows, valueColumn}
 use Rattle.ledger.specs.Decide.{combined?, agreed?}
 use Rattle.ledger.specs.Steps.{

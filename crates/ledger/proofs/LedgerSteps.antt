@@ -17,8 +17,8 @@ use Rattle.modulus.specs.Told.{refused}
 use Rattle.modulus.specs.Prime.{IsModulus}
 use Rattle.field.specs.Residue.{reduce, residues, _⊗_}
 use Rattle.field.proofs.Field.{residue-equal?}
-use Rattle.frame.specs.Format.{mapLength}
-use Rattle.frame.specs.Reading.{
+use Rattle.frame_bytes.specs.Format.{mapLength}
+use Rattle.frame_bytes.specs.Reading.{
   Found,
   accepted,
   rejected,

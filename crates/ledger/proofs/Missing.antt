@@ -16,8 +16,8 @@ use Rattle.modulus.specs.Prime.{IsModulus}
 use Rattle.field.specs.Residue.{reduce, residues}
 use Rattle.field.proofs.Field.{residues-field}
 use Rattle.field.proofs.Written.{length-tabulate, getD-tabulate}
-use Rattle.frame.specs.Format.{frameOf}
-use Rattle.frame.proofs.Round.{written-reads-back}
+use Rattle.frame_bytes.specs.Format.{frameOf}
+use Rattle.frame_bytes.proofs.Round.{written-reads-back}
 use Rattle.ledger.specs.Ledger.{Entry, entry, Combined, multiplierRows, valueColumn}
 use Rattle.ledger.specs.Steps.{Taken, newTold, Withdrawn, ledgerTake, ledgerWithdraw}
 use Rattle.ledger.specs.History.{Call, Reply, reply, After, after, ledgerStep, run, ledgerRun}

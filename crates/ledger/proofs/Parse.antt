@@ -12,7 +12,7 @@ use Rattle.modulus.specs.Prime.{IsModulus}
 use Rattle.field.specs.Residue.{reduce, residues}
 use Rattle.field.specs.View.{table}
 use Rattle.field.proofs.Views.{table-entry}
-use Rattle.frame.specs.Checks.{FrameSize}
+use Rattle.frame_bytes.specs.Checks.{FrameSize}
 use Rattle.ledger.specs.Ledger.{Entry, entry, noEntry, multiplierRows, valueColumn}
 use Rattle.ledger.specs.Board.{headerLength, rowLength, boardLength, modulusWord, sizeWord, countWord, rowWords, layout, entriesOf, IsBoard}
 use Rattle.ledger.specs.Proper.{Proper}

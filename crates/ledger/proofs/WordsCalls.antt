@@ -10,7 +10,7 @@ use Rattle.modulus.specs.declared.Refusal.the-variants.{NotBoard}
 use Rattle.modulus.specs.Told.{refused}
 use Rattle.modulus.specs.Prime.{IsModulus}
 use Rattle.modulus.proofs.Guards.{modulus-prop}
-use Rattle.frame.specs.Checks.{FrameSize}
+use Rattle.frame_bytes.specs.Checks.{FrameSize}
 use Rattle.ledger.specs.Ledger.{Entry}
 use Rattle.ledger.specs.Steps.{shown, ledgerTake, ledgerWithdraw, ledgerShow}
 use Rattle.ledger.specs.Board.{modulusWord, sizeWord, layout, entriesOf, IsBoard}

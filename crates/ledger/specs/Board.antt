@@ -7,7 +7,7 @@ use Rattle.algebra.specs.Span.{Independent}
 use Rattle.modulus.specs.Prime.{IsModulus}
 use Rattle.field.specs.Residue.{residues}
 use Rattle.field.specs.View.{table}
-use Rattle.frame.specs.Checks.{FrameSize}
+use Rattle.frame_bytes.specs.Checks.{FrameSize}
 use Rattle.ledger.specs.Ledger.{Entry, entry}
 
 -- the words of the header, of a row, and of a board of n records

@@ -10,7 +10,7 @@ use Rattle.algebra.specs.Choice.{pick, pickBy}
 use Rattle.modulus.specs.declared.Refusal.the-variants.{Modulus, Size, Length, NotBoard}
 use Rattle.modulus.specs.Told.{Told, refused}
 use Rattle.modulus.specs.Decide.{modulus?}
-use Rattle.frame.specs.Checks.{frameSize?}
+use Rattle.frame_bytes.specs.Checks.{frameSize?}
 use Rattle.ledger.specs.Ledger.{Entry}
 use Rattle.ledger.specs.Steps.{Taken, Shown, shown, ledgerTake, ledgerWithdraw, ledgerShow}
 use Rattle.ledger.specs.Board.{boardLength, modulusWord, sizeWord, layout, entriesOf, IsBoard}

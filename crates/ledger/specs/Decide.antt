@@ -14,7 +14,7 @@ use Rattle.modulus.specs.Decide.{modulus?}
 use Rattle.field.specs.Residue.{reduce, residues}
 use Rattle.field.specs.View.{table}
 use Rattle.field.proofs.Field.{residues-field}
-use Rattle.frame.specs.Checks.{FrameSize, frameSize?}
+use Rattle.frame_bytes.specs.Checks.{FrameSize, frameSize?}
 use Rattle.ledger.specs.Ledger.{Entry, Combined, Agreed, multiplierRows, valueColumn}
 use Rattle.ledger.specs.Board.{IsBoard, headerLength, rowLength, boardLength, modulusWord, sizeWord, countWord}
 

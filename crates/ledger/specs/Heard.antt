@@ -14,7 +14,7 @@ use Rattle.algebra.proofs.Decide.{combination?}
 use Rattle.modulus.specs.Prime.{IsModulus}
 use Rattle.field.specs.Residue.{reduce, residues}
 use Rattle.field.proofs.Field.{residues-field}
-use Rattle.frame.specs.Reading.{Found, accepted, rejected, readFrame}
+use Rattle.frame_bytes.specs.Reading.{Found, accepted, rejected, readFrame}
 use Rattle.ledger.specs.Ledger.{Entry}
 use Rattle.ledger.specs.History.{Call, take, withdraw, show, Reply}
 

@@ -15,7 +15,7 @@ use Rattle.field.specs.Residue.{Residue, reduce, residues, _⊗_}
 use Rattle.field.specs.Written.{tabulate, numbers}
 use Rattle.field.proofs.Field.{residue-equal?}
 use Rattle.signed.specs.Reading.{reading}
-use Rattle.frame.specs.Reading.{Found, accepted, rejected, readFrame}
+use Rattle.frame_bytes.specs.Reading.{Found, accepted, rejected, readFrame}
 use Rattle.ledger.specs.Ledger.{Entry, entry, Agreed, Combined, valueColumn}
 use Rattle.ledger.specs.Decide.{combined?, agreed?}
 

@@ -4,7 +4,7 @@ ghost use mathlib.Core.Path.{_≡_};
 ghost use Rattle.tables.specs.Told.{tableTold};
 ghost use Rattle.tables.specs.Calls.{quasiinverted, quasiinverseCall, kernelled, kernelCall, solvedAs, solveCall};
 use modulus::Refusal;
-use tables::TableAnswer;
+pub use tables::TableAnswer;
 use tables::parts;
 
 pub mod work;

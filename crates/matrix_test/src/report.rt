@@ -2,7 +2,7 @@
 ghost use mathlib.Core.Path.{_≡_};
 ghost use lib.ListN.{length};
 use libc::STDOUT_FILENO;
-use tables::TableAnswer;
+use matrix::TableAnswer;
 
 // The places of the counts.
 pub const CASES: usize = 0;

@@ -5,7 +5,7 @@ use Prim.Native.Nat.{ℕ, _≤_}
 use native.Mathlib.Omega.{arith}
 use Rattle.modulus.specs.Prime.{IsModulus}
 use Rattle.modulus.specs.Decide.{modulus?}
-use Rattle.frame.specs.Checks.{FrameSize, frameSize?}
+use Rattle.frame_bytes.specs.Checks.{FrameSize, frameSize?}
 use Rattle.ledger.specs.Calls.{Opened, opened, openCall}
 use Rattle.board.specs.declared.OpenAnswer.{OpenAnswer}
 use Rattle.board.specs.declared.OpenAnswer.the-variants as opening

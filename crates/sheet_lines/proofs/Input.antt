@@ -8,7 +8,7 @@ use lib.IntN.{pos}
 use lib.ListN.{length, getD, take}
 use Rattle.modulus.specs.declared.Refusal.the-variants.{FrameLength}
 use Rattle.modulus.specs.Told.{refused}
-use Rattle.frame.specs.Format.{numberFrom}
+use Rattle.frame_bytes.specs.Format.{numberFrom}
 use Rattle.sheet_lines.specs.Input.{headerCall, frameLength, ended, framed, frameStart, frameBody}
 
 -- two bytes

@@ -9,7 +9,7 @@ use lib.ListN.{length, getD, take}
 use Rattle.algebra.specs.Choice.{choose}
 use Rattle.modulus.specs.declared.Refusal.the-variants.{FrameLength}
 use Rattle.modulus.specs.Told.{Told, refused}
-use Rattle.frame.specs.Format.{numberFrom}
+use Rattle.frame_bytes.specs.Format.{numberFrom}
 use Rattle.sheet_lines.specs.declared.HeaderAnswer.{HeaderAnswer}
 use Rattle.sheet_lines.specs.declared.HeaderAnswer.the-variants as heading
 use Rattle.sheet_lines.specs.declared.FrameInput.{FrameInput}

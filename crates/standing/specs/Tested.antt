@@ -9,7 +9,7 @@ use Rattle.algebra.specs.Quasiinverse.{Marks, IsQuasiinverse}
 use Rattle.modulus.specs.Prime.{IsModulus}
 use Rattle.field.specs.Residue.{residues}
 use Rattle.field.specs.View.{table, Below}
-use Rattle.frame.specs.Checks.{FrameSize}
+use Rattle.frame_bytes.specs.Checks.{FrameSize}
 use Rattle.standing.specs.Answers.{Tells}
 use Rattle.ledger.specs.Board.{headerLength, rowLength, boardLength, modulusWord, sizeWord, countWord}
 

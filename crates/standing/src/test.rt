@@ -83,7 +83,7 @@ fn is_filled(board: &[u32]) -> bool
     let n = board[1] as usize;
     let k = board[2] as usize;
     let end = 3 + k * (n + 1);
-    if !frame::checks::all_below(board[0], &board[3..end]) {
+    if !frame_bytes::checks::all_below(board[0], &board[3..end]) {
         return false;
     }
     all_zero(&board[end..])

@@ -5,7 +5,7 @@ use lib.ListN.{length-set}
 use borrow.Author.Needs.{needs}
 use Rattle.modulus.specs.Prime.{IsModulus}
 use Rattle.modulus.proofs.Guards.{no-modulus, is-modulus}
-use Rattle.frame.specs.Checks.{FrameSize}
+use Rattle.frame_bytes.specs.Checks.{FrameSize}
 use Rattle.standing.proofs.TestSizes.{rows-most}
 use Rattle.board.proofs.CallOpen.{open-no-modulus, open-no-size, open-no-length, open-done}
 use Rattle.board.proofs.open.Statement.{statement}

@@ -5,8 +5,8 @@ use native.Mathlib.Omega.{arith}
 use borrow.Author.Needs.{needs}
 use Rattle.modulus.specs.Prime.{IsModulus}
 use Rattle.modulus.proofs.Guards.{no-modulus, is-modulus}
-use Rattle.frame.specs.Checks.{FrameSize}
-use Rattle.frame.proofs.ReadCalls.{read-no-modulus, read-no-size, read-no-length, read-done}
+use Rattle.frame_bytes.specs.Checks.{FrameSize}
+use Rattle.frame_bytes.proofs.ReadCalls.{read-no-modulus, read-no-size, read-no-length, read-done}
 use Rattle.frame.proofs.read.Statement.{statement}
 use Rattle.frame.proofs.read.Tie as tie
 

@@ -6,7 +6,7 @@ use native.Mathlib.Omega.{arith}
 use borrow.Author.Needs.{needs}
 use lib.ListN.{length}
 use lib.Seq.{length-take-le}
-use Rattle.frame.proofs.SealSums.{seal-sum}
+use Rattle.frame_bytes.proofs.SealSums.{seal-sum}
 use Rattle.frame.proofs.sealer.value_of.Statement.{statement}
 use Rattle.frame.proofs.sealer.value_of.Tie as tie
 
