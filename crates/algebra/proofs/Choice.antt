@@ -41,6 +41,13 @@ unfolding pickBy
 pick-by-no (yes g) f b n = absurd (n g)
 pick-by-no (no g) f b n = refl
 
+-- what holds of f at every proof and of b otherwise holds of the choice
+pub pick-by-elim : {P A : Type 0} (Q : A → Type 0) (d : Dec P) (f : P → A) (b : A)
+    → ((h : P) → Q (f h)) → ((P → ⊥) → Q b) → Q (pickBy d f b)
+unfolding pickBy
+pick-by-elim Q (yes h) f b y n = y h
+pick-by-elim Q (no h) f b y n = n h
+
 -- a test that is picked says which way the decision went
 pub pick-true : {P : Type 0} (d : Dec P) → pick d true false ≡ true → P
 unfolding pick

@@ -7,8 +7,7 @@ use native.Mathlib.Decide.{decLt, ℕ-discrete}
 use native.Mathlib.Omega.{arith}
 use lib.IntN.{ℤ}
 use lib.ListN.{length}
-use Rattle.algebra.specs.Choice.{pickBy}
-use Rattle.algebra.proofs.Choice.{pick-elim}
+use Rattle.algebra.proofs.Choice.{pick-elim, pick-by-elim}
 use Rattle.algebra.proofs.Independent.{count-most}
 use Rattle.modulus.specs.Prime.{IsModulus}
 use Rattle.modulus.specs.Decide.{modulus?}
@@ -26,15 +25,6 @@ use Rattle.ledger.specs.Decide.{board?}
 use Rattle.ledger.specs.Calls.{Opened, withdrawCall, showCall}
 use Rattle.ledger.proofs.LedgerSteps.{Withdrew, dropped, overlong, withdrew, Showed, answered, unshown, showed}
 use Rattle.ledger.proofs.Parse.{words-count}
-
--- ---- choices
-
--- what holds of f at every proof and of b otherwise holds of the choice
-pick-by-elim : {P A : Type 0} (Q : A → Type 0) (d : Dec P) (f : P → A) (b : A)
-    → ((h : P) → Q (f h)) → ((P → ⊥) → Q b) → Q (pickBy d f b)
-unfolding pickBy
-pick-by-elim Q (yes h) f b y n = y h
-pick-by-elim Q (no h) f b y n = n h
 
 -- ---- tables
 

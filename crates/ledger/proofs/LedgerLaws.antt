@@ -53,7 +53,7 @@ tabulate-same : (k : ℕ) {f g : ℕ → ℕ} → ((i : ℕ) → i < k → f i �
 tabulate-same k {f} {g} h = is-tabulate k g (tabulate k f) (length-tabulate k f) (λ i l. getD-tabulate k f i l ∙ h i l)
 
 -- what stands at each place of the signed numbers written
-getD-tabulateℤ : (k : ℕ) (f : ℕ → ℤ) (i : ℕ) → i < k → getD (tabulateℤ k f) i (pos 0) ≡ f i
+pub getD-tabulateℤ : (k : ℕ) (f : ℕ → ℤ) (i : ℕ) → i < k → getD (tabulateℤ k f) i (pos 0) ≡ f i
 unfolding tabulateℤ
 getD-tabulateℤ zero f i h = absurd (not-suc-le-zero h)
 getD-tabulateℤ (suc k) f zero h = refl

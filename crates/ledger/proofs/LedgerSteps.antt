@@ -8,8 +8,7 @@ use native.Mathlib.Omega.{arith}
 use lib.IntN.{ℤ}
 use lib.ListN.{length, take}
 use Rattle.algebra.specs.Matrix.{sum}
-use Rattle.algebra.specs.Choice.{pickBy}
-use Rattle.algebra.proofs.Choice.{pick-elim}
+use Rattle.algebra.proofs.Choice.{pick-elim, pick-by-elim}
 use Rattle.modulus.specs.declared.Refusal.{Refusal}
 use Rattle.modulus.specs.declared.Refusal.the-variants.{Length, Conflict, Withdrawal}
 use Rattle.modulus.specs.Refusal.{numberOf}
@@ -50,13 +49,6 @@ use Rattle.ledger.specs.Steps.{
   shown,
   ledgerShow,
 }
-
--- what holds of f at every proof and of b otherwise holds of the choice
-pick-by-elim : {P A : Type 0} (Q : A → Type 0) (d : Dec P) (f : P → A) (b : A)
-    → ((h : P) → Q (f h)) → ((P → ⊥) → Q b) → Q (pickBy d f b)
-unfolding pickBy
-pick-by-elim Q (yes h) f b y n = y h
-pick-by-elim Q (no h) f b y n = n h
 
 -- ---- take
 

@@ -3,7 +3,6 @@
 use mathlib.Core.Path.{_≡_, refl, sym, ap, _∙_}
 use mathlib.Core.List.{List}
 use Prim.Native.Nat.{ℕ, zero, suc, _+_, _<_}
-use native.Mathlib.Nat.{not-suc-le-zero, le-of-suc-le-suc}
 use native.Mathlib.Omega.{arith}
 use borrow.Author.Count.{below-none, below-more}
 use lib.IntN.{ℤ, pos}
@@ -19,6 +18,7 @@ use Rattle.signed.specs.Reading.{reading}
 use Rattle.ledger.specs.Board.{modulusWord, sizeWord, entriesOf}
 use Rattle.ledger.specs.Ledger.{Entry}
 use Rattle.ledger.specs.Steps.{markOf, numberOf, tabulateℤ}
+use Rattle.ledger.proofs.LedgerLaws.{getD-tabulateℤ}
 use Rattle.standing.specs.Held.{Held}
 use Rattle.standing.proofs.RecordSettled.{UnitIn, valueIn, shown-at, hidden-at}
 
@@ -28,12 +28,6 @@ length-tabulateℤ : (n : ℕ) (f : ℕ → ℤ) → length (tabulateℤ n f) �
 unfolding tabulateℤ
 length-tabulateℤ zero f = refl
 length-tabulateℤ (suc n) f = ap suc (length-tabulateℤ n (λ k. f (suc k)))
-
-getD-tabulateℤ : (n : ℕ) (f : ℕ → ℤ) (i : ℕ) → i < n → getD (tabulateℤ n f) i (pos 0) ≡ f i
-unfolding tabulateℤ
-getD-tabulateℤ zero f i h = absurd (not-suc-le-zero h)
-getD-tabulateℤ (suc n) f zero h = refl
-getD-tabulateℤ (suc n) f (suc i) h = getD-tabulateℤ n (λ k. f (suc k)) i (le-of-suc-le-suc h)
 
 -- a list of n signed numbers with f i at each place i
 pub is-tabulateℤ : (n : ℕ) (f : ℕ → ℤ) (zs : List ℤ) → length zs ≡ n → ((i : ℕ) → i < n → getD zs i (pos 0) ≡ f i) → zs ≡ tabulateℤ n f
