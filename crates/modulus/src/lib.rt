@@ -3,6 +3,8 @@ ghost use mathlib.Core.Path.{_≡_};
 ghost use Rattle.modulus.specs.Refusal.{numberOf};
 ghost use Rattle.modulus.specs.Decide.{isModulus};
 
+mod primes;
+
 // Why a call refuses: the kinds 1 to 11 of document 01's table.
 pub enum Refusal {
     // 1: p is no prime in range
@@ -48,8 +50,9 @@ pub fn number_of(kind: Refusal) -> u32
     }
 }
 
-// Whether p is a prime from 2 to 2,147,483,647, by trial division: 2 and 3 first, then the numbers one below and one above
-// a multiple of 6, while their square is at most p.
+// Whether p is a prime from 2 to 2,147,483,647, by trial division by the primes q whose square is at most p: those up to
+// 46,340 for the largest p. words is a part of the table of primes, of which i words are taken; w has the gaps that are
+// left of the last one, at first those from 2 to 29.
 pub fn is_modulus(p: u32) -> bool
     ensures { λ r. ⌜ r ≡ isModulus p ⌝ }
 {
@@ -59,24 +62,29 @@ pub fn is_modulus(p: u32) -> bool
     if 2147483647 < p {
         return false;
     }
-    if p < 4 {
-        return true;
-    }
-    if p % 2 == 0 {
-        return false;
-    }
-    if p % 3 == 0 {
-        return false;
-    }
-    let mut d: u32 = 5;
-    while d <= p / d {
-        if p % d == 0 {
+    let mut words = [0u64; 20];
+    let mut part: usize = 0;
+    let mut i: usize = 20;
+    let mut w: u64 = 0x0608082020808101;
+    let mut q: u32 = 2;
+    while q < 46341 {
+        if p / q < q {
+            return true;
+        }
+        if p % q == 0 {
             return false;
         }
-        if p % (d + 2) == 0 {
-            return false;
+        if w == 0 {
+            if i == 20 {
+                words = primes::gaps(part);
+                part += 1;
+                i = 0;
+            }
+            w = words[i];
+            i += 1;
         }
-        d += 6;
+        q += (w % 128) as u32;
+        w /= 128;
     }
     true
 }
