@@ -5,14 +5,15 @@ use mathlib.Core.List.{List, _++_}
 use Prim.Native.Nat.{ℕ, _+_, _*_, _-_, _≤_, _<_}
 use native.Mathlib.Nat.{mul-le-mul}
 use native.Mathlib.Omega.{arith}
-use lib.ListN.{length, getD, take, drop, List·getD-append}
+use lib.ListN.{length, getD, take, drop, length-take, List·getD-append}
 use lib.Seq.{length-take-le, length-front, getD-take, getD-drop, getD-append-add}
 use Rattle.algebra.specs.Matrix.{sum, mixed}
 use Rattle.algebra.proofs.Sums.{sum-same}
 use Rattle.algebra.proofs.Rings.{zero-plus}
 use Rattle.field.specs.Residue.{Residue, reduce, residues, _⊕_, _⊗_}
-use Rattle.field.specs.View.{line, table}
+use Rattle.field.specs.View.{line, table, Below}
 use Rattle.field.specs.Halves.{Zeros}
+use Rattle.field.proofs.Residues.{below-of-value}
 use Rattle.field.proofs.Field.{residues-ring}
 use Rattle.field.proofs.Views.{table-entry}
 
@@ -64,3 +65,10 @@ combined-mixed p w by xs zs part positive h z long each =
     behind j l =
         let place : j ≡ length part + (j - w) = omega (arith, long, short) in
         rw place (getD-append-add part (drop w zs) (j - w) 0 ∙ getD-drop w zs (j - w) 0 ∙ z .zero-at (w + (j - w)))
+
+-- its first numbers are residues
+pub mixed-below : (p w : ℕ) (by xs r : List ℕ) → 0 < p → Mixed p by xs w r → Below p (take w r)
+mixed-below p w by xs r positive m j l =
+    let inside : j < w = omega (arith, length-take w r) in
+    let x : Residue p = mixed (residues p) (length by) (line p by 0 1) (table p xs 0 w (length by) w) j in
+    rw (getD-take w r j 0 inside) (below-of-value positive x (m .1 j inside))

@@ -65,7 +65,7 @@ other-row : (start stride n i r j t : ℕ) → n ≤ stride → j < n → t < n 
 other-row start stride n i r j t apart l b d e = d (same-place stride i r j t (omega arith) (omega arith) (omega arith) .0)
 
 -- in a block of one row the stride does not count
-only-row : (i stride : ℕ) → i < 1 → i * stride ≡ 0
+pub only-row : (i stride : ℕ) → i < 1 → i * stride ≡ 0
 only-row i stride h = let first : i ≡ 0 = omega arith in ap (λ t. t * stride) first ∙ zero-mul stride
 
 -- a place elsewhere than row i is elsewhere than a block of that one row, whatever its stride
@@ -142,8 +142,8 @@ row-fits b = omega (arith, b .inside 0 (omega arith))
 
 module _ {p k n : ℕ} {x : List ℕ} {x-start x-stride : ℕ} {y : List ℕ} {y-start y-stride : ℕ} {z : List ℕ} {z-start z-stride : ℕ} where
   -- row i of what a product asks, for memory that has its length and is still below p
-  pub factors-row : {m i : ℕ} {x′ z′ : List ℕ} → length x′ ≡ length x → length z′ ≡ length z → Below p z′ → i < m → Factors p m k n x x-start x-stride y y-start y-stride z z-start z-stride → Factors p 1 k n x′ (x-start + i * x-stride) k y y-start y-stride z′ (z-start + i * z-stride) n
-  factors-row {i = i} {x′ = x′} {z′ = z′} xl zl b h F =
+  pub factors-row : {m i : ℕ} {x′ z′ : List ℕ} → length x′ ≡ length x → Below p x′ → length z′ ≡ length z → Below p z′ → i < m → Factors p m k n x x-start x-stride y y-start y-stride z z-start z-stride → Factors p 1 k n x′ (x-start + i * x-stride) k y y-start y-stride z′ (z-start + i * z-stride) n
+  factors-row {i = i} {x′ = x′} {z′ = z′} xl xb zl zb h F =
       record {
         positive = F .positive;
         in-range = F .in-range;
@@ -152,12 +152,14 @@ module _ {p k n : ℕ} {x : List ℕ} {x-start x-stride : ℕ} {y : List ℕ} {y
         left = one-row x′ (x-start + i * x-stride) k (omega (arith, F .left .inside i h));
         right = F .right;
         target = one-row z′ (z-start + i * z-stride) n (omega (arith, F .target .inside i h));
-        below = b;
+        left-below = xb;
+        right-below = F .right-below;
+        below = zb;
       }
 
   -- the multipliers of a row at the front of other memory
-  pub factors-front : {by : List ℕ} → k ≤ length by → Factors p 1 k n x x-start x-stride y y-start y-stride z z-start z-stride → Factors p 1 k n by 0 k y y-start y-stride z z-start z-stride
-  factors-front {by} l F =
+  pub factors-front : {by : List ℕ} → k ≤ length by → Below p by → Factors p 1 k n x x-start x-stride y y-start y-stride z z-start z-stride → Factors p 1 k n by 0 k y y-start y-stride z z-start z-stride
+  factors-front {by} l b F =
       record {
         positive = F .positive;
         in-range = F .in-range;
@@ -166,6 +168,8 @@ module _ {p k n : ℕ} {x : List ℕ} {x-start x-stride : ℕ} {y : List ℕ} {y
         left = one-row by 0 k (omega arith);
         right = F .right;
         target = F .target;
+        left-below = b;
+        right-below = F .right-below;
         below = F .below;
       }
 
@@ -173,15 +177,15 @@ module _ {p k n : ℕ} {x : List ℕ} {x-start x-stride : ℕ} {y : List ℕ} {y
 pub copied-row : (p k : ℕ) {xs : List ℕ} {at : ℕ} {zs by : List ℕ} → Copied xs at k zs by → table p by 0 k 1 k ≡ table p xs at k 1 k
 copied-row p k copied = copied-table p k 1 k copied (λ i h. omega (arith, only-row i k h))
 
--- X may be read from another place where it stands too
+-- X may be another matrix that has the same product
+pub multiplied-product : {p m k n : ℕ} {x : List ℕ} {x-start x-stride : ℕ} (x′ : List ℕ) (x-start′ x-stride′ : ℕ) {y : List ℕ} {y-start y-stride : ℕ} {z z′ : List ℕ} {z-start z-stride : ℕ} → product (residues p) k (table p x x-start x-stride m k) (table p y y-start y-stride k n) ≡ product (residues p) k (table p x′ x-start′ x-stride′ m k) (table p y y-start y-stride k n) → Multiplied p m k n x x-start x-stride y y-start y-stride z z′ z-start z-stride → Multiplied p m k n x′ x-start′ x-stride′ y y-start y-stride z z′ z-start z-stride
+multiplied-product {p} {m} {n = n} x′ x-start′ x-stride′ {z = z} {z-start = z-start} {z-stride = z-stride} same M =
+    record { kept = M .kept; result = M .result ∙ ap (add (residues p) (table p z z-start z-stride m n)) same }
+
+-- so it may be read from another place where it stands too
 pub multiplied-left : {p m k n : ℕ} {x : List ℕ} {x-start x-stride : ℕ} (x′ : List ℕ) (x-start′ x-stride′ : ℕ) {y : List ℕ} {y-start y-stride : ℕ} {z z′ : List ℕ} {z-start z-stride : ℕ} → table p x x-start x-stride m k ≡ table p x′ x-start′ x-stride′ m k → Multiplied p m k n x x-start x-stride y y-start y-stride z z′ z-start z-stride → Multiplied p m k n x′ x-start′ x-stride′ y y-start y-stride z z′ z-start z-stride
-multiplied-left {p} {m} {k} {n} x′ x-start′ x-stride′ {y} {y-start} {y-stride} {z} {z-start} {z-stride} same M =
-    record {
-      kept = M .kept;
-      result =
-          M .result
-          ∙ ap (λ X. add (residues p) (table p z z-start z-stride m n) (product (residues p) k X (table p y y-start y-stride k n))) same;
-    }
+multiplied-left {p} {k = k} {n = n} x′ x-start′ x-stride′ {y} {y-start} {y-stride} same =
+    multiplied-product x′ x-start′ x-stride′ (ap (λ X. product (residues p) k X (table p y y-start y-stride k n)) same)
 
 -- a row of other columns is as it was
 pub row-kept-elsewhere : {p : ℕ} {xs ys : List ℕ} {start stride m n : ℕ} (start′ k i : ℕ) → start + n ≤ stride → start′ + k ≤ stride → ((j l : ℕ) → j < k → l < n → start′ + j ≡ start + l → ⊥) → Kept p xs ys start stride m n → table p ys (start′ + i * stride) k 1 k ≡ table p xs (start′ + i * stride) k 1 k
@@ -227,11 +231,18 @@ row-skipped {p} {k} {n} {x} {x-at} {y} {y-start} {y-stride} {z} {z-at} F is-by z
 -- One row by `combine`: by is X's row, out is Z's row.
 module _ {p k n : ℕ} {x : List ℕ} {x-at : ℕ} {y : List ℕ} {y-start y-stride : ℕ} {z : List ℕ} {z-at : ℕ} {by out : List ℕ} (F : Factors p 1 k n x x-at k y y-start y-stride z z-at n) (is-by : IsPart x x-at k by) (is-out : IsPart z z-at n out) where
   -- what combine asks
-  pub row-ready : (0 < p) × (length by ≤ 64) × (length out ≤ 64) × ((t : ℕ) → t < length by → y-start + t * y-stride + length out ≤ length y)
+  pub row-ready :
+      (0 < p) × (p ≤ 2147483647) × (length by ≤ 64) × (length out ≤ 64) × Below p by × Below p y
+      × ((t : ℕ) → t < length by → y-start + t * y-stride + length out ≤ length y)
   row-ready = (
     F .positive,
+    F .in-range,
     omega (arith, is-by .long, F .inner),
     omega (arith, is-out .long, F .columns),
+    λ j l.
+        let h : j < k = omega (arith, is-by .long) in
+        rw (is-by .same j h) (F .left-below (x-at + j) (omega (arith, row-fits (F .left)))),
+    F .right-below,
     λ t l. omega (arith, is-out .long, F .right .inside t (omega (arith, is-by .long))),
   )
 

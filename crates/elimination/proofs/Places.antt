@@ -154,6 +154,14 @@ copied-table p {xs} {start} {size} {zs} {zs′} stride m n copied inside =
     let e : start + (0 + i * stride + j) ≡ start + i * stride + j = omega arith in
     copied .front (0 + i * stride + j) (omega (arith, inside i h)) ∙ ap (λ q. getD xs q 0) e)
 
+-- what was copied over zeros is below p
+pub copied-below : {p : ℕ} {xs : List ℕ} {start size : ℕ} {zs zs′ : List ℕ} → 0 < p → ((j : ℕ) → getD zs j 0 ≡ 0) → start + size ≤ length xs → Below p xs → Copied xs start size zs zs′ → Below p zs′
+copied-below {p} {xs} {start} {size} {zs} {zs′} positive blank fits below copied i h = by-place (decLt i size)
+  where
+    by-place : Dec (i < size) → getD zs′ i 0 < p
+    by-place (yes l) = rw (copied .front i l) (below (start + i) (omega arith))
+    by-place (no l) = rw (copied .rest i (omega arith), blank i) positive
+
 -- columns a and b of rows that lie stride apart are at one place only where row and column are the same
 pub same-place : (stride i k a b : ℕ) → a < stride → b < stride → a + i * stride ≡ b + k * stride → (i ≡ k) × (a ≡ b)
 same-place stride i k a b h l e = by-order (decLt i k) (decLt k i)

@@ -8,7 +8,7 @@ use lib.ListN.{length, getD}
 use Rattle.algebra.specs.Matrix.{Matrix, add, negative, product}
 use Rattle.algebra.proofs.Matrices.{product-negative}
 use Rattle.field.specs.Residue.{residues}
-use Rattle.field.specs.View.{table}
+use Rattle.field.specs.View.{table, Below}
 use Rattle.field.proofs.Field.{residues-ring}
 use Rattle.elimination.specs.Places.{Factors, Kept, Multiplied}
 use Rattle.elimination.specs.Eliminated.{Halves, Joined}
@@ -31,6 +31,8 @@ module _ {p m₁ m₂ n : ℕ} {a d : List ℕ} {at stride : ℕ} {t c : List �
         left = rows-block a m₁ n (h .a-long);
         right = columns-block d (at + m₁) stride n m₂ (h .d-long) (omega (arith, h .fits));
         target = rows-block c′ m₁ m₂ (omega (arith, small-room));
+        left-below = h .a-below;
+        right-below = h .d-below;
         below = blank-below p c′ (modulus-positive h) blank;
       }
 
@@ -38,11 +40,12 @@ module _ {p m₁ m₂ n : ℕ} {a d : List ℕ} {at stride : ℕ} {t c : List �
   pub join-second :
       (c′ : List ℕ) →
       length c′ ≡ length c →
+      Below p c′ →
       Factors p n m₁ m₂ d at stride c′ 0 m₂ d (at + m₁) stride
       × ((i j l : ℕ) → i < n → j < m₁ → l < m₂ → at + j ≡ at + m₁ + l → ⊥)
       × (at + m₁ ≤ stride)
       × (at + m₁ + m₂ ≤ stride)
-  join-second c′ long = (
+  join-second c′ long c-below = (
     record {
       positive = modulus-positive h;
       in-range = h .is-modulus .in-range;
@@ -51,6 +54,8 @@ module _ {p m₁ m₂ n : ℕ} {a d : List ℕ} {at stride : ℕ} {t c : List �
       left = columns-block d at stride n m₁ (h .d-long) (omega (arith, h .fits));
       right = rows-block c′ m₁ m₂ (omega (arith, small-room));
       target = columns-block d (at + m₁) stride n m₂ (h .d-long) (omega (arith, h .fits));
+      left-below = h .d-below;
+      right-below = c-below;
       below = h .d-below;
     },
     λ i j l b s o e. omega arith,
@@ -59,7 +64,7 @@ module _ {p m₁ m₂ n : ℕ} {a d : List ℕ} {at stride : ℕ} {t c : List �
   )
 
   -- E + G (-T) for E
-  module _ (d′ : List ℕ) (kept : Kept p d d′ (at + m₁) stride n m₂) where
+  module _ (t-below : Below p t) (d′ : List ℕ) (kept : Kept p d d′ (at + m₁) stride n m₂) where
     pub join-third :
         Factors p n m₂ m₁ d′ (at + m₁) stride t 0 m₁ d′ at stride
         × ((i j l : ℕ) → i < n → j < m₂ → l < m₁ → at + m₁ + j ≡ at + l → ⊥)
@@ -74,6 +79,8 @@ module _ {p m₁ m₂ n : ℕ} {a d : List ℕ} {at stride : ℕ} {t c : List �
         left = columns-block d′ (at + m₁) stride n m₂ (kept .same-length ∙ h .d-long) (omega (arith, h .fits));
         right = rows-block t m₂ m₁ (quarter-room h);
         target = columns-block d′ at stride n m₁ (kept .same-length ∙ h .d-long) (omega (arith, h .fits));
+        left-below = kept .below;
+        right-below = t-below;
         below = kept .below;
       },
       λ i j l b s o e. omega arith,

@@ -3,7 +3,6 @@ use mathlib.Core.Path.{_≡_, ap, _∙_}
 use mathlib.Core.List.{List}
 use Prim.Native.Nat.{ℕ, _+_, _*_, _≤_, _<_}
 use native.Mathlib.Nat.{mul-le-mul}
-use native.Mathlib.Decide.{decLt}
 use native.Mathlib.Omega.{arith}
 use lib.ListN.{length, getD}
 use Rattle.algebra.specs.Matrix.{add, negative, product}
@@ -11,7 +10,7 @@ use Rattle.field.specs.Residue.{residues}
 use Rattle.field.specs.View.{table, Below}
 use Rattle.elimination.specs.Places.{Factors, Multiplied, Copied}
 use Rattle.elimination.specs.Eliminated.{Halves, Reduced}
-use Rattle.elimination.proofs.Places.{copied-table}
+use Rattle.elimination.proofs.Places.{copied-table, copied-below}
 use Rattle.elimination.proofs.StepNegative.{row-inside, rows-block, columns-block}
 
 -- zeros are below p
@@ -47,10 +46,12 @@ module _ {p m₁ m₂ n : ℕ} {a d : List ℕ} {at stride : ℕ} {t c : List �
           left = rows-block k m₂ n (omega arith);
           right = columns-block d at stride n m₁ (h .d-long) (omega (arith, h .fits));
           target = rows-block t m₂ m₁ (quarter-room h);
+          left-below = k-below;
+          right-below = h .d-below;
           below = blank-below p t (modulus-positive h) t-blank;
         }
 
-    module _ (t′ : List ℕ) (t-long : length t′ ≡ length t) (c′ : List ℕ) (copied : Copied k 0 (m₂ * n) c c′) where
+    module _ (t′ : List ℕ) (t-long : length t′ ≡ length t) (t-below : Below p t′) (c′ : List ℕ) (copied : Copied k 0 (m₂ * n) c c′) where
       -- K + (-T) B into c
       pub reduce-second : Factors p m₂ m₁ n t′ 0 m₁ a 0 n c′ 0 n
       reduce-second =
@@ -62,21 +63,18 @@ module _ {p m₁ m₂ n : ℕ} {a d : List ℕ} {at stride : ℕ} {t c : List �
             left = rows-block t′ m₂ m₁ (omega (arith, quarter-room h));
             right = rows-block a m₁ n (h .a-long);
             target = rows-block c′ m₂ n (omega (arith, half-room h, copied .same-length));
-            below = λ i l. by-place i (decLt i (m₂ * n));
+            left-below = t-below;
+            right-below = h .a-below;
+            below = copied-below (modulus-positive h) c-blank (omega arith) k-below copied;
           }
-        where
-          by-place : (i : ℕ) → Dec (i < m₂ * n) → getD c′ i 0 < p
-          by-place i (yes l) = rw (copied .front i l) (k-below (0 + i) (omega arith))
-          by-place i (no l) = rw (copied .rest i (omega arith), c-blank i) (modulus-positive h)
 
       -- what they leave
       pub reduced :
-          Below p t′ →
           table p t′ 0 m₁ m₂ m₁ ≡ negative (residues p) (product (residues p) n (table p k 0 n m₂ n) (table p d at stride n m₁)) →
           {c″ : List ℕ} →
           Multiplied p m₂ m₁ n t′ 0 m₁ a 0 n c′ c″ 0 n →
           Reduced p m₁ m₂ n a k d at stride t c t′ c″
-      reduced t-below is-T multiplied =
+      reduced is-T multiplied =
           record {
             t-long = t-long;
             c-long = multiplied .kept .same-length ∙ copied .same-length;

@@ -2,7 +2,9 @@
 use mathlib.Core.Path.{_≡_}
 use mathlib.Core.List.{List}
 use Prim.Native.Nat.{ℕ, _+_, _*_, _≤_, _<_}
+use native.Mathlib.Decide.{ℕ-discrete}
 use lib.ListN.{length, getD}
+use Rattle.algebra.specs.Choice.{pick}
 use Rattle.algebra.specs.Matrix.{Matrix, add, negative, product}
 use Rattle.field.specs.Residue.{residues}
 use Rattle.field.specs.View.{table, Below}
@@ -31,6 +33,8 @@ pub record Factors (p m k n : ℕ) (x : List ℕ) (x-start x-stride : ℕ) (y : 
   pub left : Block x x-start x-stride m k
   pub right : Block y y-start y-stride k n
   pub target : Block z z-start z-stride m n
+  pub left-below : Below p x
+  pub right-below : Below p y
   pub below : Below p z
 
 -- Z has become Z + X Y
@@ -45,4 +49,15 @@ pub record Multiplied (p m k n : ℕ) (x : List ℕ) (x-start x-stride : ℕ) (y
 pub record Copied (xs : List ℕ) (start n : ℕ) (zs zs′ : List ℕ) : Type 0 where
   pub same-length : length zs′ ≡ length zs
   pub front : (j : ℕ) → j < n → getD zs′ j 0 ≡ getD xs (start + j) 0
+  pub rest : (j : ℕ) → n ≤ j → getD zs′ j 0 ≡ getD zs j 0
+
+-- flags of the k rows of Y: where one is 0 the row is zeros
+pub record Used (k n : ℕ) (y : List ℕ) (y-start y-stride : ℕ) (used : List ℕ) : Type 0 where
+  pub long : k ≤ length used
+  pub zeros : (t : ℕ) → t < k → getD used t 0 ≡ 0 → (j : ℕ) → j < n → getD y (y-start + t * y-stride + j) 0 ≡ 0
+
+-- the n first numbers of zs are those of xs from start on, but 0 where the flag is 0
+pub record Masked (xs : List ℕ) (start n : ℕ) (used zs zs′ : List ℕ) : Type 0 where
+  pub same-length : length zs′ ≡ length zs
+  pub front : (j : ℕ) → j < n → getD zs′ j 0 ≡ pick (ℕ-discrete (getD used j 0) 0) 0 (getD xs (start + j) 0)
   pub rest : (j : ℕ) → n ≤ j → getD zs′ j 0 ≡ getD zs j 0

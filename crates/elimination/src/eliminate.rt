@@ -15,14 +15,16 @@ use crate::products::add_product_within;
 pub fn least_nonzero(xs: &[u32]) -> usize
     ensures { λ r. ⌜ (r ≤ length (now (xs .entry))) × ((t : ℕ) → t < r → getD (now (xs .entry)) t 0 ≡ 0) × (r < length (now (xs .entry)) → getD (now (xs .entry)) r 0 ≡ 0 → ⊥) ⌝ }
 {
+    let len = xs.len();
+    let mut found = len;
     let mut v = 0;
-    while v < xs.len() {
+    while v < found {
         if xs[v] != 0 {
-            return v;
+            found = v;
         }
         v += 1;
     }
-    v
+    found
 }
 
 // One row: the select step takes the least usable column v, and D has 1 / a(v) there.
@@ -115,7 +117,69 @@ fn join_halves(
     add_product_within(p, n, m2, m1, middle, t, 0, m1, d, at, stride);
 }
 
-// The quasiinverse of the m rows of a: the first half of the rows, then the lower rows by the same method.
+// One of the two halves: a row, or halves again.
+fn half(
+    p: u32,
+    m: usize,
+    n: usize,
+    a: &[u32],
+    d: &mut [u32],
+    at: usize,
+    stride: usize,
+    columns: &mut [u32],
+    rows: &mut [u32],
+)
+    requires { ⌜ Eliminable p m n (now a) (now d) at stride (now columns) (now rows) × (0 < m) ⌝ }
+    ensures { λ _. ⌜ Eliminated p m n (now (a .entry)) (now (d .entry)) at stride (now (columns .entry)) (now (rows .entry)) (now (d .exit)) (now (columns .exit)) (now (rows .exit)) ⌝ }
+{
+    if m == 1 {
+        one_row(p, n, a, d, at, stride, columns, rows);
+        return;
+    }
+    halves(p, m, n, a, d, at, stride, columns, rows);
+}
+
+// Two rows or more: the quasiinverse calls itself on the two halves of the rows; the number of rows falls. The scratch memory is
+// in this frame alone, which a half of one row does not enter.
+fn halves(
+    p: u32,
+    m: usize,
+    n: usize,
+    a: &[u32],
+    d: &mut [u32],
+    at: usize,
+    stride: usize,
+    columns: &mut [u32],
+    rows: &mut [u32],
+)
+    requires { ⌜ Eliminable p m n (now a) (now d) at stride (now columns) (now rows) × (1 < m) ⌝ }
+    ensures { λ _. ⌜ Eliminated p m n (now (a .entry)) (now (d .entry)) at stride (now (columns .entry)) (now (rows .entry)) (now (d .exit)) (now (columns .exit)) (now (rows .exit)) ⌝ }
+{
+    let m1 = m / 2;
+    let m2 = m - m1;
+    let cut = m1 * n;
+    half(p, m1, n, &a[..cut], d, at, stride, columns, &mut rows[..m1]);
+    let lower = &a[cut..];
+    let mut t = crate::products::quarter_table();
+    let mut c = crate::products::half_table();
+    reduce_rows(p, m1, m2, n, a, lower, d, at, stride, &mut t, &mut c);
+    let middle = at + m1;
+    let size = m2 * n;
+    half(
+        p,
+        m2,
+        n,
+        &c[..size],
+        d,
+        middle,
+        stride,
+        columns,
+        &mut rows[m1..],
+    );
+    join_halves(p, m1, m2, n, a, &t, &mut c, d, at, stride);
+}
+
+// The quasiinverse of the m rows of a.
 pub fn eliminate(
     p: u32,
     m: usize,
@@ -137,26 +201,5 @@ pub fn eliminate(
         one_row(p, n, a, d, at, stride, columns, rows);
         return;
     }
-    let m1 = m / 2;
-    let m2 = m - m1;
-    let cut = m1 * n;
-    eliminate(p, m1, n, &a[..cut], d, at, stride, columns, &mut rows[..m1]);
-    let lower = &a[cut..];
-    let mut t = crate::products::quarter_table();
-    let mut c = crate::products::half_table();
-    reduce_rows(p, m1, m2, n, a, lower, d, at, stride, &mut t, &mut c);
-    let middle = at + m1;
-    let size = m2 * n;
-    eliminate(
-        p,
-        m2,
-        n,
-        &c[..size],
-        d,
-        middle,
-        stride,
-        columns,
-        &mut rows[m1..],
-    );
-    join_halves(p, m1, m2, n, a, &t, &mut c, d, at, stride);
+    halves(p, m, n, a, d, at, stride, columns, rows);
 }

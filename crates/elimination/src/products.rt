@@ -5,7 +5,7 @@ ghost use Prim.Native.Nat.{ℕ, _+_, _≤_, _<_};
 ghost use lib.ListN.{length, getD};
 ghost use Rattle.field.specs.Residue.{reduce, negated};
 ghost use Rattle.field.specs.View.{Below};
-ghost use Rattle.elimination.specs.Places.{Factors, Multiplied, Copied};
+ghost use Rattle.elimination.specs.Places.{Block, Factors, Multiplied, Copied, Used, Masked};
 
 // 2,048 zeros: room for half the rows of the largest table.
 pub fn half_table() -> [u32; 2048]
@@ -70,6 +70,45 @@ fn all_zero(xs: &[u32]) -> bool
     true
 }
 
+// 64 zeros: room for the multipliers of one row.
+fn multipliers() -> [u32; 64]
+    ensures { λ r. ⌜ (length r ≡ 64) × ((j : ℕ) → getD r j 0 ≡ 0) ⌝ }
+{
+    [0u32; 64]
+}
+
+// Sets the flags of the k rows of Y that are not all zeros.
+fn flag_rows(k: usize, n: usize, y: &[u32], y_start: usize, y_stride: usize, used: &mut [u32])
+    requires { ⌜ Block (now y) «y_start» «y_stride» k n × (k ≤ length (now used)) ⌝ }
+    ensures { λ _. ⌜ (length (now (used .exit)) ≡ length (now (used .entry))) × Used k n (now (y .entry)) «y_start» «y_stride» (now (used .exit)) ⌝ }
+{
+    let mut t = 0;
+    while t < k {
+        let at = y_start + t * y_stride;
+        let end = at + n;
+        if !all_zero(&y[at..end]) {
+            used[t] = 1;
+        }
+        t += 1;
+    }
+}
+
+// Copies n numbers of xs, from start on, to the front of zs, with 0 for those whose flag is not set.
+fn mask(xs: &[u32], start: usize, n: usize, used: &[u32], zs: &mut [u32])
+    requires { ⌜ (start + n ≤ length (now xs)) × (n ≤ length (now used)) × (n ≤ length (now zs)) ⌝ }
+    ensures { λ _. ⌜ Masked (now (xs .entry)) start n (now (used .entry)) (now (zs .entry)) (now (zs .exit)) ⌝ }
+{
+    let mut j = 0;
+    while j < n {
+        let mut x = xs[start + j];
+        if used[j] == 0 {
+            x = 0;
+        }
+        zs[j] = x;
+        j += 1;
+    }
+}
+
 // One row of Z + X Y: the k numbers of x from `x_at` on are the multipliers of Y's rows, the n numbers of z from `z_at` on get
 // the sum. A row of zeros adds nothing.
 fn add_row(
@@ -96,6 +135,29 @@ fn add_row(
     field::sums::combine(p, by, y, y_start, y_stride, &mut z[z_at..z_end]);
 }
 
+// The same as `add_row`, where the rows of Y whose flags are not set are zeros: their multipliers become 0, so that they are
+// skipped.
+fn add_row_used(
+    p: u32,
+    k: usize,
+    n: usize,
+    x: &[u32],
+    x_at: usize,
+    used: &[u32],
+    y: &[u32],
+    y_start: usize,
+    y_stride: usize,
+    z: &mut [u32],
+    z_at: usize,
+)
+    requires { ⌜ Factors p 1 k n (now x) «x_at» k (now y) «y_start» «y_stride» (now z) «z_at» n × Used k n (now y) «y_start» «y_stride» (now used) ⌝ }
+    ensures { λ _. ⌜ Multiplied p 1 k n (now (x .entry)) «x_at» k (now (y .entry)) «y_start» «y_stride» (now (z .entry)) (now (z .exit)) «z_at» n ⌝ }
+{
+    let mut by = multipliers();
+    mask(x, x_at, k, used, &mut by);
+    add_row(p, k, n, &by, 0, y, y_start, y_stride, z, z_at);
+}
+
 // Z + X Y for Z, where X, m rows and k columns, Y and Z lie in different places.
 pub fn add_product(
     p: u32,
@@ -115,20 +177,15 @@ pub fn add_product(
     requires { ⌜ Factors p m k n (now x) «x_start» «x_stride» (now y) «y_start» «y_stride» (now z) «z_start» «z_stride» ⌝ }
     ensures { λ _. ⌜ Multiplied p m k n (now (x .entry)) «x_start» «x_stride» (now (y .entry)) «y_start» «y_stride» (now (z .entry)) (now (z .exit)) «z_start» «z_stride» ⌝ }
 {
+    let mut used = multipliers();
+    flag_rows(k, n, y, y_start, y_stride, &mut used);
     let mut i = 0;
     while i < m {
         let x_at = x_start + i * x_stride;
         let z_at = z_start + i * z_stride;
-        add_row(p, k, n, x, x_at, y, y_start, y_stride, z, z_at);
+        add_row_used(p, k, n, x, x_at, &used, y, y_start, y_stride, z, z_at);
         i += 1;
     }
-}
-
-// Room for the multipliers of one row.
-fn multipliers() -> [u32; 64]
-    ensures { λ r. ⌜ length r ≡ 64 ⌝ }
-{
-    [0u32; 64]
 }
 
 // The same as `add_row` where the multipliers lie in the memory of Z: they are copied first.

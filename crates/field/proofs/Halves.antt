@@ -1,24 +1,14 @@
 -- The laws of halves: adding the halves of a product apart adds the product, k halves stay within k times the largest half,
 -- and so there is room for 4096 of them. `Within` is opened here alone, so that no invariant shows its large number.
 use mathlib.Core.Path.{_≡_, refl, sym, ap, _∙_}
-use mathlib.Core.List.{List}
 use Prim.Native.Nat.{ℕ, zero, suc, _+_, _*_, _/_, _%_, _<_, _≤_}
-use native.Mathlib.Nat.{mod-lt, mod-add-div, mod-add-mod, mul-le-mul, mul-zero, add-zero}
+use native.Mathlib.Nat.{mod-lt, mod-add-div, mod-add-mod, mul-le-mul}
 use native.Mathlib.Omega.{arith}
-use lib.ListN.{length, getD, replicate, List·getD-eq-default}
+use lib.ListN.{getD, replicate}
 use mir.Val.{Fits}
 use mir.Syntax.{w32, w64}
 use Rattle.field.specs.Halves.{low, high, whole, Room}
 use Rattle.field.proofs.Residues.{mod-times}
-
--- the halves of nothing
-pub low-zero : low 0 ≡ 0
-unfolding low
-low-zero = refl
-
-pub high-zero : high 0 ≡ 0
-unfolding high
-high-zero = refl
 
 pub whole-zero : whole 0 0 ≡ 0
 unfolding whole
@@ -75,9 +65,9 @@ pub within-room : (k n : ℕ) → k ≤ 4096 → Within k n → Room n
 unfolding Within Room
 within-room k n h w = omega arith
 
-pub within-more : (k n : ℕ) → Within k n → Within (k + 1) n
+pub within-more : (k m n : ℕ) → k ≤ m → Within k n → Within m n
 unfolding Within
-within-more k n h = omega arith
+within-more k m n h w = omega arith
 
 -- a residue modulo a number of 32 bits has 32 bits
 pub mod-fits : (p n : ℕ) → 0 < p → Fits w32 p → Fits w32 (n % p)
@@ -121,12 +111,12 @@ sums-more k lo hi v x s f =
       same = whole-add lo hi x ∙ ap (λ n. n + x) (s .same);
     }
 
--- a product of 0 need not be added
-pub sums-skip : (k lo hi v : ℕ) → Sums k lo hi v → Sums (k + 1) lo hi v
-sums-skip k lo hi v s =
+-- k is a bound only
+pub sums-widen : (k m lo hi v : ℕ) → k ≤ m → Sums k lo hi v → Sums m lo hi v
+sums-widen k m lo hi v h s =
     record {
-      low-within = within-more k lo (s .low-within);
-      high-within = within-more k hi (s .high-within);
+      low-within = within-more k m lo h (s .low-within);
+      high-within = within-more k m hi h (s .high-within);
       same = s .same;
     }
 
@@ -142,10 +132,3 @@ pub zeros-at : (n j : ℕ) → _≡_ {A = ℕ} (getD (replicate n 0) j 0) 0
 zeros-at zero j = refl
 zeros-at (suc n) zero = refl
 zeros-at (suc n) (suc j) = zeros-at n j
-
--- the halves of c times a number past the end of the row
-pub low-past : (c : ℕ) (row : List ℕ) (n j : ℕ) → length row ≤ j → n ≡ n + low (c * getD row j 0)
-low-past c row n j h = rw (List·getD-eq-default row 0 h, mul-zero, low-zero, add-zero)
-
-pub high-past : (c : ℕ) (row : List ℕ) (n j : ℕ) → length row ≤ j → n ≡ n + high (c * getD row j 0)
-high-past c row n j h = rw (List·getD-eq-default row 0 h, mul-zero, high-zero, add-zero)

@@ -2,6 +2,7 @@ pub mod Residues
 pub mod Field
 pub mod Totals
 pub mod Halves
+pub mod Four
 pub mod Walk
 pub mod Rows
 pub mod Written

@@ -10,12 +10,9 @@ use Rattle.algebra.specs.Matrix.{sum}
 use Rattle.algebra.proofs.Sums.{sum-none, sum-next}
 use Rattle.field.specs.Residue.{Residue, reduce, residues, _⊕_, _⊗_}
 use Rattle.field.specs.View.{line}
+pub use Rattle.field.specs.Totals.{total}
+unfoldable pub use Rattle.field.specs.Totals.{products}
 use Rattle.field.proofs.Residues.{reduce-plus, reduce-times}
-
--- f 0 + .. + f (n - 1)
-pub total : ℕ → (ℕ → ℕ) → ℕ
-total zero f = 0
-total (suc n) f = total n f + f n
 
 pub total-zero : (f : ℕ → ℕ) → total 0 f ≡ 0
 unfolding total
@@ -36,10 +33,6 @@ reduce-total p (suc n) f =
     ap (reduce p) (total-suc n f) ∙ reduce-plus p (total n f) (f n)
     ∙ ap (λ (a : Residue p). a ⊕ reduce p (f n)) (reduce-total p n f)
     ∙ sym (sum-next (residues p) n (λ t. reduce p (f t)))
-
--- the products of the numbers of xs and of those of ys at start, start + step, ..
-unfoldable pub products : List ℕ → List ℕ → ℕ → ℕ → ℕ → ℕ
-products xs ys start step t = getD xs t 0 * getD ys (start + t * step) 0
 
 reduce-product : (p : ℕ) (xs ys : List ℕ) (start step t : ℕ) → reduce p (products xs ys start step t) ≡ line p xs 0 1 t ⊗ line p ys start step t
 unfolding products line

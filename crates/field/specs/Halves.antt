@@ -21,28 +21,29 @@ whole lo hi = lo + 4294967296 * hi
 unfoldable pub Room : ℕ → Type 0
 Room n = n + 4294967296 ≤ 2 ^ 64
 
--- there is room at every place
-abbrev pub Rooms : List ℕ → Type 0
-Rooms xs = (j : ℕ) → Room (getD xs j 0)
+-- there is room at the first n places
+abbrev pub Rooms : ℕ → List ℕ → Type 0
+Rooms n xs = (j : ℕ) → j < n → Room (getD xs j 0)
 
 -- 64 zeros
 pub record Zeros (xs : List ℕ) : Type 0 where
   pub long : length xs ≡ 64
   pub zero-at : (j : ℕ) → getD xs j 0 ≡ 0
 
--- a row fits two lists of sums of halves that have room at every place
-pub record Ready (row lo hi : List ℕ) : Type 0 where
-  pub long-lo : length row ≤ length lo
-  pub long-hi : length row ≤ length hi
-  pub room-lo : Rooms lo
-  pub room-hi : Rooms hi
+-- lo and hi are 64 sums of halves each, with room at the first n places
+pub record Ready (n : ℕ) (lo hi : List ℕ) : Type 0 where
+  pub small : n ≤ 64
+  pub long-lo : length lo ≡ 64
+  pub long-hi : length hi ≡ 64
+  pub room-lo : Rooms n lo
+  pub room-hi : Rooms n hi
 
--- los and his are lo and hi, with the halves of c times the number of the row added at each place of the row
-pub record Added (c : ℕ) (row lo hi los his : List ℕ) : Type 0 where
+-- los and his are lo and hi, with the halves of x's numbers added at the first n places
+pub record Added (n : ℕ) (x : ℕ → ℕ) (lo hi los his : List ℕ) : Type 0 where
   pub long-lo : length los ≡ length lo
   pub long-hi : length his ≡ length hi
-  pub low-at : (j : ℕ) → getD los j 0 ≡ getD lo j 0 + low (c * getD row j 0)
-  pub high-at : (j : ℕ) → getD his j 0 ≡ getD hi j 0 + high (c * getD row j 0)
+  pub low-at : (j : ℕ) → j < n → getD los j 0 ≡ getD lo j 0 + low (x j)
+  pub high-at : (j : ℕ) → j < n → getD his j 0 ≡ getD hi j 0 + high (x j)
 
 -- after is before with, at each place, the number of the halves added modulo p
 pub record Summed (p : ℕ) (lo hi before after : List ℕ) : Type 0 where

@@ -1,4 +1,6 @@
 pub mod Residue
 pub mod View
 pub mod Written
+pub mod Totals
 pub mod Halves
+pub mod Four

@@ -1,12 +1,13 @@
 // Sums of products modulo p: a row with a column, and a row plus a combination of rows. The low and high halves of the
-// products are added apart and reduced once at the end.
+// products, or of the sums of four products, are added apart and reduced once at the end.
 ghost use mathlib.Core.Path.{_≡_};
 ghost use Prim.Native.Nat.{ℕ, _+_, _*_, _<_, _≤_};
 ghost use lib.ListN.{length, getD};
 ghost use Rattle.algebra.specs.Matrix.{sum};
 ghost use Rattle.field.specs.Residue.{reduce, residues, _⊕_, _⊗_};
-ghost use Rattle.field.specs.View.{line, Reaches};
+ghost use Rattle.field.specs.View.{line, Reaches, Below};
 ghost use Rattle.field.specs.Halves.{whole, Room, Zeros, Ready, Added, Summed};
+ghost use Rattle.field.specs.Four.{Shorts, Starts, Taken, Inside, Quarter, productAt, fourAt};
 
 // The residue of lo + 2^32 × hi, with two divisions: what `lo` has above its low half goes to `hi` first.
 fn reduced(p: u32, lo: u64, hi: u64) -> u32
@@ -42,14 +43,73 @@ fn no_rows() -> [u64; 64]
     [0u64; 64]
 }
 
-// Adds the halves of c times each number of `row` to the sums of halves.
-fn add_row(c: u32, row: &[u32], lo: &mut [u64], hi: &mut [u64])
-    requires { ⌜ Ready (now row) (now lo) (now hi) ⌝ }
-    ensures { λ _. ⌜ Added c (now (row .entry)) (now (lo .entry)) (now (hi .entry)) (now (lo .exit)) (now (hi .exit)) ⌝ }
+// A row of a table that is to be added: its multiplier, where it begins, and the place after its multiplier.
+struct Row {
+    times: u32,
+    at: usize,
+    next: usize,
+}
+
+// The first row with a multiplier that is not 0, at `from` or later; where there is none, the row at `start`, times 0.
+fn next_row(by: &[u32], start: usize, stride: usize, from: usize) -> Row
+    requires { ⌜ (from ≤ length (now by)) × Shorts (now by) × Starts (length (now by)) start stride ⌝ }
+    ensures { λ r. ⌜ Taken (now (by .entry)) start stride from r ⌝ }
+{
+    let mut t = from;
+    while t < by.len() {
+        let c = by[t];
+        if c != 0 {
+            return Row {
+                times: c,
+                at: start + t * stride,
+                next: t + 1,
+            };
+        }
+        t += 1;
+    }
+    Row {
+        times: 0,
+        at: start,
+        next: t,
+    }
+}
+
+// The product of a row at place j.
+fn product_at(table: &[u32], row: Row, j: usize) -> u64
+    requires { ⌜ Shorts (now table) × Inside (j + 1) (now table) row ⌝ }
+    ensures { λ r. ⌜ (r ≡ productAt (now (table .entry)) row j) × Quarter r ⌝ }
+{
+    (row.times as u64) * (table[row.at + j] as u64)
+}
+
+// The sum of the products of four rows at place j: it has 64 bits, as the numbers are below 2^31 - 1.
+fn four_at(table: &[u32], a: Row, b: Row, c: Row, d: Row, j: usize) -> u64
+    requires { ⌜ Shorts (now table) × Inside (j + 1) (now table) a × Inside (j + 1) (now table) b × Inside (j + 1) (now table) c × Inside (j + 1) (now table) d ⌝ }
+    ensures { λ r. ⌜ r ≡ fourAt (now (table .entry)) a b c d j ⌝ }
+{
+    product_at(table, a, j)
+        + product_at(table, b, j)
+        + product_at(table, c, j)
+        + product_at(table, d, j)
+}
+
+// Adds the halves of the sums of products of four rows to the sums of halves, at the first `width` places.
+fn add_rows(
+    width: usize,
+    table: &[u32],
+    a: Row,
+    b: Row,
+    c: Row,
+    d: Row,
+    lo: &mut [u64; 64],
+    hi: &mut [u64; 64],
+)
+    requires { ⌜ Ready width (now lo) (now hi) × Shorts (now table) × Inside width (now table) a × Inside width (now table) b × Inside width (now table) c × Inside width (now table) d ⌝ }
+    ensures { λ _. ⌜ Added width (fourAt (now (table .entry)) a b c d) (now (lo .entry)) (now (hi .entry)) (now (lo .exit)) (now (hi .exit)) ⌝ }
 {
     let mut j = 0;
-    while j < row.len() {
-        let x = (c as u64) * (row[j] as u64);
+    while j < width {
+        let x = four_at(table, a, b, c, d, j);
         lo[j] += x % 4294967296;
         hi[j] += x / 4294967296;
         j += 1;
@@ -57,8 +117,8 @@ fn add_row(c: u32, row: &[u32], lo: &mut [u64], hi: &mut [u64])
 }
 
 // Adds to each number of `out` what the sums of halves stand for, modulo p.
-fn settle(p: u32, lo: &[u64], hi: &[u64], out: &mut [u32])
-    requires { ⌜ (0 < p) × Ready (now out) (now lo) (now hi) ⌝ }
+fn settle(p: u32, lo: &[u64; 64], hi: &[u64; 64], out: &mut [u32])
+    requires { ⌜ (0 < p) × Ready (length (now out)) (now lo) (now hi) ⌝ }
     ensures { λ _. ⌜ Summed p (now (lo .entry)) (now (hi .entry)) (now (out .entry)) (now (out .exit)) ⌝ }
 {
     let mut j = 0;
@@ -69,9 +129,9 @@ fn settle(p: u32, lo: &[u64], hi: &[u64], out: &mut [u32])
 }
 
 // Adds to `out` the combination of rows of `table` with the multipliers `by`: row t begins at start + t × stride and is as
-// long as `out`. A row whose multiplier is 0 is skipped.
+// long as `out`. A row whose multiplier is 0 is skipped; the others are added four at a time.
 pub fn combine(p: u32, by: &[u32], table: &[u32], start: usize, stride: usize, out: &mut [u32])
-    requires { ⌜ (0 < p) × (length (now by) ≤ 64) × (length (now out) ≤ 64) × ((t : ℕ) → t < length (now by) → start + t * stride + length (now out) ≤ length (now table)) ⌝ }
+    requires { ⌜ (0 < p) × (p ≤ 2147483647) × (length (now by) ≤ 64) × (length (now out) ≤ 64) × Below p (now by) × Below p (now table) × ((t : ℕ) → t < length (now by) → start + t * stride + length (now out) ≤ length (now table)) ⌝ }
     ensures { λ _. ⌜ (length (now (out .exit)) ≡ length (now (out .entry))) × ((j : ℕ) → j < length (now (out .entry)) → getD (now (out .exit)) j 0 ≡ (reduce p (getD (now (out .entry)) j 0) ⊕ sum (residues p) (length (now (by .entry))) (λ t. line p (now (by .entry)) 0 1 t ⊗ line p (now (table .entry)) (start + j) stride t)) .value) ⌝ }
 {
     let width = out.len();
@@ -79,13 +139,12 @@ pub fn combine(p: u32, by: &[u32], table: &[u32], start: usize, stride: usize, o
     let mut hi = no_rows();
     let mut t = 0;
     while t < by.len() {
-        let c = by[t];
-        if c != 0 {
-            let at = start + t * stride;
-            let end = at + width;
-            add_row(c, &table[at..end], &mut lo, &mut hi);
-        }
-        t += 1;
+        let a = next_row(by, start, stride, t);
+        let b = next_row(by, start, stride, a.next);
+        let c = next_row(by, start, stride, b.next);
+        let d = next_row(by, start, stride, c.next);
+        add_rows(width, table, a, b, c, d, &mut lo, &mut hi);
+        t = d.next;
     }
     settle(p, &lo, &hi, out);
 }

@@ -10,8 +10,9 @@ use lib.Seq.{length-take-le, getD-take, getD-drop}
 use Rattle.algebra.specs.Matrix.{sum, product, apply}
 use Rattle.algebra.proofs.Sums.{sum-same}
 use Rattle.field.specs.Residue.{Residue, reduce, residues, _⊗_}
-use Rattle.field.specs.View.{line, table}
+use Rattle.field.specs.View.{line, table, Below}
 use Rattle.field.proofs.Views.{table-entry}
+use Rattle.elimination.proofs.StepNegative.{taken-below, dropped-below}
 use Rattle.ledger.specs.Board.{headerLength, rowLength, boardLength}
 use Rattle.standing.specs.Records.{valueAt}
 
@@ -39,6 +40,9 @@ module _ (k j : ℕ) (d : List ℕ) (inside : j * k + k ≤ length d) where
   pub part-length : length (rowPart k j d) ≡ k
   part-length =
       length-take-le (j * k + k - j * k) (drop (j * k) d) (omega (arith, length-drop (j * k) d)) ∙ omega arith
+
+  pub part-below : {p : ℕ} → Below p d → Below p (rowPart k j d)
+  part-below {p} below = taken-below p (drop (j * k) d) (j * k + k - j * k) (dropped-below p d (j * k) below)
 
   part-at : (t : ℕ) → t < k → getD (rowPart k j d) (0 + t * 1) 0 ≡ getD d (0 + j * k + t) 0
   part-at t h =

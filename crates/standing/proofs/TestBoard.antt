@@ -62,6 +62,7 @@ module _ (ws rows d : List ℕ) (h : Header ws) (f : Filled ws) where
               zeros = f .zeros;
             };
         rows-long = v .rows-long;
+        rows-below = v .rows-below;
         d-long = v .d-long;
         d-below = v .d-below;
         same-rows = v .same-rows;

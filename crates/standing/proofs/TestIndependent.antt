@@ -5,6 +5,7 @@ use mathlib.Core.Bool.{Bool, true}
 use mathlib.Core.List.{List, _++_}
 use Prim.Native.Nat.{ℕ, _+_, _*_, _/_, _%_, _≤_, _<_}
 use native.Mathlib.Nat.{add-assoc, mul-comm, mul-le-mul-right, mod-lt, div-add-mod', div-lt-iff-lt-mul}
+use native.Mathlib.Decide.{decLt}
 use native.Mathlib.Omega.{arith}
 use lib.ListN.{length, getD, take, drop, length-take}
 use lib.Seq.{length-take-le, length-front, getD-take}
@@ -31,15 +32,27 @@ table-place n k q some h = (q / n, q % n, div-lt-iff-lt-mul some .1 h, mod-lt q 
 pub zeros-below : (p : ℕ) (xs : List ℕ) → 0 < p → ((j : ℕ) → getD xs j 0 ≡ 0) → Below p xs
 zeros-below p xs h z i l = rw (z i) h
 
--- the copied rows are below p, as the board's entries are
-rows-below : (ws rows₀ rows : List ℕ) → Header ws → Filled ws → Laid (countWord ws) (sizeWord ws) ws rows₀ rows
-    → Below (modulusWord ws) (take (countWord ws * sizeWord ws) rows)
-unfolding headerLength rowLength
-rows-below ws rows₀ rows h f laid q l =
-    let inside : q < countWord ws * sizeWord ws = omega (arith, length-take (countWord ws * sizeWord ws) rows) in
-    let (i, j, row, column, e) = table-place (sizeWord ws) (countWord ws) q (h .size .0) inside in
-    rw (getD-take (countWord ws * sizeWord ws) rows q 0 inside, ← e, laid .each i j row column, add-assoc)
-    (f .below (i * (sizeWord ws + 1) + j) (omega (arith, mul-le-mul-right (sizeWord ws + 1) row)))
+-- the copied rows are below p, as the board's entries are, and so is the room that they lie in
+module _ (ws rows₀ rows : List ℕ) (h : Header ws) (f : Filled ws) (laid : Laid (countWord ws) (sizeWord ws) ws rows₀ rows) where
+  entry-below : (q : ℕ) → q < countWord ws * sizeWord ws → getD rows q 0 < modulusWord ws
+  unfolding headerLength rowLength
+  entry-below q inside =
+      let (i, j, row, column, e) = table-place (sizeWord ws) (countWord ws) q (h .size .0) inside in
+      rw (← e, laid .each i j row column, add-assoc)
+      (f .below (i * (sizeWord ws + 1) + j) (omega (arith, mul-le-mul-right (sizeWord ws + 1) row)))
+
+  rows-below : Below (modulusWord ws) (take (countWord ws * sizeWord ws) rows)
+  rows-below q l =
+      let inside : q < countWord ws * sizeWord ws = omega (arith, length-take (countWord ws * sizeWord ws) rows) in
+      rw (getD-take (countWord ws * sizeWord ws) rows q 0 inside) (entry-below q inside)
+
+  room-below : ((j : ℕ) → getD rows₀ j 0 ≡ 0) → Below (modulusWord ws) rows
+  room-below blank q l = by-place (decLt q (countWord ws * sizeWord ws))
+    where
+      by-place : Dec (q < countWord ws * sizeWord ws) → getD rows q 0 < modulusWord ws
+      by-place (yes inside) = entry-below q inside
+      by-place (no past) =
+          rw (laid .rest q (omega arith) (omega (arith, laid .same-length)), blank q) (omega (arith, h .prime .prime .two-or-more))
 
 -- zeroed memory of 4,096 words for D, and of 64 words for each set of marks
 pub record Room (d columns chosen : List ℕ) : Type 0 where
@@ -135,7 +148,8 @@ module _ (p n k : ℕ) (ok : IsModulus p) (size : FrameSize n) (count : k ≤ n)
 -- ---- the same of a board's words
 
 module _ (ws rows₀ rows d columns chosen : List ℕ) (h : Header ws) (f : Filled ws)
-    (laid : Laid (countWord ws) (sizeWord ws) ws rows₀ rows) (long : length rows₀ ≡ 4096) (room : Room d columns chosen) where
+    (laid : Laid (countWord ws) (sizeWord ws) ws rows₀ rows) (long : length rows₀ ≡ 4096)
+    (blank : (j : ℕ) → getD rows₀ j 0 ≡ 0) (room : Room d columns chosen) where
   pub board-ready :
       Eliminable (modulusWord ws) (countWord ws) (sizeWord ws) (take (countWord ws * sizeWord ws) rows)
       (take (countWord ws * sizeWord ws) d) 0 (countWord ws) (take (sizeWord ws) columns) (take (countWord ws) chosen)
@@ -160,6 +174,7 @@ module _ (ws rows₀ rows d columns chosen : List ℕ) (h : Header ws) (f : Fill
         let rows-long = laid .same-length ∙ long in
         record {
           rows-long = laid .same-length ∙ long;
+          rows-below = room-below ws rows₀ rows h f laid blank;
           d-long = d-whole p n k (h .prime) (h .size) (h .count) rows d columns chosen rows-long room d′ columns′ chosen′ e;
           d-below = d-residues p n k (h .prime) (h .size) (h .count) rows d columns chosen rows-long room d′ columns′ chosen′ e;
           same-rows = laid .each;

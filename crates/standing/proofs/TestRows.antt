@@ -3,12 +3,12 @@ use mathlib.Core.Path.{_≡_, refl, _∙_}
 use mathlib.Core.Logic.{⊎-elim}
 use mathlib.Core.List.{List}
 use Prim.Native.Nat.{ℕ, _+_, _*_, _-_, _≤_, _<_}
-use native.Mathlib.Nat.{mul-le-mul-right, le-of-suc-le-suc, eq-or-lt-of-le}
+use native.Mathlib.Nat.{add-mul, mul-le-mul-right, le-of-suc-le-suc, eq-or-lt-of-le}
 use native.Mathlib.Numerals.{add-one}
 use native.Mathlib.Omega.{arith}
 use lib.ListN.{length, getD, take, drop}
 use Rattle.elimination.specs.Places.{Copied}
-use Rattle.elimination.proofs.Places.{replaced, replaced-length, replaced-inside, replaced-elsewhere, part-length}
+use Rattle.elimination.proofs.Places.{replaced, replaced-length, replaced-inside, replaced-elsewhere, part-length, part-at}
 use Rattle.ledger.specs.Board.{headerLength, rowLength}
 use Rattle.standing.specs.Tested.{Rows, Laid}
 use Rattle.standing.proofs.TestSizes.{table-most}
@@ -29,7 +29,8 @@ pub part-room : (a n : ℕ) (rows : List ℕ) → a + n ≤ length rows → n �
 part-room a n rows h = rw (part-length rows a (length rows - a) (omega arith)) (omega arith)
 
 pub laid-none : (n : ℕ) (ws rows : List ℕ) → Laid 0 n ws rows rows
-laid-none n ws rows = record { same-length = refl; each = λ i j h l. absurd (omega arith) }
+laid-none n ws rows =
+    record { same-length = refl; each = λ i j h l. absurd (omega arith); rest = λ q h l. refl }
 
 -- the rows up to i, then row i copied to the part behind them
 module _ (i n : ℕ) (ws rows₀ rows ys : List ℕ) (laid : Laid i n ws rows₀ rows) (room : i * n + n ≤ length rows)
@@ -52,6 +53,18 @@ module _ (i n : ℕ) (ws rows₀ rows ys : List ℕ) (laid : Laid i n ws rows₀
   new j l =
       replaced-inside rows (i * n) (length rows - i * n) ys (omega arith) part-long j (omega arith) ∙ copied .front j l
 
+  behind : (q : ℕ) → (i + 1) * n ≤ q → q < length rows₀ → getD after q 0 ≡ getD rows₀ q 0
+  unfolding after
+  behind q h l =
+      let wide : i * n + n ≤ q = omega (arith, add-mul i 1 n) in
+      let place : i * n + (q - i * n) ≡ q = omega arith in
+      let inside : q - i * n < length rows - i * n = omega (arith, laid .same-length) in
+      rw (← place)
+      (replaced-inside rows (i * n) (length rows - i * n) ys (omega arith) part-long (q - i * n) inside
+      ∙ copied .rest (q - i * n) (omega arith)
+      ∙ part-at rows (i * n) (length rows - i * n) (q - i * n) inside
+      ∙ rw place (laid .rest q (omega arith) l))
+
   pub laid-more : Laid (i + 1) n ws rows₀ (replaced rows (i * n) (length rows - i * n) ys)
   unfolding after
   laid-more =
@@ -59,4 +72,5 @@ module _ (i n : ℕ) (ws rows₀ rows ys : List ℕ) (laid : Laid i n ws rows₀
         same-length = replaced-length rows (i * n) (length rows - i * n) ys (omega arith) part-long ∙ laid .same-length;
         each = λ t j h l.
             ⊎-elim (λ e. rw e (new j l)) (λ g. old t j g l) (eq-or-lt-of-le (le-of-suc-le-suc (rw add-one at h)));
+        rest = behind;
       }

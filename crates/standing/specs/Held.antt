@@ -13,6 +13,7 @@ use Rattle.ledger.specs.Board.{IsBoard, headerLength, rowLength, modulusWord, s
 pub record Held (ws rows d : List ℕ) : Type 0 where
   pub board : IsBoard ws
   pub rows-long : length rows ≡ 4096
+  pub rows-below : Below (modulusWord ws) rows
   pub d-long : length d ≡ 4096
   pub d-below : Below (modulusWord ws) d
   pub same-rows :

@@ -40,14 +40,16 @@ pub record Rows (k n : ℕ) (ws rows : List ℕ) : Type 0 where
   pub inside : headerLength + k * rowLength n ≤ length ws
   pub room : length rows ≡ 4096
 
--- the multipliers of the first k rows stand one behind the other
+-- the multipliers of the first k rows stand one behind the other, and behind them what stood there
 pub record Laid (k n : ℕ) (ws rows rows′ : List ℕ) : Type 0 where
   pub same-length : length rows′ ≡ length rows
   pub each : (i j : ℕ) → i < k → j < n → getD rows′ (i * n + j) 0 ≡ getD ws (headerLength + i * rowLength n + j) 0
+  pub rest : (q : ℕ) → k * n ≤ q → q < length rows → getD rows′ q 0 ≡ getD rows q 0
 
 -- the multiplier rows are laid out, d holds a quasiinverse of them, and t says whether all rows are in its set J
 pub record Inverted (ws rows d : List ℕ) (t : Bool) : Type 0 where
   pub rows-long : length rows ≡ 4096
+  pub rows-below : Below (modulusWord ws) rows
   pub d-long : length d ≡ 4096
   pub d-below : Below (modulusWord ws) d
   pub same-rows :

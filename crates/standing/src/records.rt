@@ -4,6 +4,7 @@ ghost use mathlib.Core.Path.{_≡_};
 ghost use Prim.Native.Nat.{_<_, _≤_};
 ghost use lib.ListN.{length};
 ghost use Rattle.modulus.specs.Prime.{IsModulus};
+ghost use Rattle.field.specs.View.{Below};
 ghost use Rattle.field.specs.Halves.{Zeros};
 ghost use Rattle.field.specs.Written.{tabulate};
 ghost use Rattle.signed.specs.Reading.{reading};
@@ -40,7 +41,7 @@ fn is_unit(e: &[u32], j: usize) -> bool
 
 // Whether row j of D R is the unit row of j.
 fn settled(p: u32, n: usize, k: usize, j: usize, rows: &[u32], d: &[u32]) -> bool
-    requires { ⌜ (1 < p) × (n ≤ 64) × (k ≤ 64) × (j < n) × (length (now rows) ≡ 4096) × (length (now d) ≡ 4096) ⌝ }
+    requires { ⌜ (1 < p) × (p ≤ 2147483647) × (n ≤ 64) × (k ≤ 64) × (j < n) × (length (now rows) ≡ 4096) × (length (now d) ≡ 4096) × Below p (now rows) × Below p (now d) ⌝ }
     ensures { λ r. ⌜ Tells r (UnitAt p n k j (now (rows .entry)) (now (d .entry))) ⌝ }
 {
     let mut e = zero_row();

@@ -105,7 +105,7 @@ fn copy_rows(board: &[u32], k: usize, n: usize, rows: &mut [u32])
 
 // Whether the k multiplier rows are independent: whether a quasiinverse of them has every row in its set J.
 fn independent(board: &[u32], rows: &mut [u32], d: &mut [u32]) -> bool
-    requires { ⌜ Header (now board) × Filled (now board) × (length (now rows) ≡ 4096) × (length (now d) ≡ 4096) × ((j : ℕ) → getD (now d) j 0 ≡ 0) ⌝ }
+    requires { ⌜ Header (now board) × Filled (now board) × (length (now rows) ≡ 4096) × (length (now d) ≡ 4096) × ((j : ℕ) → getD (now d) j 0 ≡ 0) × ((j : ℕ) → getD (now rows) j 0 ≡ 0) ⌝ }
     ensures { λ r. ⌜ Inverted (now (board .entry)) (now (rows .exit)) (now (d .exit)) r ⌝ }
 {
     let n = board[1] as usize;
@@ -130,7 +130,7 @@ fn independent(board: &[u32], rows: &mut [u32], d: &mut [u32]) -> bool
 
 // Whether the words are a board; then `rows` holds its multiplier rows one behind the other, and `d` a quasiinverse of them.
 pub fn is_board(board: &[u32], rows: &mut [u32], d: &mut [u32]) -> bool
-    requires { ⌜ (length (now rows) ≡ 4096) × (length (now d) ≡ 4096) × ((j : ℕ) → getD (now d) j 0 ≡ 0) ⌝ }
+    requires { ⌜ (length (now rows) ≡ 4096) × (length (now d) ≡ 4096) × ((j : ℕ) → getD (now d) j 0 ≡ 0) × ((j : ℕ) → getD (now rows) j 0 ≡ 0) ⌝ }
     ensures { λ r. ⌜ (r ≡ pick (board? (now (board .entry))) true false) × (r ≡ true → Held (now (board .entry)) (now (rows .exit)) (now (d .exit))) ⌝ }
 {
     if !has_header(board) {

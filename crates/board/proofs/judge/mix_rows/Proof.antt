@@ -20,14 +20,14 @@ combine-requires c κs =
     let a = c .before .before .before .before .args in
     let s = c .before .before .before .before .pre in
     let e = length-take-le (a .width) (c .before .no-numbers .result) (array-borrow-prefix-out (c .before)) in
-    (s .0, s .1, rw e (s .2), λ t h. rw (e, s .3) (omega (arith, rows-inside _ _ t (s .1) (s .2) h)))
+    (s .0, s .1, s .2, rw e (s .3), s .4, s .5, λ t h. rw (e, s .6) (omega (arith, rows-inside _ _ t (s .2) (s .3) h)))
 
 returns : tie.Need-returns
 returns c =
     let a = c .before .before .before .before .before .before .args in
     let s = c .before .before .before .before .before .before .pre in
     let e = c .before .combine .ensures in
-    combined-mixed (a .p) (a .width) (a .by .now) (a .table .now) _ (c .before .combine .last .1 .1 .1 .1 .1 .0) (s .0) (s .2)
+    combined-mixed (a .p) (a .width) (a .by .now) (a .table .now) _ (c .before .combine .last .1 .1 .1 .1 .1 .0) (s .0) (s .3)
     (c .before .before .before .no-numbers .ensures) (e .0) (e .1)
 
 pub mix-rows-spec : {M : Type 1} → statement M

@@ -8,6 +8,7 @@ use lib.Seq.{length-take-le}
 use borrow.Author.Needs.{needs}
 use borrow.Author.Tests.{not-true, not-false}
 use Rattle.ledger.specs.Board.{modulusWord, sizeWord, countWord, entriesOf}
+use Rattle.board.proofs.JudgeRows.{mixed-below}
 use Rattle.board.proofs.JudgeWrites.{put-whole}
 use Rattle.board.proofs.JudgeCombinations.{Compared}
 use Rattle.board.proofs.JudgeTake.{
@@ -56,7 +57,15 @@ mix-rows-requires : tie.Need-mix-rows-requires
 mix-rows-requires c κs =
     let b = entry c in
     let (positive, small, few) = sizes b in
-    (positive, omega (arith, b .pre .1), few, b .pre .0 .d-long)
+    let H = b .pre .0 in (
+      positive,
+      H .board .prime .in-range,
+      omega (arith, b .pre .1),
+      few,
+      λ j l. b .pre .2 j (rw (b .pre .1) at l),
+      H .d-below,
+      H .d-long,
+    )
 
 array-share-prefix-c : tie.Need-array-share-prefix-c
 array-share-prefix-c c = omega (arith, c .mix-rows .ensures .0, sizes (entry (c .before)))
@@ -68,7 +77,15 @@ mix-rows-requires-2 : tie.Need-mix-rows-requires-2
 mix-rows-requires-2 c κs =
     let b = entry (c .before .before) in
     let (positive, small, few) = sizes b in
-    (positive, omega (arith, slice-aggregate-mix-rows c), small, b .pre .0 .rows-long)
+    let H = b .pre .0 in (
+      positive,
+      H .board .prime .in-range,
+      omega (arith, slice-aggregate-mix-rows c),
+      small,
+      mixed-below _ _ (b .args .f .now) (b .args .d .now) (c .before .mix-rows .result) positive (c .before .mix-rows .ensures),
+      H .rows-below,
+      H .rows-long,
+    )
 
 array-share-prefix-g : tie.Need-array-share-prefix-g
 array-share-prefix-g c = omega (arith, c .mix-rows2 .ensures .0, sizes (begin c))

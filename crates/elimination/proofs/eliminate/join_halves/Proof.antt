@@ -24,13 +24,14 @@ add-product-within-requires c κs =
     let negative = c .before .before .before .before in
     let cleared = negative .before .before .before .before .before in
     let pre = cleared .before .before .before .before .before .before .pre in
-    join-second (pre .0) _ (negative .negative-product .ensures .0 ∙ cleared .clear .ensures .0)
+    let e = negative .negative-product .ensures in
+    join-second (pre .0) _ (e .0 ∙ cleared .clear .ensures .0) (e .1)
 
 add-product-within-requires-2 : tie.Need-add-product-within-requires-2
 add-product-within-requires-2 c κs =
     let within = c .before .before .before in
     let pre = within .before .before .before .before .before .before .before .before .before .before .before .before .before .before .before .before .pre in
-    join-third (pre .0) _ (within .add-product-within .ensures .kept)
+    join-third (pre .0) (pre .1) _ (within .add-product-within .ensures .kept)
 
 same-length : tie.Need-same-length
 same-length c = search needs

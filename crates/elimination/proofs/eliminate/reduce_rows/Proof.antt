@@ -23,7 +23,7 @@ add-product-requires : tie.Need-add-product-requires
 add-product-requires c κs =
     let pre = c .before .before .before .before .before .before .before .before .before .before .before .before .before .before .before .pre in
     let negative = c .before .before .before .before .before .before .before .before .negative-product in
-    reduce-second _ (pre .0) (pre .1) (pre .2) (pre .3) (pre .4) _ (negative .ensures .0) _
+    reduce-second _ (pre .0) (pre .1) (pre .2) (pre .3) (pre .4) _ (negative .ensures .0) (negative .ensures .1) _
     (c .before .before .before .before .copy .ensures)
 
 same-length : tie.Need-same-length
@@ -37,9 +37,8 @@ returns c =
     let negative = c .before .before .before .before .before .before .before .before .before .before .before in
     let pre = negative .before .before .before .before .before .before .before .pre in
     let e = negative .negative-product .ensures in
-    reduced _ (pre .0) (pre .1) (pre .2) (pre .3) (pre .4) _ (e .0) _
+    reduced _ (pre .0) (pre .1) (pre .2) (pre .3) (pre .4) _ (e .0) (e .1) _
     (c .before .before .before .before .before .before .before .copy .ensures)
-    (e .1)
     (e .2)
     (c .before .before .add-product .ensures)
 

@@ -45,8 +45,8 @@ add-row-within-requires : tie.Need-add-row-within-requires Inv-loop μ-loop
 add-row-within-requires c κs =
     let l = c .before .before .loop in
     let s = c .before .before .before .before .before in
-    factors-row (l .inv .1 .kept .same-length) (l .inv .1 .kept .same-length) (l .inv .1 .kept .below) (c .before .loop-test .taken)
-    (s .pre .0)
+    let kept = l .inv .1 .kept in
+    factors-row (kept .same-length) (kept .below) (kept .same-length) (kept .below) (c .before .loop-test .taken) (s .pre .0)
 
 add-i : tie.Need-add-i Inv-loop μ-loop
 add-i c = omega arith

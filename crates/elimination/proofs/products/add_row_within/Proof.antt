@@ -1,6 +1,7 @@
 -- `elimination::products::add_row_within` meets its contract: the copy has the multipliers that stood in z.
 use native.Mathlib.Omega.{arith}
 use borrow.Author.Needs.{needs}
+use Rattle.elimination.proofs.Places.{copied-below}
 use Rattle.elimination.proofs.PlaceRows.{row-fits, factors-front, copied-row, multiplied-left}
 use Rattle.elimination.proofs.products.add_row_within.Statement.{statement}
 use Rattle.elimination.proofs.products.add_row_within.Tie as tie
@@ -14,7 +15,7 @@ slice-aggregate-copy c = search needs
 copy-requires : tie.Need-copy-requires
 copy-requires c κs =
     let s = c .before .before .before .before .before in
-    (row-fits (s .pre .left), omega (arith, c .before .before .multipliers .ensures, s .pre .inner))
+    (row-fits (s .pre .left), omega (arith, c .before .before .multipliers .ensures .0, s .pre .inner))
 
 slice-aggregate-add-row : tie.Need-slice-aggregate-add-row
 slice-aggregate-add-row c = search needs
@@ -22,7 +23,11 @@ slice-aggregate-add-row c = search needs
 add-row-requires : tie.Need-add-row-requires
 add-row-requires c κs =
     let s = c .before .before .before .before .before .before .before .before .before in
-    factors-front (omega (arith, c .before .before .before .before .before .before .multipliers .ensures, c .before .before .before .copy .ensures .same-length, s .pre .inner)) (s .pre)
+    let room = c .before .before .before .before .before .before .multipliers .ensures in
+    let copied = c .before .before .before .copy .ensures in
+    factors-front (omega (arith, room .0, copied .same-length, s .pre .inner))
+    (copied-below (s .pre .positive) (room .1) (row-fits (s .pre .left)) (s .pre .left-below) copied)
+    (s .pre)
 
 same-length : tie.Need-same-length
 same-length c = search needs

@@ -27,8 +27,8 @@ loop-holds c = (omega arith, walked-none _ _)
 mul-reduced : tie.Need-mul-reduced Inv-loop μ-loop
 mul-reduced c = omega arith
 
-shared-slice-read-reduced : tie.Need-shared-slice-read-reduced Inv-loop μ-loop
-shared-slice-read-reduced c = omega arith
+element-copy-out-reduced : tie.Need-element-copy-out-reduced Inv-loop μ-loop
+element-copy-out-reduced c = omega arith
 
 mul-reduced-2 : tie.Need-mul-reduced-2 Inv-loop μ-loop
 mul-reduced-2 c = omega arith
@@ -42,18 +42,18 @@ cast-reduced c = omega (arith, c .slice-known2 .given (c .before .before .before
 add-reduced : tie.Need-add-reduced Inv-loop μ-loop
 add-reduced c =
     let j = c .before .before .before .loop .j in
-    word-fits _ _ (c .before .before .before .before .before .before .before .pre .1 .room-lo j) (c .slice-known2 .given j)
+    word-fits _ _ (c .before .before .before .before .before .pre .1 .room-lo j (omega arith)) (c .slice-known2 .given j)
 
 mul-reduced-3 : tie.Need-mul-reduced-3 Inv-loop μ-loop
 mul-reduced-3 c = omega arith
 
-shared-slice-read-reduced-2 : tie.Need-shared-slice-read-reduced-2 Inv-loop μ-loop
-shared-slice-read-reduced-2 c = omega arith
+element-copy-out-reduced-2 : tie.Need-element-copy-out-reduced-2 Inv-loop μ-loop
+element-copy-out-reduced-2 c = omega arith
 
 reduced-requires : tie.Need-reduced-requires Inv-loop μ-loop
 reduced-requires c κs =
-    let s = c .before .before .before .before .before .before .before .before in
-    (s .pre .0, s .pre .1 .room-hi (c .before .before .before .before .loop .j))
+    let s = c .before .before .before .before .before .before in
+    (s .pre .0, s .pre .1 .room-hi (c .before .before .before .before .loop .j) (omega arith))
 
 mul-out : tie.Need-mul-out Inv-loop μ-loop
 mul-out c = omega arith
@@ -71,7 +71,7 @@ loop-again : tie.Need-loop-again Inv-loop μ-loop
 unfolding summed
 loop-again c =
     let l = c .before .before .before .before .before .loop in
-    let a = c .before .before .before .before .before .before .before .before .before .args in (
+    let a = c .before .before .before .before .before .before .before .args in (
       omega arith,
       walked-more (l .j) _ _ _ _ (l .inv .1) (omega arith)
           (c .reduced .ensures ∙ ap (λ n. (reduce (a .p) n) .value) (whole-low _ _ _ _ (l .inv .1 .left (l .j) (omega arith)))),
@@ -94,13 +94,13 @@ settle-spec =
     μ-loop
     loop-holds
     mul-reduced
-    shared-slice-read-reduced
+    element-copy-out-reduced
     mul-reduced-2
     slice-read-reduced
     cast-reduced
     add-reduced
     mul-reduced-3
-    shared-slice-read-reduced-2
+    element-copy-out-reduced-2
     reduced-requires
     mul-out
     slice-write-out

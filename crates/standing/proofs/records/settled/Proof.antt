@@ -5,7 +5,7 @@ use mathlib.Core.List.{List}
 use Prim.Native.Nat.{ℕ, _+_, _*_, _≤_, _<_}
 use native.Mathlib.Omega.{arith}
 use lib.ListN.{length}
-use Rattle.standing.proofs.RecordTables.{row-inside, rowPart, part-length}
+use Rattle.standing.proofs.RecordTables.{row-inside, rowPart, part-length, part-below}
 use Rattle.standing.proofs.RecordRows.{front-length, row-fits, row-front-length, row-tells}
 use Rattle.standing.proofs.records.settled.Statement.{statement}
 use Rattle.standing.proofs.records.settled.Tie as tie
@@ -54,9 +54,12 @@ combine-requires c κs =
     let long = part-in-d s in
     let front = front-length n (z .zero-row .result) (omega arith) (z .zero-row .ensures) in (
       omega arith,
+      s .pre .1,
       omega (arith, long),
       omega (arith, front),
-      λ t h. let inside : t < 64 = omega (arith, long) in omega (arith, front, row-inside t n inside (s .pre .1)),
+      part-below (s .args .k) (s .args .j) (s .args .d .now) (omega (arith, in-d s)) (s .pre .8),
+      s .pre .7,
+      λ t h. let inside : t < 64 = omega (arith, long) in omega (arith, front, row-inside t n inside (s .pre .2)),
     )
 
 -- the row that `combine` leaves

@@ -44,7 +44,17 @@ settled-requires : tie.Need-settled-requires Inv-loop μ-loop
 settled-requires c κs =
     let s = c .before .before .before .before .before .before .before .before .before in
     let b = board s in
-    (b .prime .prime .two-or-more, b .size .1, omega (arith, b .size, b .count), c .loop-test .taken, s .pre .0 .rows-long, s .pre .0 .d-long)
+    let H = s .pre .0 in (
+      b .prime .prime .two-or-more,
+      b .prime .in-range,
+      b .size .1,
+      omega (arith, b .size, b .count),
+      c .loop-test .taken,
+      H .rows-long,
+      H .d-long,
+      H .rows-below,
+      H .d-below,
+    )
 
 mul-marks : tie.Need-mul-marks Inv-loop μ-loop
 mul-marks c = omega arith

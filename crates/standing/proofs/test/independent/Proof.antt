@@ -58,7 +58,7 @@ marks :
 marks c =
     let r = rooms-of (c .before) in
     let s = start-of r in
-    board-marks _ _ _ _ _ _ (s .pre .0) (s .pre .1) (copied-of r .copy-rows .ensures) (s .pre .2) (room r) _ _ _ (c .eliminate .ensures)
+    board-marks _ _ _ _ _ _ (s .pre .0) (s .pre .1) (copied-of r .copy-rows .ensures) (s .pre .2) (s .pre .5) (room r) _ _ _ (c .eliminate .ensures)
 
 shared-slice-read-n : tie.Need-shared-slice-read-n
 shared-slice-read-n c = search needs
@@ -128,7 +128,7 @@ eliminate-requires : tie.Need-eliminate-requires
 eliminate-requires c κs =
     let r = rooms-of c in
     let s = start-of r in
-    board-ready _ _ _ _ _ _ (s .pre .0) (s .pre .1) (copied-of r .copy-rows .ensures) (s .pre .2) (room r)
+    board-ready _ _ _ _ _ _ (s .pre .0) (s .pre .1) (copied-of r .copy-rows .ensures) (s .pre .2) (s .pre .5) (room r)
 
 array-share-prefix-chosen : tie.Need-array-share-prefix-chosen
 array-share-prefix-chosen c =
@@ -154,7 +154,7 @@ returns c =
     let e = c .before .before .before .before .before .before in
     let r = rooms-of (e .before) in
     let s = start-of r in
-    board-inverted _ _ _ _ _ _ (s .pre .0) (s .pre .1) (copied-of r .copy-rows .ensures) (s .pre .2) (room r) _ _ _ (e .eliminate .ensures)
+    board-inverted _ _ _ _ _ _ (s .pre .0) (s .pre .1) (copied-of r .copy-rows .ensures) (s .pre .2) (s .pre .5) (room r) _ _ _ (e .eliminate .ensures)
     (c .all-marked .ensures)
 
 pub independent-spec : {M : Type 1} → statement M

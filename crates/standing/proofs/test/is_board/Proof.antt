@@ -31,7 +31,7 @@ independent-requires : tie.Need-independent-requires
 independent-requires c κs =
     let e = c .before .before in
     let s = c .before .before .before .before .before .before .before .before .before in
-    (header (e .before .before), filled e, s .pre .0, s .pre .1, s .pre .2)
+    (header (e .before .before), filled e, s .pre .0, s .pre .1, s .pre .2, s .pre .3)
 
 same-length : tie.Need-same-length
 same-length c = search needs

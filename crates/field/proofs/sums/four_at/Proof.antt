@@ -1,0 +1,55 @@
+-- `field::sums::four_at` meets its contract: each product is a quarter of what 64 bits hold, so that the four together fit.
+use borrow.Author.Needs.{needs}
+use native.Mathlib.Omega.{arith}
+use Rattle.field.specs.Four.{fourAt}
+use Rattle.field.proofs.Four.{two-fit, three-fit, four-fit}
+use Rattle.field.proofs.sums.four_at.Statement.{statement}
+use Rattle.field.proofs.sums.four_at.Tie as tie
+
+product-at-requires : tie.Need-product-at-requires
+product-at-requires c κs = search needs
+
+product-at-requires-2 : tie.Need-product-at-requires-2
+product-at-requires-2 c κs = search needs
+
+add-result : tie.Need-add-result
+add-result c = two-fit _ _ (c .before .product-at .ensures .1) (c .product-at2 .ensures .1)
+
+product-at-requires-3 : tie.Need-product-at-requires-3
+product-at-requires-3 c κs = search needs
+
+add-result-2 : tie.Need-add-result-2
+add-result-2 c =
+    three-fit _ _ _ (c .before .before .product-at .ensures .1) (c .before .product-at2 .ensures .1) (c .product-at3 .ensures .1)
+
+product-at-requires-4 : tie.Need-product-at-requires-4
+product-at-requires-4 c κs = search needs
+
+add-result-3 : tie.Need-add-result-3
+add-result-3 c =
+    four-fit _ _ _ _ (c .before .before .before .product-at .ensures .1) (c .before .before .product-at2 .ensures .1)
+    (c .before .product-at3 .ensures .1) (c .product-at4 .ensures .1)
+
+returns : tie.Need-returns
+unfolding fourAt
+returns c =
+    omega (
+      arith,
+      c .before .before .before .product-at .ensures .0,
+      c .before .before .product-at2 .ensures .0,
+      c .before .product-at3 .ensures .0,
+      c .product-at4 .ensures .0,
+    )
+
+pub four-at-spec : {M : Type 1} → statement M
+four-at-spec =
+    tie.close
+    (tie.spec
+    product-at-requires
+    product-at-requires-2
+    add-result
+    product-at-requires-3
+    add-result-2
+    product-at-requires-4
+    add-result-3
+    returns)

@@ -1,0 +1,44 @@
+-- Rows of a table that are added four at a time: numbers below 2^31 - 1, of which four products have 64 bits together, and
+-- what `next_row` hands over.
+use mathlib.Core.Path.{_≡_}
+use mathlib.Core.List.{List}
+use Prim.Native.Nat.{ℕ, _+_, _*_, _^_, _<_, _≤_}
+use lib.ListN.{length, getD}
+use Rattle.field.specs.Totals.{total, products}
+use Rattle.field.specs.declared.sums.Row.{Row}
+
+-- below the largest modulus, as every residue is
+unfoldable pub Short : ℕ → Type 0
+Short n = n < 2147483647
+
+abbrev pub Shorts : List ℕ → Type 0
+Shorts xs = (i : ℕ) → Short (getD xs i 0)
+
+-- four such numbers have 64 bits together
+unfoldable pub Quarter : ℕ → Type 0
+Quarter n = 4 * n < 2 ^ 64
+
+-- the rows' starts have 64 bits
+abbrev pub Starts : (k start stride : ℕ) → Type 0
+Starts k start stride = (t : ℕ) → t < k → start + t * stride < 2 ^ 64
+
+-- the product of a row at place j, and the sum of four
+unfoldable pub productAt : List ℕ → Row → ℕ → ℕ
+productAt table r j = r .times * getD table (r .at + j) 0
+
+unfoldable pub fourAt : List ℕ → (a b c d : Row) → ℕ → ℕ
+fourAt table a b c d j = productAt table a j + productAt table b j + productAt table c j + productAt table d j
+
+-- the row's multiplier is short, and its first `width` numbers lie in the table
+pub record Inside (width : ℕ) (table : List ℕ) (r : Row) : Type 0 where
+  pub short : Short (r .times)
+  pub in-table : r .at + width ≤ length table
+
+-- the rows of the multipliers `by` from `from` on, up to `next`, add what the row r adds
+pub record Taken (by : List ℕ) (start stride from : ℕ) (r : Row) : Type 0 where
+  pub short : Short (r .times)
+  pub later : from ≤ r .next
+  pub onward : from < length by → from < r .next
+  pub within : r .next ≤ length by
+  pub in-table : (width n : ℕ) → ((t : ℕ) → t < length by → start + t * stride + width ≤ n) → 0 < length by → r .at + width ≤ n
+  pub added : (xs : List ℕ) (j : ℕ) → total (r .next) (products by xs (start + j) stride) ≡ total from (products by xs (start + j) stride) + productAt xs r j
