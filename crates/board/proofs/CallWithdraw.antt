@@ -11,7 +11,7 @@ use lib.Seq.{getD-set-same, getD-set-other}
 use Rattle.algebra.proofs.Choice.{pick-yes, pick-no}
 use Rattle.modulus.specs.declared.Refusal.the-variants.{NotBoard, Withdrawal}
 use Rattle.modulus.specs.Told.{refused}
-use Rattle.elimination.proofs.Places.{replaced, replaced-length, replaced-inside, replaced-elsewhere, part-length}
+use Rattle.blocks.proofs.Places.{replaced, replaced-length, replaced-inside, replaced-elsewhere, part-length}
 use Rattle.ledger.specs.Steps.{Withdrawn, withdrawn, countTold, ledgerWithdraw}
 use Rattle.ledger.specs.Board.{IsBoard, headerLength, rowLength, modulusWord, sizeWord, countWord, layout, entriesOf}
 use Rattle.ledger.specs.Calls.{opened, withdrawCall}

@@ -11,8 +11,7 @@ use Rattle.algebra.specs.Matrix.{sum, mixed}
 use Rattle.algebra.proofs.Sums.{sum-same}
 use Rattle.algebra.proofs.Rings.{zero-plus}
 use Rattle.field.specs.Residue.{Residue, reduce, residues, _⊕_, _⊗_}
-use Rattle.field.specs.View.{line, table, Below}
-use Rattle.field.specs.Halves.{Zeros}
+use Rattle.field.specs.View.{line, table, Below, Zeros}
 use Rattle.field.proofs.Residues.{below-of-value}
 use Rattle.field.proofs.Field.{residues-ring}
 use Rattle.field.proofs.Views.{table-entry}
@@ -40,31 +39,31 @@ column-mixed p m w j by xs l =
     (ap (λ q. reduce p (getD xs q 0)) place ∙ sym (table-entry p xs 0 w m w t j h l)))
 
 -- what `combine` adds to the front of 64 zeros is the row times the table
-pub combined-mixed : (p w : ℕ) (by xs zs part : List ℕ) → 0 < p → w ≤ 64 → Zeros zs
+pub combined-mixed : (p w : ℕ) (by xs zs part : List ℕ) → 0 < p → w ≤ 64 → Zeros 64 zs
     → length part ≡ length (take w zs)
     → ((j : ℕ) → j < length (take w zs)
     → getD part j 0
     ≡ (reduce p (getD (take w zs) j 0) ⊕ sum (residues p) (length by) (λ t. line p by 0 1 t ⊗ line p xs (0 + j) w t)) .value)
     → Mixed p by xs w (part ++ drop w zs)
 combined-mixed p w by xs zs part positive h z long each =
-    (length-front zs part w long ∙ z .long, front, behind)
+    (length-front zs part w long ∙ z .0, front, behind)
   where
     short : length (take w zs) ≡ w
-    short = length-take-le w zs (omega (arith, z .long))
+    short = length-take-le w zs (omega (arith, z .0))
 
     front : (j : ℕ) → j < w → getD (part ++ drop w zs) j 0 ≡ (mixed (residues p) (length by) (line p by 0 1) (table p xs 0 w (length by) w) j) .value
     front j l =
         List·getD-append part (drop w zs) 0 j (omega (arith, long, short))
         ∙ each j (omega (arith, short))
         ∙ ap (λ (a : Residue p). a .value)
-        (ap (λ x. reduce p x ⊕ sum (residues p) (length by) (λ t. line p by 0 1 t ⊗ line p xs (0 + j) w t)) (getD-take w zs j 0 l ∙ z .zero-at j)
+        (ap (λ x. reduce p x ⊕ sum (residues p) (length by) (λ t. line p by 0 1 t ⊗ line p xs (0 + j) w t)) (getD-take w zs j 0 l ∙ z .1 j)
         ∙ zero-plus (residues p) (residues-ring p positive) _
         ∙ column-mixed p (length by) w j by xs l)
 
     behind : (j : ℕ) → w ≤ j → getD (part ++ drop w zs) j 0 ≡ 0
     behind j l =
         let place : j ≡ length part + (j - w) = omega (arith, long, short) in
-        rw place (getD-append-add part (drop w zs) (j - w) 0 ∙ getD-drop w zs (j - w) 0 ∙ z .zero-at (w + (j - w)))
+        rw place (getD-append-add part (drop w zs) (j - w) 0 ∙ getD-drop w zs (j - w) 0 ∙ z .1 (w + (j - w)))
 
 -- its first numbers are residues
 pub mixed-below : (p w : ℕ) (by xs r : List ℕ) → 0 < p → Mixed p by xs w r → Below p (take w r)

@@ -7,7 +7,6 @@ ghost use Rattle.algebra.specs.Matrix.{mixed};
 ghost use Rattle.modulus.specs.Prime.{IsModulus};
 ghost use Rattle.field.specs.Residue.{residues};
 ghost use Rattle.field.specs.View.{line, table as tableOf, Below};
-ghost use Rattle.field.specs.Halves.{Zeros};
 ghost use Rattle.ledger.specs.Board.{modulusWord, sizeWord, entriesOf, headerLength, rowLength};
 ghost use Rattle.ledger.specs.Changes.{Appended};
 ghost use Rattle.ledger.specs.Steps.{takeAccepted};
@@ -17,19 +16,12 @@ ghost use Rattle.standing.specs.Held.{Held};
 use crate::TakeAnswer;
 use modulus::Refusal;
 
-// The numbers of no row.
-fn no_numbers() -> [u32; 64]
-    ensures { λ r. ⌜ Zeros r ⌝ }
-{
-    [0u32; 64]
-}
-
 // The row `by` times the table, whose rows have `width` numbers; zeros behind.
 fn mix_rows(p: u32, by: &[u32], table: &[u32], width: usize) -> [u32; 64]
     requires { ⌜ (0 < p) × (p ≤ 2147483647) × (length (now by) ≤ 64) × (width ≤ 64) × Below p (now by) × Below p (now table) × (length (now table) ≡ 4096) ⌝ }
     ensures { λ r. ⌜ (length r ≡ 64) × ((j : ℕ) → j < width → getD r j 0 ≡ (mixed (residues p) (length (now (by .entry))) (line p (now (by .entry)) 0 1) (tableOf p (now (table .entry)) 0 width (length (now (by .entry))) width) j) .value) × ((j : ℕ) → width ≤ j → getD r j 0 ≡ 0) ⌝ }
 {
-    let mut out = no_numbers();
+    let mut out = field::rooms::row_room();
     field::sums::combine(p, by, table, 0, width, &mut out[..width]);
     out
 }

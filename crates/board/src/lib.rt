@@ -3,6 +3,8 @@ ghost use mathlib.Core.Path.{_≡_};
 ghost use Rattle.board.specs.Told.{openTold, takeTold, answerTold};
 ghost use Rattle.ledger.specs.Steps.{shown};
 ghost use Rattle.ledger.specs.Calls.{opened, openCall, takeOutcome, takeCall, withdrawCall, showCall};
+use field::rooms::row_room;
+use field::rooms::table_room;
 use modulus::Refusal;
 use standing::records;
 use standing::test;
@@ -45,7 +47,7 @@ pub fn open(p: u32, n: u32, board: &mut [u32]) -> OpenAnswer
     if board.len() != 3 + size * (size + 1) {
         return OpenAnswer::Refused(Refusal::Length);
     }
-    elimination::products::clear(board);
+    blocks::clear(board);
     board[0] = p;
     board[1] = n;
     OpenAnswer::Opened
@@ -56,8 +58,8 @@ pub fn open(p: u32, n: u32, board: &mut [u32]) -> OpenAnswer
 pub fn take(board: &mut [u32], frame: &[u8], mix: &mut [u32]) -> TakeAnswer
     ensures { λ r. ⌜ takeOutcome (takeTold r) (now (board .exit)) (now (mix .exit)) ≡ takeCall (now (board .entry)) (now (frame .entry)) (now (mix .entry)) ⌝ }
 {
-    let mut rows = test::table_room();
-    let mut d = test::table_room();
+    let mut rows = table_room();
+    let mut d = table_room();
     if !test::is_board(board, &mut rows, &mut d) {
         return TakeAnswer::Refused(Refusal::NotBoard);
     }
@@ -66,7 +68,7 @@ pub fn take(board: &mut [u32], frame: &[u8], mix: &mut [u32]) -> TakeAnswer
     if mix.len() != n {
         return TakeAnswer::Refused(Refusal::Length);
     }
-    let mut f = test::row_room();
+    let mut f = row_room();
     match frame_bytes::reading::read_frame(p, n, frame, &mut f[..n]) {
         frame_bytes::ReadAnswer::Value(v) => judge::take_row(board, &rows, &d, &f[..n], v, mix),
         frame_bytes::ReadAnswer::Refused(kind) => TakeAnswer::Refused(kind),
@@ -77,8 +79,8 @@ pub fn take(board: &mut [u32], frame: &[u8], mix: &mut [u32]) -> TakeAnswer
 pub fn withdraw(board: &mut [u32], t: u32) -> CountAnswer
     ensures { λ r. ⌜ opened (answerTold r) (now (board .exit)) ≡ withdrawCall (now (board .entry)) t ⌝ }
 {
-    let mut rows = test::table_room();
-    let mut d = test::table_room();
+    let mut rows = table_room();
+    let mut d = table_room();
     if !test::is_board(board, &mut rows, &mut d) {
         return CountAnswer::Refused(Refusal::NotBoard);
     }
@@ -89,7 +91,7 @@ pub fn withdraw(board: &mut [u32], t: u32) -> CountAnswer
     let n = board[1] as usize;
     let left = k - t;
     let from = 3 + (left as usize) * (n + 1);
-    elimination::products::clear(&mut board[from..]);
+    blocks::clear(&mut board[from..]);
     board[2] = left;
     CountAnswer::Count(left)
 }
@@ -98,8 +100,8 @@ pub fn withdraw(board: &mut [u32], t: u32) -> CountAnswer
 pub fn show(board: &[u32], marks: &mut [u32], numbers: &mut [i32]) -> CountAnswer
     ensures { λ r. ⌜ shown (answerTold r) (now (marks .exit)) (now (numbers .exit)) ≡ showCall (now (board .entry)) (now (marks .entry)) (now (numbers .entry)) ⌝ }
 {
-    let mut rows = test::table_room();
-    let mut d = test::table_room();
+    let mut rows = table_room();
+    let mut d = table_room();
     if !test::is_board(board, &mut rows, &mut d) {
         return CountAnswer::Refused(Refusal::NotBoard);
     }

@@ -11,11 +11,12 @@ use Rattle.algebra.proofs.Choice.{pick-elim, pick-by-elim}
 use Rattle.algebra.proofs.Independent.{count-most}
 use Rattle.modulus.specs.Prime.{IsModulus}
 use Rattle.modulus.specs.Decide.{modulus?}
-use Rattle.tables.specs.Checks.{sizes?, long?, below?}
+use Rattle.field.specs.Checks.{below?}
+use Rattle.tables.specs.Checks.{sizes?, long?}
 use Rattle.tables.specs.Chosen.{rank}
 use Rattle.tables.specs.Calls.{Quasiinverted, Kernel, Solved, columnsOf, rankOf, solves?, solution, quasiinverseCall, kernelCall, solveCall}
 use Rattle.frame_bytes.specs.Format.{longest}
-use Rattle.frame_bytes.specs.Checks.{frameSize?, below? as all-below?}
+use Rattle.frame_bytes.specs.Checks.{frameSize?}
 use Rattle.frame_bytes.specs.Calls.{Outcome, writeCall}
 use Rattle.frame_bytes.proofs.Round.{longest-frame}
 use Rattle.ledger.specs.Ledger.{Entry}
@@ -121,7 +122,7 @@ write-most p n xs v lent =
     (λ e.
     pick-elim Small (ℕ-discrete (length lent) longest) _ _
     (λ _.
-    pick-elim Small (all-below? p xs) _ _
+    pick-elim Small (below? p xs) _ _
     (λ _. pick-elim Small (decLt v p) _ _ (λ _. omega (arith, longest-frame n xs v e (s .1))) (λ _. omega arith))
     (λ _. omega arith))
     (λ _. omega arith))

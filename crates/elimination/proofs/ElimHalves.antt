@@ -10,7 +10,7 @@ use lib.Seq.{length-take-le}
 use Rattle.algebra.specs.Quasiinverse.{either, follow}
 use Rattle.field.specs.View.{Below}
 use Rattle.elimination.specs.Eliminated.{Eliminable, Eliminated, Halves, Reduced, Joined}
-use Rattle.elimination.proofs.Places.{replaced, part-rest, front-table, kept-trans, kept-wider, kept-at}
+use Rattle.blocks.proofs.Places.{replaced, part-rest, front-table, kept-trans, kept-wider, kept-at}
 use Rattle.elimination.proofs.ElimMarks.{behind, with-front, rows-length, behind-length, marked-either, marked-rows}
 use Rattle.elimination.proofs.ElimStep.{whole-quasiinverse}
 use Rattle.elimination.proofs.StepNegative.{row-inside, taken-below, dropped-below}

@@ -14,7 +14,7 @@ use Rattle.algebra.specs.Quasiinverse.{Marks, none, only, either, follow}
 use Rattle.algebra.proofs.Blocks.{Part, upper, lower, part}
 use Rattle.algebra.proofs.Counts.{follow-upper, follow-lower}
 use Rattle.elimination.specs.Eliminated.{Marked}
-use Rattle.elimination.proofs.Places.{replaced, replaced-length, replaced-inside, replaced-elsewhere, front-inside, front-past, part-length, part-at}
+use Rattle.blocks.proofs.Places.{replaced, replaced-length, replaced-inside, replaced-elsewhere, front-inside, front-past, part-length, part-at}
 
 pub marked-none : (n : ℕ) (xs : List ℕ) → Marked n none xs xs
 unfolding none

@@ -14,9 +14,9 @@ use Rattle.modulus.specs.Prime.{IsModulus}
 use Rattle.field.specs.Residue.{residues}
 use Rattle.field.specs.View.{table}
 use Rattle.field.proofs.Field.{residues-field}
-use Rattle.elimination.specs.Places.{Kept}
+use Rattle.blocks.specs.Places.{Kept}
 use Rattle.elimination.specs.Eliminated.{Reduced, Joined}
-use Rattle.elimination.proofs.Places.{table-kept}
+use Rattle.blocks.proofs.Places.{table-kept}
 use Rattle.elimination.proofs.ElimTables.{table-stack, table-beside}
 
 module _ (p m₁ m₂ n : ℕ) (a d₁ d₂ d₃ : List ℕ) (at stride : ℕ) (t c t₁ c₁ : List ℕ) (I₁ I₂ J₁ J₂ : Marks)

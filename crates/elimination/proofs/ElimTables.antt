@@ -11,7 +11,7 @@ use Rattle.algebra.proofs.Blocks.{Part, upper, lower, part, stack-upper, stack-
 use Rattle.field.specs.Residue.{reduce, residues}
 use Rattle.field.specs.View.{table}
 use Rattle.field.proofs.Views.{table-entry, table-sized}
-use Rattle.elimination.proofs.Places.{tables-equal}
+use Rattle.blocks.proofs.Places.{tables-equal}
 
 -- a block of zeros
 pub zeros-sized : (p m n : ℕ) → Sized (residues p) m n (zeros (residues p))

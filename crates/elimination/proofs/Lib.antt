@@ -1,6 +1,3 @@
-pub mod Places
-pub mod PlaceRows
-pub mod PlaceFlags
 pub mod ElimMarks
 pub mod ElimTables
 pub mod RowOne

@@ -21,9 +21,9 @@ use Rattle.field.specs.Residue.{reduce, residues, _⊗_}
 use Rattle.field.specs.View.{table}
 use Rattle.field.proofs.Field.{residues-ring}
 use Rattle.field.proofs.Views.{table-entry, table-sized}
-use Rattle.elimination.specs.Places.{Kept}
+use Rattle.blocks.specs.Places.{Kept}
 use Rattle.elimination.specs.Eliminated.{Eliminable, Eliminated}
-use Rattle.elimination.proofs.Places.{tables-equal, same-place, kept-none}
+use Rattle.blocks.proofs.Places.{tables-equal, same-place, kept-none}
 use Rattle.elimination.proofs.ElimMarks.{marked-none, marked-one}
 use Rattle.elimination.proofs.ElimTables.{blank-table}
 

@@ -10,9 +10,9 @@ use Rattle.algebra.proofs.Matrices.{product-negative}
 use Rattle.field.specs.Residue.{residues}
 use Rattle.field.specs.View.{table, Below}
 use Rattle.field.proofs.Field.{residues-ring}
-use Rattle.elimination.specs.Places.{Factors, Kept, Multiplied}
+use Rattle.blocks.specs.Places.{Factors, Kept, Multiplied}
 use Rattle.elimination.specs.Eliminated.{Halves, Joined}
-use Rattle.elimination.proofs.Places.{kept-trans, kept-wider, table-kept}
+use Rattle.blocks.proofs.Places.{kept-trans, kept-wider, table-kept}
 use Rattle.elimination.proofs.StepNegative.{rows-block, columns-block}
 use Rattle.elimination.proofs.StepReduce.{modulus-positive, quarter-room, blank-below}
 

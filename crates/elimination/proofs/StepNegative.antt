@@ -13,8 +13,8 @@ use Rattle.algebra.proofs.Matrices.{zeros-add}
 use Rattle.field.specs.Residue.{reduce, residues, negated}
 use Rattle.field.specs.View.{table, Below}
 use Rattle.field.proofs.Field.{residues-ring}
-use Rattle.elimination.specs.Places.{Block, Factors, Multiplied}
-use Rattle.elimination.proofs.Places.{front-inside, front-below, table-negative}
+use Rattle.blocks.specs.Places.{Block, Factors, Multiplied}
+use Rattle.blocks.proofs.Places.{front-inside, front-below, table-negative}
 use Rattle.elimination.proofs.ElimTables.{blank-table}
 
 -- row i of m rows of n numbers, one behind the other

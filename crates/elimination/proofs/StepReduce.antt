@@ -8,9 +8,9 @@ use lib.ListN.{length, getD}
 use Rattle.algebra.specs.Matrix.{add, negative, product}
 use Rattle.field.specs.Residue.{residues}
 use Rattle.field.specs.View.{table, Below}
-use Rattle.elimination.specs.Places.{Factors, Multiplied, Copied}
+use Rattle.blocks.specs.Places.{Factors, Multiplied, Copied}
 use Rattle.elimination.specs.Eliminated.{Halves, Reduced}
-use Rattle.elimination.proofs.Places.{copied-table, copied-below}
+use Rattle.blocks.proofs.Places.{copied-table, copied-below}
 use Rattle.elimination.proofs.StepNegative.{row-inside, rows-block, columns-block}
 
 -- zeros are below p

@@ -11,7 +11,7 @@ use Rattle.algebra.specs.Quasiinverse.{Marks, IsQuasiinverse}
 use Rattle.modulus.specs.Prime.{IsModulus}
 use Rattle.field.specs.Residue.{residues}
 use Rattle.field.specs.View.{table, Below}
-use Rattle.elimination.specs.Places.{Kept}
+use Rattle.blocks.specs.Places.{Kept}
 
 -- what it asks: the block of D, n rows and m columns from column `at` on, is 0
 pub record Eliminable (p m n : ℕ) (a d : List ℕ) (at stride : ℕ) (columns rows : List ℕ) : Type 0 where

@@ -6,10 +6,10 @@ ghost use Rattle.algebra.specs.Matrix.{negative, product};
 ghost use Rattle.field.specs.Residue.{residues};
 ghost use Rattle.field.specs.View.{table, Below};
 ghost use Rattle.modulus.specs.Prime.{IsModulus};
-ghost use Rattle.elimination.specs.Places.{Factors};
+ghost use Rattle.blocks.specs.Places.{Factors};
 ghost use Rattle.elimination.specs.Eliminated.{Eliminable, Eliminated, Reduced, Joined, Halves};
-use crate::products::add_product;
-use crate::products::add_product_within;
+use blocks::add_product;
+use blocks::add_product_within;
 
 // The least position of a number that is not 0, or the length where there is none.
 pub fn least_nonzero(xs: &[u32]) -> usize
@@ -68,7 +68,7 @@ fn negative_product(
 {
     add_product(p, m, k, n, x, 0, x_stride, y, y_start, y_stride, z, 0, n);
     let size = m * n;
-    crate::products::negate(p, &mut z[..size]);
+    blocks::negate(p, &mut z[..size]);
 }
 
 // T = K E and C = K - T B, for the upper rows B and the lower rows K: t becomes -T and c becomes C.
@@ -90,7 +90,7 @@ fn reduce_rows(
 {
     negative_product(p, m2, n, m1, lower, n, d, at, stride, t);
     let size = m2 * n;
-    crate::products::copy(lower, 0, size, c);
+    blocks::copy(lower, 0, size, c);
     add_product(p, m2, m1, n, t, 0, m1, a, 0, n, c, 0, n);
 }
 
@@ -111,7 +111,7 @@ fn join_halves(
     ensures { λ _. ⌜ Joined p m1 m2 n (now (a .entry)) (now (t .entry)) (now (d .entry)) (now (d .exit)) at stride ⌝ }
 {
     let middle = at + m1;
-    crate::products::clear(c);
+    blocks::clear(c);
     negative_product(p, m1, n, m2, a, n, d, middle, stride, c);
     add_product_within(p, n, m1, m2, at, c, 0, m2, d, middle, stride);
     add_product_within(p, n, m2, m1, middle, t, 0, m1, d, at, stride);
@@ -160,8 +160,8 @@ fn halves(
     let cut = m1 * n;
     half(p, m1, n, &a[..cut], d, at, stride, columns, &mut rows[..m1]);
     let lower = &a[cut..];
-    let mut t = crate::products::quarter_table();
-    let mut c = crate::products::half_table();
+    let mut t = blocks::quarter_table();
+    let mut c = blocks::half_table();
     reduce_rows(p, m1, m2, n, a, lower, d, at, stride, &mut t, &mut c);
     let middle = at + m1;
     let size = m2 * n;

@@ -7,3 +7,4 @@ pub mod Walk
 pub mod Rows
 pub mod Written
 pub mod Views
+pub mod Guards

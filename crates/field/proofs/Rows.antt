@@ -9,9 +9,9 @@ use mir.Val.{Fits}
 use mir.Syntax.{w64}
 use Rattle.algebra.specs.Matrix.{sum}
 use Rattle.field.specs.Residue.{reduce, residues, _⊕_, _⊗_}
-use Rattle.field.specs.View.{line}
+use Rattle.field.specs.View.{line, Zeros}
 use Rattle.field.specs.Totals.{total, products}
-use Rattle.field.specs.Halves.{whole, Zeros, Ready, Added, Summed}
+use Rattle.field.specs.Halves.{whole, Ready, Added, Summed}
 use Rattle.field.specs.Four.{Shorts, Taken, productAt, fourAt}
 use Rattle.field.specs.declared.sums.Row.{Row}
 use Rattle.field.proofs.Totals.{total-zero, reduce-products}
@@ -31,12 +31,12 @@ module _ (by table : List ℕ) (start stride width : ℕ) where
     pub held-at : (j : ℕ) → j < width → Sums t (getD lo j 0) (getD hi j 0) (sum-at t j)
 
   -- before the first row the sums are zeros
-  pub held-none : (lo hi : List ℕ) → Zeros lo → Zeros hi → Held 0 lo hi
+  pub held-none : (lo hi : List ℕ) → Zeros 64 lo → Zeros 64 hi → Held 0 lo hi
   held-none lo hi z y =
       record {
-        long-lo = z .long;
-        long-hi = y .long;
-        held-at = λ j h. rw (z .zero-at j, y .zero-at j, total-zero) sums-none;
+        long-lo = z .0;
+        long-hi = y .0;
+        held-at = λ j h. rw (z .1 j, y .1 j, total-zero) sums-none;
       }
 
   -- the sums have room for four rows more

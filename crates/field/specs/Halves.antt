@@ -25,11 +25,6 @@ Room n = n + 4294967296 ≤ 2 ^ 64
 abbrev pub Rooms : ℕ → List ℕ → Type 0
 Rooms n xs = (j : ℕ) → j < n → Room (getD xs j 0)
 
--- 64 zeros
-pub record Zeros (xs : List ℕ) : Type 0 where
-  pub long : length xs ≡ 64
-  pub zero-at : (j : ℕ) → getD xs j 0 ≡ 0
-
 -- lo and hi are 64 sums of halves each, with room at the first n places
 pub record Ready (n : ℕ) (lo hi : List ℕ) : Type 0 where
   pub small : n ≤ 64

@@ -1,5 +1,6 @@
 -- How numbers in memory are read as vectors and matrices of residues: by a start and a step, or by a start, a stride and
 -- sizes. 01: entry (row i, column j) of a table stands at i × n + j.
+use mathlib.Core.Path.{_≡_}
 use Prim.Native.Nat.{ℕ, _+_, _*_, _<_}
 use mathlib.Core.List.{List}
 use lib.ListN.{length, getD}
@@ -24,3 +25,7 @@ Reaches k start step len = (t : ℕ) → t < k → start + t * step < len
 -- every number of xs is below p
 abbrev pub Below : ℕ → List ℕ → Type 0
 Below p xs = (i : ℕ) → i < length xs → getD xs i 0 < p
+
+-- k zeros
+abbrev pub Zeros : ℕ → List ℕ → Type 0
+Zeros k xs = (length xs ≡ k) × ((j : ℕ) → getD xs j 0 ≡ 0)

@@ -5,8 +5,8 @@ ghost use Prim.Native.Nat.{ℕ, _+_, _*_, _<_, _≤_};
 ghost use lib.ListN.{length, getD};
 ghost use Rattle.algebra.specs.Matrix.{sum};
 ghost use Rattle.field.specs.Residue.{reduce, residues, _⊕_, _⊗_};
-ghost use Rattle.field.specs.View.{line, Reaches, Below};
-ghost use Rattle.field.specs.Halves.{whole, Room, Zeros, Ready, Added, Summed};
+ghost use Rattle.field.specs.View.{line, Reaches, Below, Zeros};
+ghost use Rattle.field.specs.Halves.{whole, Room, Ready, Added, Summed};
 ghost use Rattle.field.specs.Four.{Shorts, Starts, Taken, Inside, Quarter, productAt, fourAt};
 
 // The residue of lo + 2^32 × hi, with two divisions: what `lo` has above its low half goes to `hi` first.
@@ -38,7 +38,7 @@ pub fn dot(p: u32, row: &[u32], table: &[u32], start: usize, step: usize) -> u32
 
 // The sums of halves of no rows.
 fn no_rows() -> [u64; 64]
-    ensures { λ r. ⌜ Zeros r ⌝ }
+    ensures { λ r. ⌜ Zeros 64 r ⌝ }
 {
     [0u64; 64]
 }

@@ -6,10 +6,10 @@ ghost use Rattle.frame_bytes.specs.Calls.{outcome, readCall, writeCall, sealCal
 
 mod sealer;
 
+use field::checks::all_below;
 pub use frame_bytes::ReadAnswer;
 pub use frame_bytes::SealAnswer;
 pub use frame_bytes::WriteAnswer;
-use frame_bytes::checks::all_below;
 use frame_bytes::checks::all_records;
 use frame_bytes::reading::read_frame;
 use frame_bytes::writer::write_frame;

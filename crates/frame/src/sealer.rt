@@ -7,13 +7,6 @@ ghost use Rattle.signed.specs.Reading.{residueOf};
 ghost use Rattle.frame_bytes.specs.Checks.{Records};
 ghost use Rattle.frame_bytes.specs.Calls.{sealed};
 
-// Room for the residues of 64 records.
-fn no_residues() -> [u32; 64]
-    ensures { λ r. ⌜ length r ≡ 64 ⌝ }
-{
-    [0u32; 64]
-}
-
 // Writes the residue of each record to its place.
 fn put_residues(p: u32, records: &[i32], residues: &mut [u32])
     requires { ⌜ (0 < p) × (p ≤ 2147483647) × Records p (now records) × (length (now records) ≤ length (now residues)) ⌝ }
@@ -33,7 +26,7 @@ pub fn value_of(p: u32, records: &[i32], multipliers: &[u32]) -> u32
     ensures { λ r. ⌜ r ≡ sealed p (length (now (records .entry))) (now (records .entry)) (now (multipliers .entry)) ⌝ }
 {
     let n = records.len();
-    let mut residues = no_residues();
+    let mut residues = field::rooms::row_room();
     put_residues(p, records, &mut residues);
     field::sums::dot(p, &residues[..n], multipliers, 0, 1)
 }

@@ -14,7 +14,8 @@ use Rattle.field.specs.Residue.{reduce, residues, _⊗_}
 use Rattle.signed.specs.Reading.{residueOf}
 use Rattle.frame_bytes.specs.Format.{longest, frameOf}
 use Rattle.frame_bytes.specs.Reading.{Found, accepted, rejected, readFrame}
-use Rattle.frame_bytes.specs.Checks.{frameSize?, below?, records?}
+use Rattle.field.specs.Checks.{below?}
+use Rattle.frame_bytes.specs.Checks.{frameSize?, records?}
 
 -- an answer with the memory that was lent
 pub record Outcome : Type 0 where

@@ -4,7 +4,7 @@ use mathlib.Core.Path.{_≡_}
 use mathlib.Core.List.{List}
 use mathlib.Core.Logic.{Dec·and}
 use Prim.Native.Nat.{ℕ, _≤_, _<_}
-use native.Mathlib.Decide.{decLe, decLt}
+use native.Mathlib.Decide.{decLe}
 use lib.IntN.{ℤ, pos}
 use lib.ListN.{length, getD}
 use Rattle.algebra.proofs.Choice.{all-below?}
@@ -17,10 +17,6 @@ FrameSize n = (1 ≤ n) × (n ≤ 64)
 
 pub frameSize? : (n : ℕ) → Dec (FrameSize n)
 frameSize? n = Dec·and (decLe 1 n) (decLe n 64)
-
--- every number is below p
-pub below? : (p : ℕ) (xs : List ℕ) → Dec ((i : ℕ) → i < length xs → getD xs i 0 < p)
-below? p xs = all-below? (λ i. getD xs i 0 < p) (λ i. decLt (getD xs i 0) p) (length xs)
 
 -- every number is a signed record
 abbrev pub Records : ℕ → List ℤ → Type 0

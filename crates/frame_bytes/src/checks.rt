@@ -1,23 +1,9 @@
-// What writing and sealing check of the numbers they are given.
+// What sealing checks of the records that it is given.
 ghost use mathlib.Core.Path.{_≡_};
 ghost use mathlib.Core.Bool.{true, false};
 ghost use Prim.Native.Nat.{_≤_, _<_};
 ghost use Rattle.algebra.specs.Choice.{pick};
-ghost use Rattle.frame_bytes.specs.Checks.{below?, records?};
-
-// Whether every number is below p.
-pub fn all_below(p: u32, numbers: &[u32]) -> bool
-    ensures { λ r. ⌜ r ≡ pick (below? p (now (numbers .entry))) true false ⌝ }
-{
-    let mut i = 0;
-    while i < numbers.len() {
-        if p <= numbers[i] {
-            return false;
-        }
-        i += 1;
-    }
-    true
-}
+ghost use Rattle.frame_bytes.specs.Checks.{records?};
 
 // Whether every number is a signed record modulo p.
 pub fn all_records(p: u32, numbers: &[i32]) -> bool

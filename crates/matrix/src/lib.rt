@@ -3,6 +3,7 @@
 ghost use mathlib.Core.Path.{_≡_};
 ghost use Rattle.tables.specs.Told.{tableTold};
 ghost use Rattle.tables.specs.Calls.{quasiinverted, quasiinverseCall, kernelled, kernelCall, solvedAs, solveCall};
+use field::checks::all_below;
 use modulus::Refusal;
 pub use tables::TableAnswer;
 use tables::parts;
@@ -44,7 +45,7 @@ pub fn quasiinverse(
     if rows.len() != height {
         return TableAnswer::Refused(Refusal::Length);
     }
-    if !parts::below(p, a) {
+    if !all_below(p, a) {
         return TableAnswer::Refused(Refusal::Number);
     }
     parts::invert(p, height, width, a, d, columns, rows);
@@ -73,7 +74,7 @@ pub fn kernel(p: u32, m: u32, n: u32, a: &[u32], basis: &mut [u32]) -> TableAnsw
     if basis.len() != width * width {
         return TableAnswer::Refused(Refusal::Length);
     }
-    if !parts::below(p, a) {
+    if !all_below(p, a) {
         return TableAnswer::Refused(Refusal::Number);
     }
     TableAnswer::Done(work::kernel_of(p, height, width, a, basis))
@@ -114,10 +115,10 @@ pub fn solve(
     if u.len() != height {
         return TableAnswer::Refused(Refusal::Length);
     }
-    if !parts::below(p, a) {
+    if !all_below(p, a) {
         return TableAnswer::Refused(Refusal::Number);
     }
-    if !parts::below(p, w) {
+    if !all_below(p, w) {
         return TableAnswer::Refused(Refusal::Number);
     }
     work::solve_of(p, height, width, a, w, z, u)

@@ -6,7 +6,6 @@ ghost use Rattle.modulus.specs.Prime.{IsModulus};
 ghost use Rattle.tables.specs.Calls.{solvedAs, solution};
 ghost use Rattle.tables.specs.Told.{tableTold};
 ghost use Rattle.tables.specs.Parts.{Tables, Checked, Room, Kernelled, System, Solver};
-use elimination::products;
 use modulus::Refusal;
 use tables::TableAnswer;
 use tables::parts;
@@ -34,9 +33,9 @@ pub fn kernel_of(p: u32, m: usize, n: usize, a: &[u32], basis: &mut [u32]) -> u3
     requires { ⌜ Checked p m n (now a) × (length (now basis) ≡ n * n) ⌝ }
     ensures { λ r. ⌜ ((ok : IsModulus p) → Kernelled p ok m n (now (a .entry)) (now (basis .exit)) r) ⌝ }
 {
-    let mut d = parts::table_room();
-    let mut columns = parts::line_room();
-    let mut rows = parts::line_room();
+    let mut d = field::rooms::table_room();
+    let mut columns = field::rooms::row_room();
+    let mut rows = field::rooms::row_room();
     let size = n * m;
     kernel_with(
         p,
@@ -75,8 +74,8 @@ fn solve_by(
         parts::row_mix(p, m, n, a, d, y, u);
         return TableAnswer::Refused(Refusal::Insoluble);
     }
-    products::copy(x, 0, n, z);
-    products::clear(u);
+    blocks::copy(x, 0, n, z);
+    blocks::clear(u);
     TableAnswer::Done(r)
 }
 
@@ -116,11 +115,11 @@ pub fn solve_of(
     requires { ⌜ Checked p m n (now a) × System p m n (now w) (now z) (now u) ⌝ }
     ensures { λ t. ⌜ ((ok : IsModulus p) → solvedAs (tableTold t) (now (z .exit)) (now (u .exit)) ≡ solution p ok m n (now (a .entry)) (now (w .entry)) (now (z .entry))) ⌝ }
 {
-    let mut d = parts::table_room();
-    let mut columns = parts::line_room();
-    let mut rows = parts::line_room();
-    let mut x = parts::line_room();
-    let mut image = parts::line_room();
+    let mut d = field::rooms::table_room();
+    let mut columns = field::rooms::row_room();
+    let mut rows = field::rooms::row_room();
+    let mut x = field::rooms::row_room();
+    let mut image = field::rooms::row_room();
     let size = n * m;
     solve_with(
         p,

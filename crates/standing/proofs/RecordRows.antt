@@ -10,8 +10,7 @@ use lib.Seq.{length-take-le, length-front, take-at, getD-take}
 use Rattle.algebra.specs.Matrix.{sum, product}
 use Rattle.algebra.proofs.Rings.{zero-plus}
 use Rattle.field.specs.Residue.{Residue, reduce, residues, _⊕_, _⊗_}
-use Rattle.field.specs.View.{line, table}
-use Rattle.field.specs.Halves.{Zeros}
+use Rattle.field.specs.View.{line, table, Zeros}
 use Rattle.field.proofs.Field.{residues-ring}
 use Rattle.standing.specs.Answers.{Tells}
 use Rattle.standing.specs.Records.{IsUnitRow, UnitAt}
@@ -20,9 +19,9 @@ use Rattle.standing.proofs.RecordUnits.{numbers-to-residues, residues-t
 use Rattle.standing.proofs.RecordTables.{rowPart, row-times-rows}
 
 -- the first n of 64 zeros, and a row of their length
-module _ (n : ℕ) (z : List ℕ) (size : n ≤ 64) (zeros : Zeros z) where
+module _ (n : ℕ) (z : List ℕ) (size : n ≤ 64) (zeros : Zeros 64 z) where
   pub front-length : length (take n z) ≡ n
-  front-length = length-take-le n z (omega (arith, zeros .long))
+  front-length = length-take-le n z (omega (arith, zeros .0))
 
   module _ (out : List ℕ) (long : length out ≡ length (take n z)) where
     pub row-length : length out ≡ n
@@ -30,7 +29,7 @@ module _ (n : ℕ) (z : List ℕ) (size : n ≤ 64) (zeros : Zeros z) where
 
     -- with the other zeros behind it
     pub row-fits : n ≤ length (out ++ drop n z)
-    row-fits = omega (arith, length-front z out n long, zeros .long)
+    row-fits = omega (arith, length-front z out n long, zeros .0)
 
     pub row-front : take n (out ++ drop n z) ≡ out
     row-front = take-at out (drop n z) n row-length
@@ -55,7 +54,7 @@ module _
     (size : n ≤ 64)
     (h : j < n)
     (inside : j * k + k ≤ length d)
-    (zeros : Zeros z)
+    (zeros : Zeros 64 z)
     (combined : CombinedRow p n k j rows d z out)
   where
     -- the numbers are those of row j of D R
@@ -64,7 +63,7 @@ module _
     row-numbers c l =
         combined .1 c (omega (arith, front-length n z size zeros))
         ∙ ap (λ (a : Residue p). a .value)
-        (ap (λ x. reduce p x ⊕ s) (getD-take n z c 0 l ∙ zeros .zero-at c)
+        (ap (λ x. reduce p x ⊕ s) (getD-take n z c 0 l ∙ zeros .1 c)
         ∙ zero-plus (residues p) (residues-ring p (omega arith)) s
         ∙ row-times-rows k j d inside p n h rows c l)
       where

@@ -14,7 +14,7 @@ use Rattle.algebra.proofs.Independent.{independent-chosen, chosen-independent}
 use Rattle.field.specs.Residue.{residues}
 use Rattle.field.specs.View.{table}
 use Rattle.field.proofs.Field.{residues-field}
-use Rattle.elimination.proofs.Places.{table-same}
+use Rattle.blocks.proofs.Places.{table-same}
 use Rattle.ledger.specs.Board.{IsBoard, headerLength, rowLength, modulusWord, sizeWord, countWord}
 use Rattle.ledger.specs.Decide.{board?}
 use Rattle.standing.specs.Tested.{Header, Filled, Inverted}

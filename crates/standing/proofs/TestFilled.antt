@@ -6,7 +6,7 @@ use Prim.Native.Nat.{ℕ, _+_, _*_, _-_, _<_}
 use native.Mathlib.Omega.{arith}
 use lib.ListN.{length, getD, take, drop}
 use Rattle.field.specs.View.{Below}
-use Rattle.elimination.proofs.Places.{part-length, part-at}
+use Rattle.blocks.proofs.Places.{part-length, part-at}
 use Rattle.ledger.specs.Board.{headerLength, rowLength, modulusWord, sizeWord, countWord}
 use Rattle.standing.specs.Tested.{AllZero, Header, Filled}
 use Rattle.standing.proofs.TestSizes.{rows-inside}

@@ -16,7 +16,7 @@ use Rattle.modulus.specs.Prime.{IsModulus}
 use Rattle.field.specs.Residue.{residues}
 use Rattle.field.specs.View.{table, Below}
 use Rattle.elimination.specs.Eliminated.{Eliminable, Eliminated}
-use Rattle.elimination.proofs.Places.{front-inside, front-below, front-table, table-same}
+use Rattle.blocks.proofs.Places.{front-inside, front-below, front-table, table-same}
 use Rattle.frame_bytes.specs.Checks.{FrameSize}
 use Rattle.ledger.specs.Board.{headerLength, rowLength, modulusWord, sizeWord, countWord}
 use Rattle.standing.specs.Answers.{Tells}

@@ -7,8 +7,8 @@ use native.Mathlib.Nat.{add-mul, mul-le-mul-right, le-of-suc-le-suc, eq-or-lt-of
 use native.Mathlib.Numerals.{add-one}
 use native.Mathlib.Omega.{arith}
 use lib.ListN.{length, getD, take, drop}
-use Rattle.elimination.specs.Places.{Copied}
-use Rattle.elimination.proofs.Places.{replaced, replaced-length, replaced-inside, replaced-elsewhere, part-length, part-at}
+use Rattle.blocks.specs.Places.{Copied}
+use Rattle.blocks.proofs.Places.{replaced, replaced-length, replaced-inside, replaced-elsewhere, part-length, part-at}
 use Rattle.ledger.specs.Board.{headerLength, rowLength}
 use Rattle.standing.specs.Tested.{Rows, Laid}
 use Rattle.standing.proofs.TestSizes.{table-most}

@@ -5,7 +5,6 @@ ghost use Prim.Native.Nat.{_<_, _≤_};
 ghost use lib.ListN.{length};
 ghost use Rattle.modulus.specs.Prime.{IsModulus};
 ghost use Rattle.field.specs.View.{Below};
-ghost use Rattle.field.specs.Halves.{Zeros};
 ghost use Rattle.field.specs.Written.{tabulate};
 ghost use Rattle.signed.specs.Reading.{reading};
 ghost use Rattle.ledger.specs.Board.{boardLength, modulusWord, sizeWord, entriesOf};
@@ -13,13 +12,6 @@ ghost use Rattle.ledger.specs.Steps.{markOf, numberOf, tabulateℤ};
 ghost use Rattle.standing.specs.Held.{Held};
 ghost use Rattle.standing.specs.Answers.{Tells};
 ghost use Rattle.standing.specs.Records.{IsUnitRow, UnitAt, valueAt};
-
-// The row that a combination is added to.
-fn zero_row() -> [u32; 64]
-    ensures { λ r. ⌜ Zeros r ⌝ }
-{
-    [0u32; 64]
-}
 
 // Whether e is the unit row of j.
 fn is_unit(e: &[u32], j: usize) -> bool
@@ -44,7 +36,7 @@ fn settled(p: u32, n: usize, k: usize, j: usize, rows: &[u32], d: &[u32]) -> boo
     requires { ⌜ (1 < p) × (p ≤ 2147483647) × (n ≤ 64) × (k ≤ 64) × (j < n) × (length (now rows) ≡ 4096) × (length (now d) ≡ 4096) × Below p (now rows) × Below p (now d) ⌝ }
     ensures { λ r. ⌜ Tells r (UnitAt p n k j (now (rows .entry)) (now (d .entry))) ⌝ }
 {
-    let mut e = zero_row();
+    let mut e = field::rooms::row_room();
     let at = j * k;
     let end = at + k;
     field::sums::combine(p, &d[at..end], rows, 0, n, &mut e[..n]);

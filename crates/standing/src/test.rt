@@ -10,20 +10,6 @@ ghost use Rattle.standing.specs.Held.{Held};
 ghost use Rattle.standing.specs.Answers.{Tells};
 ghost use Rattle.standing.specs.Tested.{AllZero, AllMarked, Header, Filled, Rows, Laid, Inverted};
 
-// Room for the largest table.
-pub fn table_room() -> [u32; 4096]
-    ensures { λ r. ⌜ (length r ≡ 4096) × ((j : ℕ) → getD r j 0 ≡ 0) ⌝ }
-{
-    [0u32; 4096]
-}
-
-// Room for the largest row.
-pub fn row_room() -> [u32; 64]
-    ensures { λ r. ⌜ (length r ≡ 64) × ((j : ℕ) → getD r j 0 ≡ 0) ⌝ }
-{
-    [0u32; 64]
-}
-
 // Whether every number is 0.
 fn all_zero(xs: &[u32]) -> bool
     ensures { λ r. ⌜ Tells r (AllZero (now (xs .entry))) ⌝ }
@@ -83,7 +69,7 @@ fn is_filled(board: &[u32]) -> bool
     let n = board[1] as usize;
     let k = board[2] as usize;
     let end = 3 + k * (n + 1);
-    if !frame_bytes::checks::all_below(board[0], &board[3..end]) {
+    if !field::checks::all_below(board[0], &board[3..end]) {
         return false;
     }
     all_zero(&board[end..])
@@ -98,7 +84,7 @@ fn copy_rows(board: &[u32], k: usize, n: usize, rows: &mut [u32])
     while i < k {
         let from = 3 + i * (n + 1);
         let to = i * n;
-        elimination::products::copy(board, from, n, &mut rows[to..]);
+        blocks::copy(board, from, n, &mut rows[to..]);
         i += 1;
     }
 }
@@ -112,8 +98,8 @@ fn independent(board: &[u32], rows: &mut [u32], d: &mut [u32]) -> bool
     let k = board[2] as usize;
     copy_rows(board, k, n, rows);
     let size = k * n;
-    let mut columns = row_room();
-    let mut chosen = row_room();
+    let mut columns = field::rooms::row_room();
+    let mut chosen = field::rooms::row_room();
     elimination::eliminate::eliminate(
         board[0],
         k,

@@ -14,7 +14,8 @@ use Rattle.modulus.proofs.Guards.{modulus-prop}
 use Rattle.field.specs.View.{Below}
 use Rattle.field.specs.Written.{rowsOf, marksOf}
 use Rattle.tables.specs.Told.{done}
-use Rattle.tables.specs.Checks.{Sizes, sizes?, long?, below?}
+use Rattle.field.specs.Checks.{below?}
+use Rattle.tables.specs.Checks.{Sizes, sizes?, long?}
 use Rattle.tables.specs.Calls.{
   columnsOf,
   rowMarksOf,

@@ -4,7 +4,6 @@ pub mod Vectors
 pub mod First
 pub mod Theorems
 pub mod Answers
-pub mod Guards
 pub mod Solved
 pub mod Basis
 pub mod Finished

@@ -26,7 +26,8 @@ use Rattle.field.proofs.Views.{table-sized}
 use Rattle.tables.specs.Chosen.{chosenColumns, chosenRows, rank}
 use Rattle.tables.specs.Inverse.{inverse}
 use Rattle.tables.specs.Told.{done}
-use Rattle.tables.specs.Checks.{sizes?, long?, below?}
+use Rattle.field.specs.Checks.{below?}
+use Rattle.tables.specs.Checks.{sizes?, long?}
 
 -- the table of m rows and n columns in the numbers a, stored row by row
 abbrev pub tableOf : (p m n : ℕ) → List ℕ → Matrix (residues p)

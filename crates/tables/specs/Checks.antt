@@ -1,12 +1,10 @@
--- What the calls on tables check, each with its decision. 01: "Order for all three: 1, 2, 3, 4 (A first, then w)."
+-- What the calls on tables check besides the numbers (field/specs/Checks.antt), each with its decision. 01: "Order for all three: 1, 2, 3, 4 (A first, then w)."
 use mathlib.Core.Path.{_≡_}
 use mathlib.Core.List.{List}
 use mathlib.Core.Logic.{Dec·and}
-use Prim.Native.Nat.{ℕ, _≤_, _<_}
-use native.Mathlib.Decide.{decLe, decLt, ℕ-discrete}
-use lib.ListN.{length, getD}
-use Rattle.algebra.proofs.Choice.{all-below?}
-use Rattle.field.specs.View.{Below}
+use Prim.Native.Nat.{ℕ, _≤_}
+use native.Mathlib.Decide.{decLe, ℕ-discrete}
+use lib.ListN.{length}
 
 -- 2: m and n are at most 64
 abbrev pub Sizes : ℕ → ℕ → Type 0
@@ -18,7 +16,3 @@ sizes? m n = Dec·and (decLe m 64) (decLe n 64)
 -- 3: a lent slice has the length named
 pub long? : (xs : List ℕ) (k : ℕ) → Dec (length xs ≡ k)
 long? xs k = ℕ-discrete (length xs) k
-
--- 4: every number is below p
-pub below? : (p : ℕ) (xs : List ℕ) → Dec (Below p xs)
-below? p xs = all-below? (λ i. getD xs i 0 < p) (λ i. decLt (getD xs i 0) p) (length xs)

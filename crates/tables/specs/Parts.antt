@@ -90,8 +90,3 @@ pub record System (p m n : ℕ) (w z u : List ℕ) : Type 0 where
 pub record Solver (p : ℕ) (ok : IsModulus p) (m n : ℕ) (a d : List ℕ) (r : ℕ) : Type 0 where
   pub is-D : table p d 0 m n m ≡ inverseOf p ok m n a
   pub is-rank : r ≡ rankOf p ok m n a
-
--- k zeros
-pub record Zeros (k : ℕ) (xs : List ℕ) : Type 0 where
-  pub long : length xs ≡ k
-  pub zero-at : (j : ℕ) → getD xs j 0 ≡ 0

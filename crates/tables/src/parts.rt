@@ -1,10 +1,8 @@
-// What the calls on tables are made of: the test of the numbers, the quasiinverse of a table that has passed the checks, and
+// What the calls on tables are made of: the quasiinverse of a table that has passed the checks, and
 // products of its rows and columns with those of D. The calls of `matrix` meet what each requires.
 ghost use mathlib.Core.Path.{_≡_};
-ghost use mathlib.Core.Bool.{true, false};
 ghost use Prim.Native.Nat.{ℕ, _+_, _*_, _≤_, _<_};
 ghost use lib.ListN.{length, getD};
-ghost use Rattle.algebra.specs.Choice.{pick};
 ghost use Rattle.algebra.specs.Matrix.{unit, apply};
 ghost use Rattle.algebra.specs.Kernel.{kernelVector};
 ghost use Rattle.algebra.specs.Solve.{mixOf};
@@ -13,23 +11,7 @@ ghost use Rattle.field.specs.Residue.{residues, _⊕_, negated};
 ghost use Rattle.field.specs.View.{table};
 ghost use Rattle.field.specs.Written.{numbers};
 ghost use Rattle.field.proofs.Totals.{total};
-ghost use Rattle.tables.specs.Checks.{below?};
-ghost use Rattle.tables.specs.Parts.{Tables, Crossing, crossed, vectorOf, FirstDifference, KernelVectors, Zeros, Checked, Room, Inverted};
-use elimination::products;
-
-// Whether every number is below p.
-pub fn below(p: u32, xs: &[u32]) -> bool
-    ensures { λ r. ⌜ r ≡ pick (below? p (now (xs .entry))) true false ⌝ }
-{
-    let mut i = 0;
-    while i < xs.len() {
-        if p <= xs[i] {
-            return false;
-        }
-        i += 1;
-    }
-    true
-}
+ghost use Rattle.tables.specs.Parts.{Tables, Crossing, crossed, vectorOf, FirstDifference, KernelVectors, Checked, Room, Inverted};
 
 // The sum of marks, each 0 or 1.
 pub fn count_marks(xs: &[u32]) -> u32
@@ -141,22 +123,8 @@ pub fn kernel_vectors(
         c += 1;
     }
     let rest = k * n;
-    products::clear(&mut basis[rest..]);
+    blocks::clear(&mut basis[rest..]);
     k as u32
-}
-
-// 4,096 zeros: room for the D of the largest table.
-pub fn table_room() -> [u32; 4096]
-    ensures { λ r. ⌜ Zeros 4096 r ⌝ }
-{
-    [0u32; 4096]
-}
-
-// 64 zeros: room for the marks of the largest table, or for one of its columns.
-pub fn line_room() -> [u32; 64]
-    ensures { λ r. ⌜ Zeros 64 r ⌝ }
-{
-    [0u32; 64]
 }
 
 // D, I and J of a table that has passed the checks, by Algorithm Q on memory that is cleared first.
@@ -172,8 +140,8 @@ pub fn invert(
     requires { ⌜ Checked p m n (now a) × Room m n (now d) (now columns) (now rows) ⌝ }
     ensures { λ _. ⌜ ((ok : IsModulus p) → Inverted p ok m n (now (a .entry)) (now (d .exit)) (now (columns .exit)) (now (rows .exit))) ⌝ }
 {
-    products::clear(d);
-    products::clear(columns);
-    products::clear(rows);
+    blocks::clear(d);
+    blocks::clear(columns);
+    blocks::clear(rows);
     elimination::eliminate::eliminate(p, m, n, a, d, 0, m, columns, rows);
 }

@@ -9,7 +9,8 @@ use Rattle.algebra.proofs.Choice.{pick-true, pick-false}
 use Rattle.modulus.specs.Prime.{IsModulus}
 use Rattle.modulus.proofs.Guards.{no-modulus, is-modulus}
 use Rattle.field.specs.View.{Below}
-use Rattle.frame_bytes.specs.Checks.{FrameSize, below?, Records, records?}
+use Rattle.field.specs.Checks.{below?}
+use Rattle.frame_bytes.specs.Checks.{FrameSize, Records, records?}
 use Rattle.frame_bytes.proofs.SealCalls.{seal-no-modulus, seal-no-size, seal-other-records, seal-other-multipliers, seal-not-below, seal-no-records, seal-done}
 use Rattle.frame.proofs.seal.Statement.{statement}
 use Rattle.frame.proofs.seal.Tie as tie

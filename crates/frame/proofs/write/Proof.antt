@@ -9,7 +9,8 @@ use Rattle.modulus.specs.Prime.{IsModulus}
 use Rattle.modulus.proofs.Guards.{no-modulus, is-modulus}
 use Rattle.field.specs.View.{Below}
 use Rattle.frame_bytes.specs.Format.{longest}
-use Rattle.frame_bytes.specs.Checks.{FrameSize, below?}
+use Rattle.field.specs.Checks.{below?}
+use Rattle.frame_bytes.specs.Checks.{FrameSize}
 use Rattle.frame_bytes.proofs.Round.{longest-frame}
 use Rattle.frame_bytes.proofs.WriteCalls.{write-no-modulus, write-no-size, write-other-count, write-other-room, write-not-below, write-no-value, write-done}
 use Rattle.frame.proofs.write.Statement.{statement}

@@ -7,7 +7,7 @@ use Rattle.tables.specs.Checks.{Sizes}
 use Rattle.tables.specs.Parts.{Checked}
 use Rattle.tables.proofs.Answers.{kernel-modulus, kernel-size, kernel-a-length, kernel-basis-length, kernel-number}
 use Rattle.tables.proofs.Finished.{kernel-finished}
-use Rattle.tables.proofs.Guards.{not-below, all-below}
+use Rattle.field.proofs.Guards.{not-below, all-below}
 use Rattle.tables.proofs.Memory.{table-most}
 use Rattle.matrix.proofs.kernel.Statement.{statement}
 use Rattle.matrix.proofs.kernel.Tie as tie
@@ -61,8 +61,8 @@ returns-5 c =
     let e = c .before .before in
     sym (kernel-basis-length _ _ _ _ _ (modulus (begun e)) (sizes e) (c .before .if4 .left) (c .if5 .taken))
 
-below-requires : tie.Need-below-requires
-below-requires c κs = tt
+all-below-requires : tie.Need-all-below-requires
+all-below-requires c κs = tt
 
 returns-6 : tie.Need-returns-6
 returns-6 c =
@@ -70,7 +70,7 @@ returns-6 c =
     let e = sized l in
     sym
     (kernel-number _ _ _ _ _ (modulus (begun e)) (sizes e) (l .before .if4 .left) (l .if5 .left)
-    (not-below _ (start (begun e) .args .a .now) _ (c .before .below .ensures) (c .if6 .taken)))
+    (not-below _ (start (begun e) .args .a .now) _ (c .before .all-below .ensures) (c .if6 .taken)))
 
 -- past check 4
 abbrev ready : tie.Else6 → tie.Else5
@@ -87,7 +87,7 @@ checked c =
       m-most = sizes e .0;
       n-most = sizes e .1;
       a-long = l .before .if4 .left;
-      a-below = all-below _ (start (begun e) .args .a .now) _ (c .before .below .ensures) (c .if6 .left);
+      a-below = all-below _ (start (begun e) .args .a .now) _ (c .before .all-below .ensures) (c .if6 .left);
     }
 
 kernel-of-requires : tie.Need-kernel-of-requires
@@ -115,7 +115,7 @@ kernel-spec =
     returns-4
     mul-if5
     returns-5
-    below-requires
+    all-below-requires
     returns-6
     kernel-of-requires
     same-length

@@ -17,7 +17,7 @@ use Rattle.tables.proofs.Answers.{
 }
 use Rattle.tables.proofs.Basis.{columns-few}
 use Rattle.tables.proofs.Finished.{quasiinverse-finished}
-use Rattle.tables.proofs.Guards.{not-below, all-below}
+use Rattle.field.proofs.Guards.{not-below, all-below}
 use Rattle.tables.proofs.Memory.{table-most}
 use Rattle.matrix.proofs.quasiinverse.Statement.{statement}
 use Rattle.matrix.proofs.quasiinverse.Tie as tie
@@ -86,8 +86,8 @@ returns-7 c =
     (quasiinverse-rows-length _ _ _ _ _ _ _ (modulus (begun e)) (sizes e) (l .before .before .if4 .left) (l .before .if5 .left)
     (l .if6 .left) (c .if7 .taken))
 
-below-requires : tie.Need-below-requires
-below-requires c κs = tt
+all-below-requires : tie.Need-all-below-requires
+all-below-requires c κs = tt
 
 returns-8 : tie.Need-returns-8
 returns-8 c =
@@ -96,7 +96,7 @@ returns-8 c =
     sym
     (quasiinverse-number _ _ _ _ _ _ _ (modulus (begun e)) (sizes e) (l .before .before .before .if4 .left)
     (l .before .before .if5 .left) (l .before .if6 .left) (l .if7 .left)
-    (not-below _ (start (begun e) .args .a .now) _ (c .before .below .ensures) (c .if8 .taken)))
+    (not-below _ (start (begun e) .args .a .now) _ (c .before .all-below .ensures) (c .if8 .taken)))
 
 -- past check 4
 abbrev ready : tie.Else8 → tie.Else7
@@ -113,7 +113,7 @@ checked c =
       m-most = sizes e .0;
       n-most = sizes e .1;
       a-long = l .before .before .before .if4 .left;
-      a-below = all-below _ (start (begun e) .args .a .now) _ (c .before .below .ensures) (c .if8 .left);
+      a-below = all-below _ (start (begun e) .args .a .now) _ (c .before .all-below .ensures) (c .if8 .left);
     }
 
 room : (c : tie.Else8)
@@ -172,7 +172,7 @@ quasiinverse-spec =
     returns-5
     returns-6
     returns-7
-    below-requires
+    all-below-requires
     returns-8
     invert-requires
     count-marks-requires

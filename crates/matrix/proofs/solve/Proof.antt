@@ -16,7 +16,7 @@ use Rattle.tables.proofs.Answers.{
   solve-w-number,
 }
 use Rattle.tables.proofs.Finished.{solve-finished}
-use Rattle.tables.proofs.Guards.{not-below, all-below}
+use Rattle.field.proofs.Guards.{not-below, all-below}
 use Rattle.tables.proofs.Memory.{table-most}
 use Rattle.matrix.proofs.solve.Statement.{statement}
 use Rattle.matrix.proofs.solve.Tie as tie
@@ -78,8 +78,8 @@ returns-7 c =
     (solve-u-length _ _ _ _ _ _ _ (modulus (begun e)) (sizes e) (l .before .before .if4 .left) (l .before .if5 .left) (l .if6 .left)
     (c .if7 .taken))
 
-below-requires : tie.Need-below-requires
-below-requires c κs = tt
+all-below-requires : tie.Need-all-below-requires
+all-below-requires c κs = tt
 
 returns-8 : tie.Need-returns-8
 returns-8 c =
@@ -88,7 +88,7 @@ returns-8 c =
     sym
     (solve-a-number _ _ _ _ _ _ _ (modulus (begun e)) (sizes e) (l .before .before .before .if4 .left) (l .before .before .if5 .left)
     (l .before .if6 .left) (l .if7 .left)
-    (not-below _ (start (begun e) .args .a .now) _ (c .before .below .ensures) (c .if8 .taken)))
+    (not-below _ (start (begun e) .args .a .now) _ (c .before .all-below .ensures) (c .if8 .taken)))
 
 -- past check 4 for A
 abbrev ready : tie.Else8 → tie.Else7
@@ -105,11 +105,11 @@ checked c =
       m-most = sizes e .0;
       n-most = sizes e .1;
       a-long = l .before .before .before .if4 .left;
-      a-below = all-below _ (start (begun e) .args .a .now) _ (c .before .below .ensures) (c .if8 .left);
+      a-below = all-below _ (start (begun e) .args .a .now) _ (c .before .all-below .ensures) (c .if8 .left);
     }
 
-below-requires-2 : tie.Need-below-requires-2
-below-requires-2 c κs = tt
+all-below-requires-2 : tie.Need-all-below-requires-2
+all-below-requires-2 c κs = tt
 
 returns-9 : tie.Need-returns-9
 returns-9 c =
@@ -119,7 +119,7 @@ returns-9 c =
     sym
     (solve-w-number _ _ _ _ _ _ _ (modulus (begun e)) (sizes e) (l .before .before .before .if4 .left) (l .before .before .if5 .left)
     (l .before .if6 .left) (l .if7 .left) (checked b .a-below)
-    (not-below _ (start (begun e) .args .w .now) _ (c .before .below2 .ensures) (c .if9 .taken)))
+    (not-below _ (start (begun e) .args .w .now) _ (c .before .all-below2 .ensures) (c .if9 .taken)))
 
 -- and for w
 abbrev told : tie.Else9 → tie.Else8
@@ -133,7 +133,7 @@ system c =
     let l = ready (told c) in
     record {
       w-long = l .before .before .if5 .left;
-      w-below = all-below _ (start (begun (sized l)) .args .w .now) _ (c .before .below2 .ensures) (c .if9 .left);
+      w-below = all-below _ (start (begun (sized l)) .args .w .now) _ (c .before .all-below2 .ensures) (c .if9 .left);
       z-long = l .before .if6 .left;
       u-long = l .if7 .left;
     }
@@ -169,9 +169,9 @@ solve-spec =
     returns-5
     returns-6
     returns-7
-    below-requires
+    all-below-requires
     returns-8
-    below-requires-2
+    all-below-requires-2
     returns-9
     solve-of-requires
     same-length

@@ -18,8 +18,8 @@ use Rattle.elimination.proofs.eliminate.+half+halves.Lts-halves as halv
 use Rattle.elimination.proofs.eliminate.join_halves.Reads as join-halves-reads
 use Rattle.elimination.proofs.eliminate.one_row.Reads as one-row-reads
 use Rattle.elimination.proofs.eliminate.reduce_rows.Reads as reduce-rows-reads
-use Rattle.elimination.proofs.products.half_table.Reads as half-table-reads
-use Rattle.elimination.proofs.products.quarter_table.Reads as quarter-table-reads
+use Rattle.blocks.proofs.half_table.Reads as half-table-reads
+use Rattle.blocks.proofs.quarter_table.Reads as quarter-table-reads
 use Rattle.elimination.proofs.eliminate.+half+halves.{statement}
 use Rattle.elimination.proofs.eliminate.+half+halves.Tie.{close}
 

@@ -5,7 +5,7 @@ use Rattle.field.proofs.sums.no_rows.Statement.{statement}
 use Rattle.field.proofs.sums.no_rows.Tie as tie
 
 returns : tie.Need-returns
-returns c = record { long = refl; zero-at = zeros-at 64 }
+returns c = (refl, zeros-at 64)
 
 pub no-rows-spec : {M : Type 1} → statement M
 no-rows-spec = tie.close (tie.spec returns)

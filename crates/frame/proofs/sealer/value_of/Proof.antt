@@ -12,10 +12,10 @@ use Rattle.frame.proofs.sealer.value_of.Tie as tie
 
 -- the records' residues are within the local numbers
 long : (c : tie.After-put-residues) → length (c .before .before .before .before .args .records .now) ≤ length (c .put-residues .last .1 .1 .0)
-long c = omega (arith, c .put-residues .kept .1 .1 .0, c .before .before .no-residues .ensures)
+long c = omega (arith, c .put-residues .kept .1 .1 .0, c .before .before .row-room .ensures .0)
 
-no-residues-requires : tie.Need-no-residues-requires
-no-residues-requires c κs = search needs
+row-room-requires : tie.Need-row-room-requires
+row-room-requires c κs = search needs
 
 slice-aggregate-put-residues : tie.Need-slice-aggregate-put-residues
 slice-aggregate-put-residues c = search needs
@@ -45,7 +45,7 @@ pub value-of-spec : {M : Type 1} → statement M
 value-of-spec =
     tie.close
     (tie.spec
-    no-residues-requires
+    row-room-requires
     slice-aggregate-put-residues
     put-residues-requires
     array-share-prefix-residues

@@ -8,36 +8,36 @@ use Rattle.matrix.proofs.work.kernel_of.Statement.{statement}
 use Rattle.matrix.proofs.work.kernel_of.Tie as tie
 
 -- the entry, from where the room is made
-abbrev start : tie.After-line-room2 → tie.Start
+abbrev start : tie.After-row-room2 → tie.Start
 start c = c .before .before .before .before .before
 
-most : (c : tie.After-line-room2) → start c .args .n * start c .args .m ≤ 4096
+most : (c : tie.After-row-room2) → start c .args .n * start c .args .m ≤ 4096
 most c = table-most (start c .args .n) (start c .args .m) (start c .pre .0 .n-most) (start c .pre .0 .m-most)
 
 table-room-requires : tie.Need-table-room-requires
 table-room-requires c κs = tt
 
-line-room-requires : tie.Need-line-room-requires
-line-room-requires c κs = tt
+row-room-requires : tie.Need-row-room-requires
+row-room-requires c κs = tt
 
-line-room-requires-2 : tie.Need-line-room-requires-2
-line-room-requires-2 c κs = tt
+row-room-requires-2 : tie.Need-row-room-requires-2
+row-room-requires-2 c κs = tt
 
 mul-size : tie.Need-mul-size
 mul-size c = omega (arith, most c)
 
 array-borrow-prefix-d : tie.Need-array-borrow-prefix-d
-array-borrow-prefix-d c = omega (arith, most c, c .before .before .table-room .ensures .long)
+array-borrow-prefix-d c = omega (arith, most c, c .before .before .table-room .ensures .0)
 
 slice-aggregate-kernel-with : tie.Need-slice-aggregate-kernel-with
 slice-aggregate-kernel-with c =
     let b = c .before in
-    sym (length-take-le _ _ (omega (arith, most b, b .before .before .table-room .ensures .long)))
+    sym (length-take-le _ _ (omega (arith, most b, b .before .before .table-room .ensures .0)))
 
 array-borrow-prefix-columns : tie.Need-array-borrow-prefix-columns
 array-borrow-prefix-columns c =
     let r = c .before in
-    omega (arith, r .before .line-room .ensures .long, start r .pre .0 .n-most)
+    omega (arith, r .before .row-room .ensures .0, start r .pre .0 .n-most)
 
 slice-aggregate-kernel-with-2 : tie.Need-slice-aggregate-kernel-with-2
 slice-aggregate-kernel-with-2 c = sym (length-take-le _ _ (array-borrow-prefix-columns (c .before)))
@@ -45,7 +45,7 @@ slice-aggregate-kernel-with-2 c = sym (length-take-le _ _ (array-borrow-prefix-c
 array-borrow-prefix-rows : tie.Need-array-borrow-prefix-rows
 array-borrow-prefix-rows c =
     let r = c .before .before in
-    omega (arith, r .line-room2 .ensures .long, start r .pre .0 .m-most)
+    omega (arith, r .row-room2 .ensures .0, start r .pre .0 .m-most)
 
 slice-aggregate-kernel-with-3 : tie.Need-slice-aggregate-kernel-with-3
 slice-aggregate-kernel-with-3 c = sym (length-take-le _ _ (array-borrow-prefix-rows (c .before)))
@@ -73,8 +73,8 @@ kernel-of-spec =
     tie.close
     (tie.spec
     table-room-requires
-    line-room-requires
-    line-room-requires-2
+    row-room-requires
+    row-room-requires-2
     mul-size
     array-borrow-prefix-d
     slice-aggregate-kernel-with

@@ -8,42 +8,42 @@ use Rattle.matrix.proofs.work.solve_of.Statement.{statement}
 use Rattle.matrix.proofs.work.solve_of.Tie as tie
 
 -- the entry, from where the room is made
-abbrev start : tie.After-line-room4 → tie.Start
+abbrev start : tie.After-row-room4 → tie.Start
 start c = c .before .before .before .before .before .before .before .before .before
 
-most : (c : tie.After-line-room4) → start c .args .n * start c .args .m ≤ 4096
+most : (c : tie.After-row-room4) → start c .args .n * start c .args .m ≤ 4096
 most c = table-most (start c .args .n) (start c .args .m) (start c .pre .0 .n-most) (start c .pre .0 .m-most)
 
 table-room-requires : tie.Need-table-room-requires
 table-room-requires c κs = tt
 
-line-room-requires : tie.Need-line-room-requires
-line-room-requires c κs = tt
+row-room-requires : tie.Need-row-room-requires
+row-room-requires c κs = tt
 
-line-room-requires-2 : tie.Need-line-room-requires-2
-line-room-requires-2 c κs = tt
+row-room-requires-2 : tie.Need-row-room-requires-2
+row-room-requires-2 c κs = tt
 
-line-room-requires-3 : tie.Need-line-room-requires-3
-line-room-requires-3 c κs = tt
+row-room-requires-3 : tie.Need-row-room-requires-3
+row-room-requires-3 c κs = tt
 
-line-room-requires-4 : tie.Need-line-room-requires-4
-line-room-requires-4 c κs = tt
+row-room-requires-4 : tie.Need-row-room-requires-4
+row-room-requires-4 c κs = tt
 
 mul-size : tie.Need-mul-size
 mul-size c = omega (arith, most c)
 
 array-borrow-prefix-d : tie.Need-array-borrow-prefix-d
-array-borrow-prefix-d c = omega (arith, most c, c .before .before .before .before .table-room .ensures .long)
+array-borrow-prefix-d c = omega (arith, most c, c .before .before .before .before .table-room .ensures .0)
 
 slice-aggregate-solve-with : tie.Need-slice-aggregate-solve-with
 slice-aggregate-solve-with c =
     let b = c .before in
-    sym (length-take-le _ _ (omega (arith, most b, b .before .before .before .before .table-room .ensures .long)))
+    sym (length-take-le _ _ (omega (arith, most b, b .before .before .before .before .table-room .ensures .0)))
 
 array-borrow-prefix-columns : tie.Need-array-borrow-prefix-columns
 array-borrow-prefix-columns c =
     let r = c .before in
-    omega (arith, r .before .before .before .line-room .ensures .long, start r .pre .0 .n-most)
+    omega (arith, r .before .before .before .row-room .ensures .0, start r .pre .0 .n-most)
 
 slice-aggregate-solve-with-2 : tie.Need-slice-aggregate-solve-with-2
 slice-aggregate-solve-with-2 c = sym (length-take-le _ _ (array-borrow-prefix-columns (c .before)))
@@ -51,7 +51,7 @@ slice-aggregate-solve-with-2 c = sym (length-take-le _ _ (array-borrow-prefix-co
 array-borrow-prefix-rows : tie.Need-array-borrow-prefix-rows
 array-borrow-prefix-rows c =
     let r = c .before .before in
-    omega (arith, r .before .before .line-room2 .ensures .long, start r .pre .0 .m-most)
+    omega (arith, r .before .before .row-room2 .ensures .0, start r .pre .0 .m-most)
 
 slice-aggregate-solve-with-3 : tie.Need-slice-aggregate-solve-with-3
 slice-aggregate-solve-with-3 c = sym (length-take-le _ _ (array-borrow-prefix-rows (c .before)))
@@ -59,7 +59,7 @@ slice-aggregate-solve-with-3 c = sym (length-take-le _ _ (array-borrow-prefix-ro
 array-borrow-prefix-x : tie.Need-array-borrow-prefix-x
 array-borrow-prefix-x c =
     let r = c .before .before .before in
-    omega (arith, r .before .line-room3 .ensures .long, start r .pre .0 .n-most)
+    omega (arith, r .before .row-room3 .ensures .0, start r .pre .0 .n-most)
 
 slice-aggregate-solve-with-4 : tie.Need-slice-aggregate-solve-with-4
 slice-aggregate-solve-with-4 c = sym (length-take-le _ _ (array-borrow-prefix-x (c .before)))
@@ -67,7 +67,7 @@ slice-aggregate-solve-with-4 c = sym (length-take-le _ _ (array-borrow-prefix-x 
 array-borrow-prefix-image : tie.Need-array-borrow-prefix-image
 array-borrow-prefix-image c =
     let r = c .before .before .before .before in
-    omega (arith, r .line-room4 .ensures .long, start r .pre .0 .m-most)
+    omega (arith, r .row-room4 .ensures .0, start r .pre .0 .m-most)
 
 slice-aggregate-solve-with-5 : tie.Need-slice-aggregate-solve-with-5
 slice-aggregate-solve-with-5 c = sym (length-take-le _ _ (array-borrow-prefix-image (c .before)))
@@ -102,10 +102,10 @@ solve-of-spec =
     tie.close
     (tie.spec
     table-room-requires
-    line-room-requires
-    line-room-requires-2
-    line-room-requires-3
-    line-room-requires-4
+    row-room-requires
+    row-room-requires-2
+    row-room-requires-3
+    row-room-requires-4
     mul-size
     array-borrow-prefix-d
     slice-aggregate-solve-with

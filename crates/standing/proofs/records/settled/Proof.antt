@@ -10,8 +10,8 @@ use Rattle.standing.proofs.RecordRows.{front-length, row-fits, row-fron
 use Rattle.standing.proofs.records.settled.Statement.{statement}
 use Rattle.standing.proofs.records.settled.Tie as tie
 
-zero-row-requires : tie.Need-zero-row-requires
-zero-row-requires c κs = tt
+row-room-requires : tie.Need-row-room-requires
+row-room-requires c κs = tt
 
 -- row j of D lies in d
 in-d : (c : tie.Start) → c .args .j * c .args .k + c .args .k ≤ 4096
@@ -44,7 +44,7 @@ array-borrow-prefix-e c = omega arith
 slice-aggregate-combine : tie.Need-slice-aggregate-combine
 slice-aggregate-combine c =
     let z = c .before .before in
-    sym (front-length (z .before .before .before .args .n) (z .zero-row .result) (omega arith) (z .zero-row .ensures))
+    sym (front-length (z .before .before .before .args .n) (z .row-room .result) (omega arith) (z .row-room .ensures))
 
 combine-requires : tie.Need-combine-requires
 combine-requires c κs =
@@ -52,7 +52,7 @@ combine-requires c κs =
     let s = z .before .before .before in
     let n = s .args .n in
     let long = part-in-d s in
-    let front = front-length n (z .zero-row .result) (omega arith) (z .zero-row .ensures) in (
+    let front = front-length n (z .row-room .result) (omega arith) (z .row-room .ensures) in (
       omega arith,
       s .pre .1,
       omega (arith, long),
@@ -71,14 +71,14 @@ array-share-prefix-e c =
     let r = c .before in
     let z = r .before .before .before in
     let n = z .before .before .before .args .n in
-    row-fits n (z .zero-row .result) (omega arith) (z .zero-row .ensures) (out r) (r .combine .ensures .0)
+    row-fits n (z .row-room .result) (omega arith) (z .row-room .ensures) (out r) (r .combine .ensures .0)
 
 slice-aggregate-is-unit : tie.Need-slice-aggregate-is-unit
 slice-aggregate-is-unit c =
     let r = c .before .before in
     let z = r .before .before .before in
     let n = z .before .before .before .args .n in
-    sym (row-front-length n (z .zero-row .result) (omega arith) (z .zero-row .ensures) (out r) (r .combine .ensures .0))
+    sym (row-front-length n (z .row-room .result) (omega arith) (z .row-room .ensures) (out r) (r .combine .ensures .0))
 
 is-unit-requires : tie.Need-is-unit-requires
 is-unit-requires c κs = tt
@@ -89,14 +89,14 @@ returns c =
     let z = r .before .before .before in
     let s = z .before .before .before in
     let a = s .args in
-    row-tells (a .p) (a .n) (a .k) (a .j) (a .rows .now) (a .d .now) (z .zero-row .result) (out r) (omega arith) (omega arith)
-    (omega arith) (omega (arith, in-d s)) (z .zero-row .ensures) (r .combine .ensures) (c .is-unit .ensures)
+    row-tells (a .p) (a .n) (a .k) (a .j) (a .rows .now) (a .d .now) (z .row-room .result) (out r) (omega arith) (omega arith)
+    (omega arith) (omega (arith, in-d s)) (z .row-room .ensures) (r .combine .ensures) (c .is-unit .ensures)
 
 pub settled-spec : {M : Type 1} → statement M
 settled-spec =
     tie.close
     (tie.spec
-    zero-row-requires
+    row-room-requires
     mul-at
     add-end
     mul-combine

@@ -1,0 +1,265 @@
+-- Blocks of numbers in memory. A part of a list that is replaced by a list of the same length; the table of a part; tables of
+-- lists that agree; what `Kept` gives: it composes, widens, and leaves tables elsewhere as they were; and entries and sizes
+-- of sums, negatives and products of tables.
+use mathlib.Core.Path.{_≡_, refl, sym, ap, _∙_}
+use mathlib.Core.List.{List, _++_}
+use Prim.Native.Nat.{ℕ, _+_, _*_, _-_, _≤_, _<_}
+use native.Mathlib.Nat.{mul-le-mul-right}
+use native.Mathlib.Decide.{decLt}
+use native.Mathlib.Omega.{arith}
+use lib.ListN.{length, getD, take, drop, length-append, length-drop, List·getD-append}
+use lib.Seq.{length-take-le, take-all, getD-append-add, getD-take, getD-drop}
+use Rattle.algebra.specs.Ring.{IsCommutativeRing}
+use Rattle.algebra.specs.Matrix.{Matrix, Sized, sum, add, negative, product}
+use Rattle.algebra.proofs.Rings.{minus-zero}
+use Rattle.algebra.proofs.Sums.{sum-same}
+use Rattle.algebra.proofs.Matrices.{entries}
+use Rattle.algebra.proofs.Step.{product-row, product-column}
+use Rattle.field.specs.Residue.{reduce, residues, _⊕_, _⊗_, negated}
+use Rattle.field.specs.View.{line, table, Below}
+use Rattle.field.proofs.Field.{residues-ring}
+use Rattle.field.proofs.Views.{table-entry, table-sized}
+use Rattle.blocks.specs.Places.{Kept, Copied}
+
+-- xs with the k numbers from place a on replaced by ys: what a call that was lent `&mut xs[a..a + k]` leaves
+abbrev pub replaced : List ℕ → (a k : ℕ) → List ℕ → List ℕ
+replaced xs a k ys = take a xs ++ (ys ++ drop k (drop a xs))
+
+module _ (xs : List ℕ) (a k : ℕ) (ys : List ℕ) (fits : a + k ≤ length xs) (long : length ys ≡ k) where
+  before-long : length (take a xs) ≡ a
+  before-long = length-take-le a xs (omega arith)
+
+  pub replaced-length : length (replaced xs a k ys) ≡ length xs
+  replaced-length = simp (length-append, length-drop, before-long, long) (omega arith)
+
+  -- inside the part stand the numbers of ys
+  pub replaced-inside : (j : ℕ) → j < k → getD (replaced xs a k ys) (a + j) 0 ≡ getD ys j 0
+  replaced-inside j h =
+      ap (λ n. getD (replaced xs a k ys) (n + j) 0) (sym before-long)
+      ∙ getD-append-add (take a xs) (ys ++ drop k (drop a xs)) j 0
+      ∙ List·getD-append ys (drop k (drop a xs)) 0 j (omega arith)
+
+  -- elsewhere nothing has changed
+  pub replaced-elsewhere : (q : ℕ) → ((j : ℕ) → j < k → q ≡ a + j → ⊥) → getD (replaced xs a k ys) q 0 ≡ getD xs q 0
+  replaced-elsewhere q out = by-place (decLt q a) (decLt q (a + k))
+    where
+      after : (r : ℕ) → q ≡ a + (k + r) → getD (replaced xs a k ys) q 0 ≡ getD xs q 0
+      after r e =
+          ap (λ n. getD (replaced xs a k ys) n 0) e
+          ∙ ap (λ n. getD (replaced xs a k ys) (n + (k + r)) 0) (sym before-long)
+          ∙ getD-append-add (take a xs) (ys ++ drop k (drop a xs)) (k + r) 0
+          ∙ ap (λ n. getD (ys ++ drop k (drop a xs)) (n + r) 0) (sym long)
+          ∙ getD-append-add ys (drop k (drop a xs)) r 0
+          ∙ getD-drop k (drop a xs) r 0
+          ∙ getD-drop a xs (k + r) 0
+          ∙ ap (λ n. getD xs n 0) (sym e)
+
+      by-place : Dec (q < a) → Dec (q < a + k) → getD (replaced xs a k ys) q 0 ≡ getD xs q 0
+      by-place (yes h) d =
+          List·getD-append (take a xs) (ys ++ drop k (drop a xs)) 0 q (omega (arith, before-long)) ∙ getD-take a xs q 0 h
+      by-place (no h) (yes l) = absurd (out (q - a) (omega arith) (omega arith))
+      by-place (no h) (no l) = after (q - (a + k)) (omega arith)
+
+  -- residues stay residues
+  pub replaced-below : (p : ℕ) → Below p xs → Below p ys → Below p (replaced xs a k ys)
+  replaced-below p b c q h = by-place (decLt q a) (decLt q (a + k))
+    where
+      old : ((j : ℕ) → j < k → q ≡ a + j → ⊥) → getD (replaced xs a k ys) q 0 < p
+      old out = rw (replaced-elsewhere q out) (b q (omega (arith, replaced-length)))
+
+      by-place : Dec (q < a) → Dec (q < a + k) → getD (replaced xs a k ys) q 0 < p
+      by-place (yes l) d = old (λ j g e. omega arith)
+      by-place (no l) (no d) = old (λ j g e. omega arith)
+      by-place (no l) (yes d) =
+          let e : q ≡ a + (q - a) = omega arith in
+          rw (ap (λ r. getD (replaced xs a k ys) r 0) e ∙ replaced-inside (q - a) (omega arith)) (c (q - a) (omega arith))
+
+-- the same of a part from the front, `&mut xs[..k]`
+module _ (xs : List ℕ) (k : ℕ) (ys : List ℕ) (long : length ys ≡ k) where
+  pub front-inside : (j : ℕ) → j < k → getD (ys ++ drop k xs) j 0 ≡ getD ys j 0
+  front-inside j h = List·getD-append ys (drop k xs) 0 j (omega arith)
+
+  pub front-past : (j : ℕ) → k ≤ j → getD (ys ++ drop k xs) j 0 ≡ getD xs j 0
+  front-past j h =
+      let e : j ≡ k + (j - k) = omega arith in
+      ap (λ n. getD (ys ++ drop k xs) n 0) (e ∙ ap (λ n. n + (j - k)) (sym long))
+      ∙ getD-append-add ys (drop k xs) (j - k) 0
+      ∙ getD-drop k xs (j - k) 0
+      ∙ ap (λ n. getD xs n 0) (sym e)
+
+  pub front-below : (p : ℕ) → Below p xs → Below p ys → k ≤ length xs → Below p (ys ++ drop k xs)
+  front-below p b c fits q h = by-place (decLt q k)
+    where
+      by-place : Dec (q < k) → getD (ys ++ drop k xs) q 0 < p
+      by-place (yes l) = rw (front-inside q l) (c q (omega arith))
+      by-place (no l) = rw (front-past q (omega arith)) (b q (omega (arith, length-append ys (drop k xs), length-drop k xs)))
+
+-- what stands in a part, and how long it is
+pub part-length : (xs : List ℕ) (a k : ℕ) → a + k ≤ length xs → length (take k (drop a xs)) ≡ k
+part-length xs a k h = length-take-le k (drop a xs) (simp length-drop (omega arith))
+
+pub part-at : (xs : List ℕ) (a k j : ℕ) → j < k → getD (take k (drop a xs)) j 0 ≡ getD xs (a + j) 0
+part-at xs a k j h = getD-take k (drop a xs) j 0 h ∙ getD-drop a xs j 0
+
+-- `&xs[a..]` comes as the part up to the end
+pub part-rest : (xs : List ℕ) (a : ℕ) → take (length xs - a) (drop a xs) ≡ drop a xs
+part-rest xs a = take-all (length xs - a) (drop a xs) (simp length-drop (omega arith))
+
+-- matrices of m rows and n columns are equal if their entries there are
+pub tables-equal : (p m n : ℕ) (X Y : Matrix (residues p)) → Sized (residues p) m n X → Sized (residues p) m n Y → ((i j : ℕ) → i < m → j < n → X i j ≡ Y i j) → X ≡ Y
+tables-equal p m n X Y x y same = entries (residues p) X Y (λ i j. by-place i j (decLt i m) (decLt j n))
+  where
+    by-place : (i j : ℕ) → Dec (i < m) → Dec (j < n) → X i j ≡ Y i j
+    by-place i j (yes h) (yes l) = same i j h l
+    by-place i j (no h) d = x .rows-end i j (omega arith) ∙ sym (y .rows-end i j (omega arith))
+    by-place i j (yes h) (no l) = x .columns-end i j (omega arith) ∙ sym (y .columns-end i j (omega arith))
+
+-- lists that agree at the places of two blocks have equal tables there
+pub table-same : (p : ℕ) (xs : List ℕ) (start stride : ℕ) (ys : List ℕ) (start′ stride′ m n : ℕ) → ((i j : ℕ) → i < m → j < n → getD xs (start + i * stride + j) 0 ≡ getD ys (start′ + i * stride′ + j) 0) → table p xs start stride m n ≡ table p ys start′ stride′ m n
+table-same p xs start stride ys start′ stride′ m n same =
+    tables-equal p m n (table p xs start stride m n) (table p ys start′ stride′ m n)
+    (table-sized p xs start stride m n)
+    (table-sized p ys start′ stride′ m n)
+    (λ i j h l.
+    table-entry p xs start stride m n i j h l
+    ∙ ap (reduce p) (same i j h l)
+    ∙ sym (table-entry p ys start′ stride′ m n i j h l))
+
+-- the table of a part is the table of the whole at the shifted start
+pub part-table : (p : ℕ) (xs : List ℕ) (a k start stride m n : ℕ) → ((i : ℕ) → i < m → start + i * stride + n ≤ k) → table p (take k (drop a xs)) start stride m n ≡ table p xs (a + start) stride m n
+part-table p xs a k start stride m n inside =
+    table-same p (take k (drop a xs)) start stride xs (a + start) stride m n
+    (λ i j h l.
+    let e : a + (start + i * stride + j) ≡ a + start + i * stride + j = omega arith in
+    part-at xs a k (start + i * stride + j) (omega (arith, inside i h)) ∙ ap (λ q. getD xs q 0) e)
+
+-- the same of a part from the front, and of one up to the end
+pub front-table : (p : ℕ) (xs : List ℕ) (k start stride m n : ℕ) → ((i : ℕ) → i < m → start + i * stride + n ≤ k) → table p (take k xs) start stride m n ≡ table p xs start stride m n
+front-table p xs k start stride m n inside =
+    table-same p (take k xs) start stride xs start stride m n
+    (λ i j h l. getD-take k xs (start + i * stride + j) 0 (omega (arith, inside i h)))
+
+pub rest-table : (p : ℕ) (xs : List ℕ) (a start stride m n : ℕ) → table p (drop a xs) start stride m n ≡ table p xs (a + start) stride m n
+rest-table p xs a start stride m n =
+    table-same p (drop a xs) start stride xs (a + start) stride m n
+    (λ i j h l.
+    let e : a + (start + i * stride + j) ≡ a + start + i * stride + j = omega arith in
+    getD-drop a xs (start + i * stride + j) 0 ∙ ap (λ q. getD xs q 0) e)
+
+-- the table at the front of what was copied
+pub copied-table : (p : ℕ) {xs : List ℕ} {start size : ℕ} {zs zs′ : List ℕ} (stride m n : ℕ) → Copied xs start size zs zs′ → ((i : ℕ) → i < m → i * stride + n ≤ size) → table p zs′ 0 stride m n ≡ table p xs start stride m n
+copied-table p {xs} {start} {size} {zs} {zs′} stride m n copied inside =
+    table-same p zs′ 0 stride xs start stride m n
+    (λ i j h l.
+    let e : start + (0 + i * stride + j) ≡ start + i * stride + j = omega arith in
+    copied .front (0 + i * stride + j) (omega (arith, inside i h)) ∙ ap (λ q. getD xs q 0) e)
+
+-- what was copied over zeros is below p
+pub copied-below : {p : ℕ} {xs : List ℕ} {start size : ℕ} {zs zs′ : List ℕ} → 0 < p → ((j : ℕ) → getD zs j 0 ≡ 0) → start + size ≤ length xs → Below p xs → Copied xs start size zs zs′ → Below p zs′
+copied-below {p} {xs} {start} {size} {zs} {zs′} positive blank fits below copied i h = by-place (decLt i size)
+  where
+    by-place : Dec (i < size) → getD zs′ i 0 < p
+    by-place (yes l) = rw (copied .front i l) (below (start + i) (omega arith))
+    by-place (no l) = rw (copied .rest i (omega arith), blank i) positive
+
+-- columns a and b of rows that lie stride apart are at one place only where row and column are the same
+pub same-place : (stride i k a b : ℕ) → a < stride → b < stride → a + i * stride ≡ b + k * stride → (i ≡ k) × (a ≡ b)
+same-place stride i k a b h l e = by-order (decLt i k) (decLt k i)
+  where
+    by-order : Dec (i < k) → Dec (k < i) → (i ≡ k) × (a ≡ b)
+    by-order (yes g) d = absurd (omega (arith, mul-le-mul-right stride g))
+    by-order (no g) (yes d) = absurd (omega (arith, mul-le-mul-right stride d))
+    by-order (no g) (no d) = let same : i ≡ k = omega arith in (same, omega (arith, ap (λ n. n * stride) same))
+
+-- nothing has changed
+pub kept-none : (p : ℕ) (xs : List ℕ) (start stride m n : ℕ) → Below p xs → Kept p xs xs start stride m n
+kept-none p xs start stride m n b = record { same-length = refl; elsewhere = λ q out. refl; below = b }
+
+module _ {p : ℕ} {xs ys : List ℕ} where
+  -- two calls that write the same block, one after the other
+  pub kept-trans : {zs : List ℕ} {start stride m n : ℕ} → Kept p xs ys start stride m n → Kept p ys zs start stride m n → Kept p xs zs start stride m n
+  kept-trans k l =
+      record {
+        same-length = l .same-length ∙ k .same-length;
+        elsewhere = λ q out. l .elsewhere q out ∙ k .elsewhere q out;
+        below = l .below;
+      }
+
+  -- what keeps all but a block keeps all but a block around it: the same rows or more, the same columns or more
+  pub kept-wider : {start stride m n : ℕ} (start′ m′ n′ : ℕ) → m ≤ m′ → start′ ≤ start → start + n ≤ start′ + n′ → Kept p xs ys start stride m n → Kept p xs ys start′ stride m′ n′
+  kept-wider {start} {stride} start′ m′ n′ rows left right k =
+      record {
+        same-length = k .same-length;
+        elsewhere = λ q out. k .elsewhere q (λ i j h l e. out i (start - start′ + j) (omega arith) (omega arith) (omega arith));
+        below = k .below;
+      }
+
+  -- a place in other columns is elsewhere
+  pub kept-at : {start stride m n : ℕ} → Kept p xs ys start stride m n → start + n ≤ stride → (i c : ℕ) → c < stride → ((j : ℕ) → j < n → c ≡ start + j → ⊥) → getD ys (c + i * stride) 0 ≡ getD xs (c + i * stride) 0
+  kept-at {start} {stride} k fits i c h other =
+      k .elsewhere (c + i * stride)
+      (λ r j g l e. other j l (same-place stride i r c (start + j) h (omega arith) (omega arith) .1))
+
+  -- a table in other columns is as it was
+  pub table-kept : {start stride m n : ℕ} (start′ m′ n′ : ℕ) → start + n ≤ stride → start′ + n′ ≤ stride → ((j l : ℕ) → j < n′ → l < n → start′ + j ≡ start + l → ⊥) → Kept p xs ys start stride m n → table p ys start′ stride m′ n′ ≡ table p xs start′ stride m′ n′
+  table-kept {start} {stride} start′ m′ n′ fits fits′ other k =
+      table-same p ys start′ stride xs start′ stride m′ n′
+      (λ i j h l.
+      let e : start′ + i * stride + j ≡ start′ + j + i * stride = omega arith in
+      rw e (kept-at k fits i (start′ + j) (omega arith) (λ t g. other j t l g)))
+
+-- sums, negatives and products of matrices of fitting sizes are zero outside theirs
+module _ (p : ℕ) (positive : 0 < p) where
+  ring : IsCommutativeRing (residues p)
+  ring = residues-ring p positive
+
+  pub add-sized : (m n : ℕ) (X Y : Matrix (residues p)) → Sized (residues p) m n X → Sized (residues p) m n Y → Sized (residues p) m n (add (residues p) X Y)
+  unfolding add
+  add-sized m n X Y x y =
+      record {
+        rows-end = λ i j h. (λ t. x .rows-end i j h t ⊕ y .rows-end i j h t) ∙ ring .plus-zero (reduce p 0);
+        columns-end = λ i j h. (λ t. x .columns-end i j h t ⊕ y .columns-end i j h t) ∙ ring .plus-zero (reduce p 0);
+      }
+
+  pub negative-sized : (m n : ℕ) (X : Matrix (residues p)) → Sized (residues p) m n X → Sized (residues p) m n (negative (residues p) X)
+  unfolding negative
+  negative-sized m n X x =
+      record {
+        rows-end = λ i j h. ap negated (x .rows-end i j h) ∙ minus-zero (residues p) ring;
+        columns-end = λ i j h. ap negated (x .columns-end i j h) ∙ minus-zero (residues p) ring;
+      }
+
+  pub product-sized : (m k n : ℕ) (X Y : Matrix (residues p)) → Sized (residues p) m k X → Sized (residues p) k n Y → Sized (residues p) m n (product (residues p) k X Y)
+  product-sized m k n X Y x y =
+      record {
+        rows-end = λ i j h. product-row (residues p) ring k X Y i (λ t l. x .rows-end i t h) j;
+        columns-end = λ i j h. product-column (residues p) ring k X Y j (λ t l. y .columns-end t j h) i;
+      }
+
+  -- a table of negatives
+  pub table-negative : (xs ys : List ℕ) (start stride m n : ℕ) → ((i j : ℕ) → i < m → j < n → reduce p (getD ys (start + i * stride + j) 0) ≡ negated (reduce p (getD xs (start + i * stride + j) 0))) → table p ys start stride m n ≡ negative (residues p) (table p xs start stride m n)
+  unfolding negative
+  table-negative xs ys start stride m n each =
+      tables-equal p m n (table p ys start stride m n) (negative (residues p) (table p xs start stride m n))
+      (table-sized p ys start stride m n)
+      (negative-sized m n (table p xs start stride m n) (table-sized p xs start stride m n))
+      (λ i j h l.
+      table-entry p ys start stride m n i j h l
+      ∙ each i j h l
+      ∙ ap negated (sym (table-entry p xs start stride m n i j h l)))
+
+-- an entry of a product of tables is the sum of the products of the numbers of a row, given as a list, and a column
+pub row-product : (p : ℕ) (x : List ℕ) (x-start x-stride : ℕ) (y : List ℕ) (y-start y-stride m k n : ℕ) (by : List ℕ) (i : ℕ) → i < m → ((t : ℕ) → t < k → getD by t 0 ≡ getD x (x-start + i * x-stride + t) 0) → (j : ℕ) → j < n → sum (residues p) k (λ t. line p by 0 1 t ⊗ line p y (y-start + j) y-stride t) ≡ product (residues p) k (table p x x-start x-stride m k) (table p y y-start y-stride k n) i j
+unfolding line product
+row-product p x x-start x-stride y y-start y-stride m k n by i h row j l =
+    sum-same (residues p) k _ _
+    (λ t b.
+    let place : 0 + t * 1 ≡ t = omega arith in
+    let place′ : y-start + j + t * y-stride ≡ y-start + t * y-stride + j = omega arith in
+    let first : reduce p (getD by (0 + t * 1) 0) ≡ table p x x-start x-stride m k i t =
+    ap (λ q. reduce p (getD by q 0)) place
+    ∙ ap (reduce p) (row t b)
+    ∙ sym (table-entry p x x-start x-stride m k i t h b) in
+    let second : reduce p (getD y (y-start + j + t * y-stride) 0) ≡ table p y y-start y-stride k n t j =
+    ap (λ q. reduce p (getD y q 0)) place′ ∙ sym (table-entry p y y-start y-stride k n t j b l) in
+    λ s. first s ⊗ second s)

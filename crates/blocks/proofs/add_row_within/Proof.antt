@@ -1,0 +1,52 @@
+-- `blocks::add_row_within` meets its contract: the copy has the multipliers that stood in z.
+use native.Mathlib.Omega.{arith}
+use borrow.Author.Needs.{needs}
+use Rattle.blocks.proofs.Places.{copied-below}
+use Rattle.blocks.proofs.PlaceRows.{row-fits, factors-front, copied-row, multiplied-left}
+use Rattle.blocks.proofs.add_row_within.Statement.{statement}
+use Rattle.blocks.proofs.add_row_within.Tie as tie
+
+row-room-requires : tie.Need-row-room-requires
+row-room-requires c κs = search needs
+
+slice-aggregate-copy : tie.Need-slice-aggregate-copy
+slice-aggregate-copy c = search needs
+
+copy-requires : tie.Need-copy-requires
+copy-requires c κs =
+    let s = c .before .before .before .before .before in
+    (row-fits (s .pre .left), omega (arith, c .before .before .row-room .ensures .0, s .pre .inner))
+
+slice-aggregate-add-row : tie.Need-slice-aggregate-add-row
+slice-aggregate-add-row c = search needs
+
+add-row-requires : tie.Need-add-row-requires
+add-row-requires c κs =
+    let s = c .before .before .before .before .before .before .before .before .before in
+    let room = c .before .before .before .before .before .before .row-room .ensures in
+    let copied = c .before .before .before .copy .ensures in
+    factors-front (omega (arith, room .0, copied .same-length, s .pre .inner))
+    (copied-below (s .pre .positive) (room .1) (row-fits (s .pre .left)) (s .pre .left-below) copied)
+    (s .pre)
+
+same-length : tie.Need-same-length
+same-length c = search needs
+
+returns : tie.Need-returns
+returns c =
+    let s = c .before .before .before .before .before .before .before .before .before .before .before .before in
+    multiplied-left (s .args .z .now) (s .args .x-at) (s .args .k)
+    (copied-row (s .args .p) (s .args .k) (c .before .before .before .before .before .before .copy .ensures))
+    (c .before .before .add-row .ensures)
+
+pub add-row-within-spec : {M : Type 1} → statement M
+add-row-within-spec =
+    tie.close
+    (tie.spec
+    row-room-requires
+    slice-aggregate-copy
+    copy-requires
+    slice-aggregate-add-row
+    add-row-requires
+    same-length
+    returns)

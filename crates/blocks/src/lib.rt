@@ -1,0 +1,228 @@
+// Products of blocks of residues, row by row through field's combination of rows.
+ghost use mathlib.Core.Path.{_≡_};
+ghost use mathlib.Core.Bool.{true};
+ghost use Prim.Native.Nat.{ℕ, _+_, _≤_, _<_};
+ghost use lib.ListN.{length, getD};
+ghost use Rattle.field.specs.Residue.{reduce, negated};
+ghost use Rattle.field.specs.View.{Below, Zeros};
+ghost use Rattle.blocks.specs.Places.{Block, Factors, Multiplied, Copied, Used, Masked};
+
+// 2,048 zeros: room for half the rows of the largest table.
+pub fn half_table() -> [u32; 2048]
+    ensures { λ r. ⌜ Zeros 2048 r ⌝ }
+{
+    [0u32; 2048]
+}
+
+// 1,024 zeros: room for a quarter of the largest table.
+pub fn quarter_table() -> [u32; 1024]
+    ensures { λ r. ⌜ Zeros 1024 r ⌝ }
+{
+    [0u32; 1024]
+}
+
+// Makes each number its negative modulo p.
+pub fn negate(p: u32, xs: &mut [u32])
+    requires { ⌜ (0 < p) × (p ≤ 2147483647) × Below p (now xs) ⌝ }
+    ensures { λ _. ⌜ (length (now (xs .exit)) ≡ length (now (xs .entry))) × Below p (now (xs .exit)) × ((j : ℕ) → j < length (now (xs .entry)) → reduce p (getD (now (xs .exit)) j 0) ≡ negated (reduce p (getD (now (xs .entry)) j 0))) ⌝ }
+{
+    let mut j = 0;
+    while j < xs.len() {
+        xs[j] = field::arith::minus(p, 0, xs[j]);
+        j += 1;
+    }
+}
+
+// Makes each number 0.
+pub fn clear(xs: &mut [u32])
+    ensures { λ _. ⌜ (length (now (xs .exit)) ≡ length (now (xs .entry))) × ((j : ℕ) → getD (now (xs .exit)) j 0 ≡ 0) ⌝ }
+{
+    let mut j = 0;
+    while j < xs.len() {
+        xs[j] = 0;
+        j += 1;
+    }
+}
+
+// Copies n numbers of xs, from start on, to the front of zs.
+pub fn copy(xs: &[u32], start: usize, n: usize, zs: &mut [u32])
+    requires { ⌜ (start + n ≤ length (now xs)) × (n ≤ length (now zs)) ⌝ }
+    ensures { λ _. ⌜ Copied (now (xs .entry)) start n (now (zs .entry)) (now (zs .exit)) ⌝ }
+{
+    let mut j = 0;
+    while j < n {
+        zs[j] = xs[start + j];
+        j += 1;
+    }
+}
+
+// Whether every number is 0.
+fn all_zero(xs: &[u32]) -> bool
+    ensures { λ r. ⌜ (r ≡ true → (j : ℕ) → getD (now (xs .entry)) j 0 ≡ 0) ⌝ }
+{
+    let mut j = 0;
+    while j < xs.len() {
+        if xs[j] != 0 {
+            return false;
+        }
+        j += 1;
+    }
+    true
+}
+
+// Sets the flags of the k rows of Y that are not all zeros.
+fn flag_rows(k: usize, n: usize, y: &[u32], y_start: usize, y_stride: usize, used: &mut [u32])
+    requires { ⌜ Block (now y) «y_start» «y_stride» k n × (k ≤ length (now used)) ⌝ }
+    ensures { λ _. ⌜ (length (now (used .exit)) ≡ length (now (used .entry))) × Used k n (now (y .entry)) «y_start» «y_stride» (now (used .exit)) ⌝ }
+{
+    let mut t = 0;
+    while t < k {
+        let at = y_start + t * y_stride;
+        let end = at + n;
+        if !all_zero(&y[at..end]) {
+            used[t] = 1;
+        }
+        t += 1;
+    }
+}
+
+// Copies n numbers of xs, from start on, to the front of zs, with 0 for those whose flag is not set.
+fn mask(xs: &[u32], start: usize, n: usize, used: &[u32], zs: &mut [u32])
+    requires { ⌜ (start + n ≤ length (now xs)) × (n ≤ length (now used)) × (n ≤ length (now zs)) ⌝ }
+    ensures { λ _. ⌜ Masked (now (xs .entry)) start n (now (used .entry)) (now (zs .entry)) (now (zs .exit)) ⌝ }
+{
+    let mut j = 0;
+    while j < n {
+        let mut x = xs[start + j];
+        if used[j] == 0 {
+            x = 0;
+        }
+        zs[j] = x;
+        j += 1;
+    }
+}
+
+// One row of Z + X Y: the k numbers of x from `x_at` on are the multipliers of Y's rows, the n numbers of z from `z_at` on get
+// the sum. A row of zeros adds nothing.
+fn add_row(
+    p: u32,
+    k: usize,
+    n: usize,
+    x: &[u32],
+    x_at: usize,
+    y: &[u32],
+    y_start: usize,
+    y_stride: usize,
+    z: &mut [u32],
+    z_at: usize,
+)
+    requires { ⌜ Factors p 1 k n (now x) «x_at» k (now y) «y_start» «y_stride» (now z) «z_at» n ⌝ }
+    ensures { λ _. ⌜ Multiplied p 1 k n (now (x .entry)) «x_at» k (now (y .entry)) «y_start» «y_stride» (now (z .entry)) (now (z .exit)) «z_at» n ⌝ }
+{
+    let x_end = x_at + k;
+    let by = &x[x_at..x_end];
+    if all_zero(by) {
+        return;
+    }
+    let z_end = z_at + n;
+    field::sums::combine(p, by, y, y_start, y_stride, &mut z[z_at..z_end]);
+}
+
+// The same as `add_row`, where the rows of Y whose flags are not set are zeros: their multipliers become 0, so that they are
+// skipped.
+fn add_row_used(
+    p: u32,
+    k: usize,
+    n: usize,
+    x: &[u32],
+    x_at: usize,
+    used: &[u32],
+    y: &[u32],
+    y_start: usize,
+    y_stride: usize,
+    z: &mut [u32],
+    z_at: usize,
+)
+    requires { ⌜ Factors p 1 k n (now x) «x_at» k (now y) «y_start» «y_stride» (now z) «z_at» n × Used k n (now y) «y_start» «y_stride» (now used) ⌝ }
+    ensures { λ _. ⌜ Multiplied p 1 k n (now (x .entry)) «x_at» k (now (y .entry)) «y_start» «y_stride» (now (z .entry)) (now (z .exit)) «z_at» n ⌝ }
+{
+    let mut by = field::rooms::row_room();
+    mask(x, x_at, k, used, &mut by);
+    add_row(p, k, n, &by, 0, y, y_start, y_stride, z, z_at);
+}
+
+// Z + X Y for Z, where X, m rows and k columns, Y and Z lie in different places.
+pub fn add_product(
+    p: u32,
+    m: usize,
+    k: usize,
+    n: usize,
+    x: &[u32],
+    x_start: usize,
+    x_stride: usize,
+    y: &[u32],
+    y_start: usize,
+    y_stride: usize,
+    z: &mut [u32],
+    z_start: usize,
+    z_stride: usize,
+)
+    requires { ⌜ Factors p m k n (now x) «x_start» «x_stride» (now y) «y_start» «y_stride» (now z) «z_start» «z_stride» ⌝ }
+    ensures { λ _. ⌜ Multiplied p m k n (now (x .entry)) «x_start» «x_stride» (now (y .entry)) «y_start» «y_stride» (now (z .entry)) (now (z .exit)) «z_start» «z_stride» ⌝ }
+{
+    let mut used = field::rooms::row_room();
+    flag_rows(k, n, y, y_start, y_stride, &mut used);
+    let mut i = 0;
+    while i < m {
+        let x_at = x_start + i * x_stride;
+        let z_at = z_start + i * z_stride;
+        add_row_used(p, k, n, x, x_at, &used, y, y_start, y_stride, z, z_at);
+        i += 1;
+    }
+}
+
+// The same as `add_row` where the multipliers lie in the memory of Z: they are copied first.
+fn add_row_within(
+    p: u32,
+    k: usize,
+    n: usize,
+    x_at: usize,
+    y: &[u32],
+    y_start: usize,
+    y_stride: usize,
+    z: &mut [u32],
+    z_at: usize,
+)
+    requires { ⌜ Factors p 1 k n (now z) «x_at» k (now y) «y_start» «y_stride» (now z) «z_at» n ⌝ }
+    ensures { λ _. ⌜ Multiplied p 1 k n (now (z .entry)) «x_at» k (now (y .entry)) «y_start» «y_stride» (now (z .entry)) (now (z .exit)) «z_at» n ⌝ }
+{
+    let mut by = field::rooms::row_room();
+    copy(z, x_at, k, &mut by);
+    add_row(p, k, n, &by, 0, y, y_start, y_stride, z, z_at);
+}
+
+// The same as `add_product` where X lies in the memory of Z, with the same stride and in other columns.
+pub fn add_product_within(
+    p: u32,
+    m: usize,
+    k: usize,
+    n: usize,
+    x_start: usize,
+    y: &[u32],
+    y_start: usize,
+    y_stride: usize,
+    z: &mut [u32],
+    z_start: usize,
+    stride: usize,
+)
+    requires { ⌜ Factors p m k n (now z) «x_start» stride (now y) «y_start» «y_stride» (now z) «z_start» stride × ((i j l : ℕ) → i < m → j < k → l < n → «x_start» + j ≡ «z_start» + l → ⊥) × («x_start» + k ≤ stride) × («z_start» + n ≤ stride) ⌝ }
+    ensures { λ _. ⌜ Multiplied p m k n (now (z .entry)) «x_start» stride (now (y .entry)) «y_start» «y_stride» (now (z .entry)) (now (z .exit)) «z_start» stride ⌝ }
+{
+    let mut i = 0;
+    while i < m {
+        let x_at = x_start + i * stride;
+        let z_at = z_start + i * stride;
+        add_row_within(p, k, n, x_at, y, y_start, y_stride, z, z_at);
+        i += 1;
+    }
+}
