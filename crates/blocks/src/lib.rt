@@ -181,7 +181,7 @@ pub fn add_product(
     }
 }
 
-// The same as `add_row` where the multipliers lie in the memory of Z: they are copied first.
+// The same as `add_row` where the multipliers lie in the memory of Z: unless they are all 0, they are copied first.
 fn add_row_within(
     p: u32,
     k: usize,
@@ -196,6 +196,10 @@ fn add_row_within(
     requires { ⌜ Factors p 1 k n (now z) «x_at» k (now y) «y_start» «y_stride» (now z) «z_at» n ⌝ }
     ensures { λ _. ⌜ Multiplied p 1 k n (now (z .entry)) «x_at» k (now (y .entry)) «y_start» «y_stride» (now (z .entry)) (now (z .exit)) «z_at» n ⌝ }
 {
+    let x_end = x_at + k;
+    if all_zero(&z[x_at..x_end]) {
+        return;
+    }
     let mut by = field::rooms::row_room();
     copy(z, x_at, k, &mut by);
     add_row(p, k, n, &by, 0, y, y_start, y_stride, z, z_at);
