@@ -40,6 +40,10 @@ pub high-fits : (n x : ℕ) → Room n → Fits w64 x → Fits w64 (n + high x)
 unfolding Room high
 high-fits n x r f = omega arith
 
+pub room-fits : (n : ℕ) → Room n → Fits w64 n
+unfolding Room
+room-fits n r = omega arith
+
 -- a number of 32 bits fits too
 pub word-fits : (n x : ℕ) → Room n → Fits w32 x → Fits w64 (n + x)
 unfolding Room

@@ -3,6 +3,7 @@ pub mod Field
 pub mod Totals
 pub mod Halves
 pub mod Four
+pub mod Powers
 pub mod Walk
 pub mod Rows
 pub mod Written

@@ -11,13 +11,22 @@ use Rattle.algebra.specs.Matrix.{sum}
 use Rattle.field.specs.Residue.{reduce, residues, _⊕_, _⊗_}
 use Rattle.field.specs.View.{line, Zeros}
 use Rattle.field.specs.Totals.{total, products}
-use Rattle.field.specs.Halves.{whole, Ready, Added, Summed}
-use Rattle.field.specs.Four.{Shorts, Taken, productAt, fourAt}
+use Rattle.field.specs.Halves.{Ready, Added, wholeAt}
+use Rattle.field.specs.Four.{Shorts, Taken, Summed, productAt, fourAt, summedAt}
 use Rattle.field.specs.declared.sums.Row.{Row}
 use Rattle.field.proofs.Totals.{total-zero, reduce-products}
 use Rattle.field.proofs.Residues.{reduce-plus}
-use Rattle.field.proofs.Halves.{Sums, sums-none, sums-more, sums-widen, sums-room-low, sums-room-high}
-use Rattle.field.proofs.Four.{quarter-product, four-fit}
+use Rattle.field.proofs.Halves.{Sums, sums-none, sums-more, sums-widen, sums-room-low, sums-room-high, room-fits}
+use Rattle.field.proofs.Four.{quarter-product, four-room}
+
+-- where the same numbers are added, the same is left
+pub summed-same : (p : ℕ) (v w : ℕ → ℕ) (before after : List ℕ) → ((j : ℕ) → j < length before → v j ≡ w j) → Summed p v before after → Summed p w before after
+unfolding summedAt
+summed-same p v w before after e s =
+    record {
+      long = s .long;
+      summed-at = λ j h. s .summed-at j h ∙ ap (λ n. (reduce p (getD before j 0 + n)) .value) (e j h);
+    }
 
 module _ (by table : List ℕ) (start stride width : ℕ) where
   -- what the first t rows add at place j
@@ -62,8 +71,9 @@ module _ (by table : List ℕ) (start stride width : ℕ) where
     four-fits : (j : ℕ) → Fits w64 (fourAt table a b c d j)
     unfolding fourAt productAt
     four-fits j =
-        four-fit _ _ _ _ (quarter-product _ _ (ta .short) (short _)) (quarter-product _ _ (tb .short) (short _))
-        (quarter-product _ _ (tc .short) (short _)) (quarter-product _ _ (td .short) (short _))
+        room-fits _
+        (four-room _ _ _ _ (quarter-product _ _ (ta .short) (short _)) (quarter-product _ _ (tb .short) (short _))
+        (quarter-product _ _ (tc .short) (short _)) (quarter-product _ _ (td .short) (short _)))
 
     pub held-four : (lo hi los his : List ℕ) → t < length by → Held t lo hi → Added width (fourAt table a b c d) lo hi los his → Held (d .next) los his
     held-four lo hi los his l h s =
@@ -76,11 +86,22 @@ module _ (by table : List ℕ) (start stride width : ℕ) where
               (sums-more t (getD lo j 0) (getD hi j 0) _ _ (h .held-at j k) (four-fits j)));
         }
 
-  -- in the end each number is the old one plus the combination of the rows
-  pub held-summed : (p n : ℕ) (lo hi before after : List ℕ) → Held n lo hi → Summed p lo hi before after → length before ≡ width → (j : ℕ) → j < length before → getD after j 0 ≡ (reduce p (getD before j 0) ⊕ sum (residues p) n (λ t. line p by 0 1 t ⊗ line p table (start + j) stride t)) .value
-  held-summed p n lo hi before after h s e j k =
+    -- where no row is left, four rows from the first on are all
+    pub four-all : t ≡ 0 → d .next ≡ length by → (j : ℕ) → fourAt table a b c d j ≡ sum-at (length by) j
+    four-all first last j =
+        let none : sum-at t j ≡ 0 = ap (λ n. sum-at n j) first ∙ total-zero _ in
+        omega (arith, sum-four j) ∙ ap (λ n. sum-at n j) last
+
+  -- what the sums stand for in the end
+  pub held-whole : (lo hi : List ℕ) → Held (length by) lo hi → (j : ℕ) → j < width → wholeAt lo hi j ≡ sum-at (length by) j
+  unfolding wholeAt
+  held-whole lo hi h j k = h .held-at j k .same
+
+  -- the combination of the rows, in residues
+  pub summed-combined : (p : ℕ) (before after : List ℕ) → Summed p (sum-at (length by)) before after → (j : ℕ) → j < length before → getD after j 0 ≡ (reduce p (getD before j 0) ⊕ sum (residues p) (length by) (λ t. line p by 0 1 t ⊗ line p table (start + j) stride t)) .value
+  unfolding summedAt
+  summed-combined p before after s j k =
       s .summed-at j k
       ∙ ap (λ r. r .value)
-      (reduce-plus p (getD before j 0) (whole (getD lo j 0) (getD hi j 0))
-      ∙ ap (λ r. reduce p (getD before j 0) ⊕ r)
-      (ap (reduce p) (h .held-at j (omega arith) .same) ∙ reduce-products p n by table (start + j) stride))
+      (reduce-plus p (getD before j 0) (sum-at (length by) j)
+      ∙ ap (λ r. reduce p (getD before j 0) ⊕ r) (reduce-products p (length by) by table (start + j) stride))

@@ -1,9 +1,10 @@
--- Rows of a table that are added four at a time: numbers below 2^31 - 1, of which four products have 64 bits together, and
--- what `next_row` hands over.
+-- Rows of a table that are added four at a time: numbers below 2^31 - 1, of which four products have 64 bits together, what
+-- `next_row` hands over, and what is left in the end.
 use mathlib.Core.Path.{_≡_}
 use mathlib.Core.List.{List}
-use Prim.Native.Nat.{ℕ, _+_, _*_, _^_, _<_, _≤_}
+use Prim.Native.Nat.{ℕ, _+_, _*_, _%_, _^_, _<_, _≤_}
 use lib.ListN.{length, getD}
+use Rattle.field.specs.Residue.{reduce}
 use Rattle.field.specs.Totals.{total, products}
 use Rattle.field.specs.declared.sums.Row.{Row}
 
@@ -14,11 +15,22 @@ Short n = n < 2147483647
 abbrev pub Shorts : List ℕ → Type 0
 Shorts xs = (i : ℕ) → Short (getD xs i 0)
 
--- four such numbers have 64 bits together
+-- four such numbers have 64 bits together, with room for 2^32
 unfoldable pub Quarter : ℕ → Type 0
-Quarter n = 4 * n < 2 ^ 64
+Quarter n = 4 * n + 4294967296 ≤ 2 ^ 64
 
--- the rows' starts have 64 bits
+-- r and s are 2^32 and 2^64 modulo p
+pub record Powers (p r s : ℕ) : Type 0 where
+  pub short-once : Short r
+  pub short-twice : Short s
+  pub once : r ≡ 4294967296 % p
+  pub twice : s ≡ r * r % p
+
+-- k rows of `width` numbers that begin at start, start + stride, .. lie in n numbers
+abbrev pub RowsInside : (k start stride width n : ℕ) → Type 0
+RowsInside k start stride width n = (t : ℕ) → t < k → start + t * stride + width ≤ n
+
+-- their starts have 64 bits
 abbrev pub Starts : (k start stride : ℕ) → Type 0
 Starts k start stride = (t : ℕ) → t < k → start + t * stride < 2 ^ 64
 
@@ -40,5 +52,14 @@ pub record Taken (by : List ℕ) (start stride from : ℕ) (r : Row) : Type 0 wh
   pub later : from ≤ r .next
   pub onward : from < length by → from < r .next
   pub within : r .next ≤ length by
-  pub in-table : (width n : ℕ) → ((t : ℕ) → t < length by → start + t * stride + width ≤ n) → 0 < length by → r .at + width ≤ n
+  pub in-table : (width n : ℕ) → RowsInside (length by) start stride width n → 0 < length by → r .at + width ≤ n
   pub added : (xs : List ℕ) (j : ℕ) → total (r .next) (products by xs (start + j) stride) ≡ total from (products by xs (start + j) stride) + productAt xs r j
+
+-- v's number added to that of xs at place j, modulo p
+unfoldable pub summedAt : (p : ℕ) → (ℕ → ℕ) → List ℕ → ℕ → ℕ
+summedAt p v xs j = (reduce p (getD xs j 0 + v j)) .value
+
+-- after is before with v's numbers added so
+pub record Summed (p : ℕ) (v : ℕ → ℕ) (before after : List ℕ) : Type 0 where
+  pub long : length after ≡ length before
+  pub summed-at : (j : ℕ) → j < length before → getD after j 0 ≡ summedAt p v before j

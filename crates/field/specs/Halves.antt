@@ -4,7 +4,6 @@ use mathlib.Core.Path.{_≡_}
 use mathlib.Core.List.{List}
 use Prim.Native.Nat.{ℕ, _+_, _*_, _/_, _%_, _^_, _<_, _≤_}
 use lib.ListN.{length, getD}
-use Rattle.field.specs.Residue.{reduce}
 
 -- the halves of a number
 unfoldable pub low : ℕ → ℕ
@@ -40,7 +39,6 @@ pub record Added (n : ℕ) (x : ℕ → ℕ) (lo hi los his : List ℕ) : Type 0
   pub low-at : (j : ℕ) → j < n → getD los j 0 ≡ getD lo j 0 + low (x j)
   pub high-at : (j : ℕ) → j < n → getD his j 0 ≡ getD hi j 0 + high (x j)
 
--- after is before with, at each place, the number of the halves added modulo p
-pub record Summed (p : ℕ) (lo hi before after : List ℕ) : Type 0 where
-  pub long : length after ≡ length before
-  pub summed-at : (j : ℕ) → j < length before → getD after j 0 ≡ (reduce p (getD before j 0 + whole (getD lo j 0) (getD hi j 0))) .value
+-- the numbers that lists of sums of halves stand for
+unfoldable pub wholeAt : List ℕ → List ℕ → ℕ → ℕ
+wholeAt lo hi j = whole (getD lo j 0) (getD hi j 0)

@@ -6,8 +6,9 @@ ghost use lib.ListN.{length, getD};
 ghost use Rattle.algebra.specs.Matrix.{sum};
 ghost use Rattle.field.specs.Residue.{reduce, residues, _⊕_, _⊗_};
 ghost use Rattle.field.specs.View.{line, Reaches, Below, Zeros};
-ghost use Rattle.field.specs.Halves.{whole, Room, Ready, Added, Summed};
-ghost use Rattle.field.specs.Four.{Shorts, Starts, Taken, Inside, Quarter, productAt, fourAt};
+ghost use Rattle.field.specs.Totals.{total, products};
+ghost use Rattle.field.specs.Halves.{whole, Room, Ready, Added, wholeAt};
+ghost use Rattle.field.specs.Four.{Shorts, Starts, RowsInside, Taken, Inside, Quarter, productAt, fourAt, Powers, Summed};
 
 // The residue of lo + 2^32 × hi, with two divisions: what `lo` has above its low half goes to `hi` first.
 fn reduced(p: u32, lo: u64, hi: u64) -> u32
@@ -82,15 +83,28 @@ fn product_at(table: &[u32], row: Row, j: usize) -> u64
     (row.times as u64) * (table[row.at + j] as u64)
 }
 
-// The sum of the products of four rows at place j: it has 64 bits, as the numbers are below 2^31 - 1.
+// The sum of the products of four rows at place j: it has 64 bits with room for 2^32, as the numbers are below 2^31 - 1.
 fn four_at(table: &[u32], a: Row, b: Row, c: Row, d: Row, j: usize) -> u64
     requires { ⌜ Shorts (now table) × Inside (j + 1) (now table) a × Inside (j + 1) (now table) b × Inside (j + 1) (now table) c × Inside (j + 1) (now table) d ⌝ }
-    ensures { λ r. ⌜ r ≡ fourAt (now (table .entry)) a b c d j ⌝ }
+    ensures { λ r. ⌜ (r ≡ fourAt (now (table .entry)) a b c d j) × Room r ⌝ }
 {
     product_at(table, a, j)
         + product_at(table, b, j)
         + product_at(table, c, j)
         + product_at(table, d, j)
+}
+
+// Adds four rows to `out` in one pass, modulo p.
+fn add_four(p: u32, table: &[u32], a: Row, b: Row, c: Row, d: Row, out: &mut [u32])
+    requires { ⌜ (0 < p) × Shorts (now table) × Inside (length (now out)) (now table) a × Inside (length (now out)) (now table) b × Inside (length (now out)) (now table) c × Inside (length (now out)) (now table) d ⌝ }
+    ensures { λ _. ⌜ Summed p (fourAt (now (table .entry)) a b c d) (now (out .entry)) (now (out .exit)) ⌝ }
+{
+    let mut j = 0;
+    while j < out.len() {
+        let x = four_at(table, a, b, c, d, j) + (out[j] as u64);
+        out[j] = (x % (p as u64)) as u32;
+        j += 1;
+    }
 }
 
 // Adds the halves of the sums of products of four rows to the sums of halves, at the first `width` places.
@@ -116,23 +130,34 @@ fn add_rows(
     }
 }
 
+// The residue of lo + 2^32 × hi, with one division: `once` and `twice` are 2^32 and 2^64 modulo p.
+fn folded(p: u32, once: u64, twice: u64, lo: u64, hi: u64) -> u32
+    requires { ⌜ (0 < p) × Powers p once twice × Room hi ⌝ }
+    ensures { λ r. ⌜ r ≡ (reduce p (whole lo hi)) .value ⌝ }
+{
+    let top = hi + lo / 4294967296;
+    let x = top / 4294967296 * twice + top % 4294967296 * once + lo % 4294967296;
+    (x % (p as u64)) as u32
+}
+
 // Adds to each number of `out` what the sums of halves stand for, modulo p.
 fn settle(p: u32, lo: &[u64; 64], hi: &[u64; 64], out: &mut [u32])
-    requires { ⌜ (0 < p) × Ready (length (now out)) (now lo) (now hi) ⌝ }
-    ensures { λ _. ⌜ Summed p (now (lo .entry)) (now (hi .entry)) (now (out .entry)) (now (out .exit)) ⌝ }
+    requires { ⌜ (0 < p) × (p ≤ 2147483647) × Ready (length (now out)) (now lo) (now hi) ⌝ }
+    ensures { λ _. ⌜ Summed p (wholeAt (now (lo .entry)) (now (hi .entry))) (now (out .entry)) (now (out .exit)) ⌝ }
 {
+    let once = 4294967296 % (p as u64);
+    let twice = once * once % (p as u64);
     let mut j = 0;
     while j < out.len() {
-        out[j] = reduced(p, lo[j] + (out[j] as u64), hi[j]);
+        out[j] = folded(p, once, twice, lo[j] + (out[j] as u64), hi[j]);
         j += 1;
     }
 }
 
-// Adds to `out` the combination of rows of `table` with the multipliers `by`: row t begins at start + t × stride and is as
-// long as `out`. A row whose multiplier is 0 is skipped; the others are added four at a time.
-pub fn combine(p: u32, by: &[u32], table: &[u32], start: usize, stride: usize, out: &mut [u32])
-    requires { ⌜ (0 < p) × (p ≤ 2147483647) × (length (now by) ≤ 64) × (length (now out) ≤ 64) × Below p (now by) × Below p (now table) × ((t : ℕ) → t < length (now by) → start + t * stride + length (now out) ≤ length (now table)) ⌝ }
-    ensures { λ _. ⌜ (length (now (out .exit)) ≡ length (now (out .entry))) × ((j : ℕ) → j < length (now (out .entry)) → getD (now (out .exit)) j 0 ≡ (reduce p (getD (now (out .entry)) j 0) ⊕ sum (residues p) (length (now (by .entry))) (λ t. line p (now (by .entry)) 0 1 t ⊗ line p (now (table .entry)) (start + j) stride t)) .value) ⌝ }
+// Adds to `out` the combination of rows of `table` with the multipliers `by`, four rows at a time, modulo p.
+fn add_all(p: u32, by: &[u32], table: &[u32], start: usize, stride: usize, out: &mut [u32])
+    requires { ⌜ (0 < p) × (p ≤ 2147483647) × (length (now by) ≤ 64) × (length (now out) ≤ 64) × Shorts (now by) × Shorts (now table) × RowsInside (length (now by)) start stride (length (now out)) (length (now table)) ⌝ }
+    ensures { λ _. ⌜ Summed p (λ j. total (length (now (by .entry))) (products (now (by .entry)) (now (table .entry)) (start + j) stride)) (now (out .entry)) (now (out .exit)) ⌝ }
 {
     let width = out.len();
     let mut lo = no_rows();
@@ -147,4 +172,23 @@ pub fn combine(p: u32, by: &[u32], table: &[u32], start: usize, stride: usize, o
         t = d.next;
     }
     settle(p, &lo, &hi, out);
+}
+
+// Adds to `out` the combination of rows of `table` with the multipliers `by`: row t begins at start + t × stride and is as
+// long as `out`. A row whose multiplier is 0 is skipped; up to four rows need no sums of halves.
+pub fn combine(p: u32, by: &[u32], table: &[u32], start: usize, stride: usize, out: &mut [u32])
+    requires { ⌜ (0 < p) × (p ≤ 2147483647) × (length (now by) ≤ 64) × (length (now out) ≤ 64) × Below p (now by) × Below p (now table) × ((t : ℕ) → t < length (now by) → start + t * stride + length (now out) ≤ length (now table)) ⌝ }
+    ensures { λ _. ⌜ (length (now (out .exit)) ≡ length (now (out .entry))) × ((j : ℕ) → j < length (now (out .entry)) → getD (now (out .exit)) j 0 ≡ (reduce p (getD (now (out .entry)) j 0) ⊕ sum (residues p) (length (now (by .entry))) (λ t. line p (now (by .entry)) 0 1 t ⊗ line p (now (table .entry)) (start + j) stride t)) .value) ⌝ }
+{
+    if by.len() != 0 {
+        let a = next_row(by, start, stride, 0);
+        let b = next_row(by, start, stride, a.next);
+        let c = next_row(by, start, stride, b.next);
+        let d = next_row(by, start, stride, c.next);
+        if d.next == by.len() {
+            add_four(p, table, a, b, c, d, out);
+            return;
+        }
+    }
+    add_all(p, by, table, start, stride, out);
 }

@@ -83,7 +83,7 @@ unfolding low high with-low with-high
 loop-again c =
     let l = c .before .before .before .before .loop in
     let s = c .before .before .before .before .before .before in
-    let e = c .before .before .four-at .ensures in (
+    let e = c .before .before .four-at .ensures .0 in (
       omega arith,
       walked-more (l .j) _ _ _ _ (l .inv .1) (omega (arith, s .pre .0 .long-lo)) (rw (l .inv .1 .left (l .j) (omega arith), e)),
       walked-more (l .j) _ _ _ _ (l .inv .2) (omega (arith, s .pre .0 .long-hi)) (rw (l .inv .2 .left (l .j) (omega arith), e)),

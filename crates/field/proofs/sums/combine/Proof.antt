@@ -1,128 +1,94 @@
--- `field::sums::combine` meets its contract. The loop's invariant: the sums of halves hold what the first t rows add.
-use mathlib.Core.Path.{_≡_, refl}
-use Prim.Native.Nat.{ℕ, _-_, _≤_}
+-- `field::sums::combine` meets its contract: where four rows are all, they are added in one pass, and else `add_all` adds them.
+use mathlib.Core.Path.{refl}
+use Prim.Native.Nat.{ℕ, _<_, _≤_}
 use native.Mathlib.Omega.{arith}
 use lib.ListN.{length}
-use Rattle.field.specs.Four.{Shorts, Starts, Inside, Taken}
-use Rattle.field.specs.declared.sums.Row.{Row}
-use Rattle.field.proofs.Four.{below-shorts}
-use Rattle.field.proofs.Rows.{Held, held-none, held-ready, held-four, held-summed}
+use Rattle.field.specs.Four.{Shorts, Starts}
+use Rattle.field.proofs.Four.{below-shorts, taken-inside}
+use Rattle.field.proofs.Rows.{four-all, summed-same, summed-combined}
 use Rattle.field.proofs.sums.combine.Statement.{statement}
 use Rattle.field.proofs.sums.combine.Tie as tie
 
-abbrev Inv-loop : tie.InvT-loop
-Inv-loop p by table start stride out width lo₀ hi₀ t₀ lo hi t =
-    (t ≤ length by) × Held by table start stride (length out) t lo hi
+-- the entry, from the place where there are multipliers
+abbrev entry : tie.Then1 → tie.Start
+entry c = c .before .before .before .before
 
-abbrev μ-loop : tie.MeasureT-loop
-μ-loop p by table start stride out width lo₀ hi₀ t₀ lo hi t = length by - t
+-- the multipliers and the table are short
+short-by : (s : tie.Start) → Shorts (s .args .by .now)
+short-by s = below-shorts _ (s .args .by .now) (s .pre .1) (s .pre .4)
 
-no-rows-requires : tie.Need-no-rows-requires Inv-loop μ-loop
-no-rows-requires c κs = tt
+short-table : (s : tie.Start) → Shorts (s .args .table .now)
+short-table s = below-shorts _ (s .args .table .now) (s .pre .1) (s .pre .5)
 
-no-rows-requires-2 : tie.Need-no-rows-requires-2 Inv-loop μ-loop
-no-rows-requires-2 c κs = tt
+-- a row is asked for
+row-asked : (c : tie.Then1) (from : ℕ) → from ≤ length (entry c .args .by .now) → (from ≤ length (entry c .args .by .now)) × Shorts (entry c .args .by .now) × Starts (length (entry c .args .by .now)) (entry c .args .start) (entry c .args .stride)
+row-asked c from h = (h, short-by (entry c), λ t k. omega (arith, entry c .pre .6 t k))
 
-loop-holds : tie.Need-loop-holds Inv-loop μ-loop
-loop-holds c = (omega arith, held-none _ _ _ _ _ _ _ (c .before .no-rows .ensures) (c .no-rows2 .ensures))
+next-row-requires : tie.Need-next-row-requires
+next-row-requires c κs = row-asked c 0 (omega arith)
 
--- what stands at entry, seen from a turn of the loop
-abbrev entry : tie.In-loop Inv-loop μ-loop → tie.Start Inv-loop μ-loop
-entry c = c .before .before .before .before .before .before .before
-
--- a turn asks for a row
-row-asked : (c : tie.In-loop Inv-loop μ-loop) (from : ℕ) → from ≤ length (entry c .args .by .now) → (from ≤ length (entry c .args .by .now)) × Shorts (entry c .args .by .now) × Starts (length (entry c .args .by .now)) (entry c .args .start) (entry c .args .stride)
-row-asked c from h =
-    (h, below-shorts _ (entry c .args .by .now) (entry c .pre .1) (entry c .pre .4), λ t k. omega (arith, entry c .pre .6 t k))
-
--- a row that is taken lies in the table
-row-inside : (c : tie.In-loop Inv-loop μ-loop) (from : ℕ) (r : Row) → Taken (entry c .args .by .now) (entry c .args .start) (entry c .args .stride) from r → Inside (length (entry c .args .out .now)) (entry c .args .table .now) r
-row-inside c from r k =
-    record { short = k .short; in-table = k .in-table _ _ (entry c .pre .6) (omega (arith, c .loop-test .taken)) }
-
-next-row-requires : tie.Need-next-row-requires Inv-loop μ-loop
-next-row-requires c κs = row-asked c _ (c .before .loop .inv .0)
-
-next-row-requires-2 : tie.Need-next-row-requires-2 Inv-loop μ-loop
+next-row-requires-2 : tie.Need-next-row-requires-2
 next-row-requires-2 c κs = row-asked (c .before) _ (c .next-row .ensures .within)
 
-next-row-requires-3 : tie.Need-next-row-requires-3 Inv-loop μ-loop
+next-row-requires-3 : tie.Need-next-row-requires-3
 next-row-requires-3 c κs = row-asked (c .before .before) _ (c .next-row2 .ensures .within)
 
-next-row-requires-4 : tie.Need-next-row-requires-4 Inv-loop μ-loop
+next-row-requires-4 : tie.Need-next-row-requires-4
 next-row-requires-4 c κs = row-asked (c .before .before .before) _ (c .next-row3 .ensures .within)
 
-add-rows-requires : tie.Need-add-rows-requires Inv-loop μ-loop
-add-rows-requires c κs =
-    let i = c .before .before .before .before .before .before in
-    let l = i .before .loop in
-    let s = entry i in (
-      held-ready _ _ _ _ _ (l .t) (l .lo) (l .hi) (omega (arith, l .inv .0, s .pre .2)) (s .pre .3) (l .inv .1),
-      below-shorts _ (s .args .table .now) (s .pre .1) (s .pre .5),
-      row-inside i _ _ (c .before .before .before .before .before .next-row .ensures),
-      row-inside i _ _ (c .before .before .before .before .next-row2 .ensures),
-      row-inside i _ _ (c .before .before .before .next-row3 .ensures),
-      row-inside i _ _ (c .before .before .next-row4 .ensures),
-    )
-
-loop-less : tie.Need-loop-less Inv-loop μ-loop
-loop-less c =
-    let d = c .before .before .before in
-    omega (
-      arith,
-      d .before .before .before .next-row .ensures .onward (d .before .before .before .before .loop-test .taken),
-      d .before .before .next-row2 .ensures .later,
-      d .before .next-row3 .ensures .later,
-      d .next-row4 .ensures .later,
-      d .next-row4 .ensures .within,
-    )
-
-loop-again : tie.Need-loop-again Inv-loop μ-loop
-loop-again c =
+add-four-requires : tie.Need-add-four-requires
+add-four-requires c κs =
     let d = c .before .before .before in
     let i = d .before .before .before .before in
-    let l = i .before .loop in
-    let s = entry i in (
-      d .next-row4 .ensures .within,
-      held-four _ _ _ _ _ (l .t) _ _ _ _ (below-shorts _ (s .args .table .now) (s .pre .1) (s .pre .5))
-          (d .before .before .before .next-row .ensures) (d .before .before .next-row2 .ensures)
-          (d .before .next-row3 .ensures) (d .next-row4 .ensures)
-          (l .lo) (l .hi) _ _ (i .loop-test .taken) (l .inv .1) (c .add-rows .ensures),
+    let s = entry i in
+    let some : 0 < length (s .args .by .now) = omega (arith, i .if1 .taken) in (
+      s .pre .0,
+      short-table s,
+      taken-inside _ _ _ _ _ _ _ (s .pre .6) some (d .before .before .before .next-row .ensures),
+      taken-inside _ _ _ _ _ _ _ (s .pre .6) some (d .before .before .next-row2 .ensures),
+      taken-inside _ _ _ _ _ _ _ (s .pre .6) some (d .before .next-row3 .ensures),
+      taken-inside _ _ _ _ _ _ _ (s .pre .6) some (d .next-row4 .ensures),
     )
 
-settle-requires : tie.Need-settle-requires Inv-loop μ-loop
-settle-requires c κs =
-    let l = c .before .before .before .before .loop in
-    let s = c .before .before .before .before .before .before .before .before .before .before in
-    (s .pre .0, held-ready _ _ _ _ _ (l .t) (l .lo) (l .hi) (omega (arith, l .inv .0, s .pre .2)) (s .pre .3) (l .inv .1))
+same-length : tie.Need-same-length
+same-length c = c .before .before .add-four .ensures .long
 
-same-length : tie.Need-same-length Inv-loop μ-loop
-same-length c = c .before .before .settle .ensures .long
-
-returns : tie.Need-returns Inv-loop μ-loop
+returns : tie.Need-returns
 returns c =
-    let l = c .before .before .before .before .before .before .before .loop in
-    let a = c .before .before .before .before .before .before .before .before .before .before .before .before .before .args in
-    let e : l .t ≡ length (a .by .now) = omega arith in
-    let s = c .before .before .settle .ensures in
-    (s .long, held-summed _ _ _ _ _ (a .p) _ (l .lo) (l .hi) _ _ (rw e at (l .inv .1)) s refl)
+    let d = c .before .before .before .before .before .before in
+    let s = entry (d .before .before .before .before) in
+    let a = s .args in
+    let e = c .before .before .add-four .ensures in
+    let all = four-all (a .by .now) (a .table .now) (a .start) (a .stride) (length (a .out .now)) 0 _ _ _ _ (short-table s)
+    (d .before .before .before .next-row .ensures) (d .before .before .next-row2 .ensures) (d .before .next-row3 .ensures)
+    (d .next-row4 .ensures) refl (c .before .before .before .before .if2 .taken) in
+    (e .long, summed-combined (a .by .now) (a .table .now) (a .start) (a .stride) (length (a .out .now)) (a .p) _ _ (summed-same (a .p) _ _ _ _ (λ j h. all j) e))
+
+add-all-requires : tie.Need-add-all-requires
+add-all-requires c κs =
+    let s = c .before .before .before .before .before in
+    (s .pre .0, s .pre .1, s .pre .2, s .pre .3, short-by s, short-table s, s .pre .6)
+
+same-length-2 : tie.Need-same-length-2
+same-length-2 c = c .before .before .add-all .ensures .long
+
+returns-2 : tie.Need-returns-2
+returns-2 c =
+    let a = c .before .before .before .before .before .before .before .before .args in
+    let e = c .before .before .add-all .ensures in
+    (e .long, summed-combined (a .by .now) (a .table .now) (a .start) (a .stride) (length (a .out .now)) (a .p) _ _ e)
 
 pub combine-spec : {M : Type 1} → statement M
 combine-spec =
     tie.close
     (tie.spec
-    Inv-loop
-    μ-loop
-    no-rows-requires
-    no-rows-requires-2
-    loop-holds
     next-row-requires
     next-row-requires-2
     next-row-requires-3
     next-row-requires-4
-    add-rows-requires
-    loop-less
-    loop-again
-    settle-requires
+    add-four-requires
     same-length
-    returns)
+    returns
+    add-all-requires
+    same-length-2
+    returns-2)

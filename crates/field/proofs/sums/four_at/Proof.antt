@@ -1,8 +1,12 @@
--- `field::sums::four_at` meets its contract: each product is a quarter of what 64 bits hold, so that the four together fit.
+-- `field::sums::four_at` meets its contract: each product is a quarter of what 64 bits hold less 2^32, so that the four together fit
+-- and leave room.
+use Prim.Native.Nat.{_+_}
 use borrow.Author.Needs.{needs}
 use native.Mathlib.Omega.{arith}
+use Rattle.field.specs.Halves.{Room}
 use Rattle.field.specs.Four.{fourAt}
-use Rattle.field.proofs.Four.{two-fit, three-fit, four-fit}
+use Rattle.field.proofs.Halves.{room-fits}
+use Rattle.field.proofs.Four.{two-fit, three-fit, four-room}
 use Rattle.field.proofs.sums.four_at.Statement.{statement}
 use Rattle.field.proofs.sums.four_at.Tie as tie
 
@@ -25,21 +29,27 @@ add-result-2 c =
 product-at-requires-4 : tie.Need-product-at-requires-4
 product-at-requires-4 c κs = search needs
 
-add-result-3 : tie.Need-add-result-3
-add-result-3 c =
-    four-fit _ _ _ _ (c .before .before .before .product-at .ensures .1) (c .before .before .product-at2 .ensures .1)
+-- the four together leave room for 2^32
+room : (c : tie.After-product-at4) → Room (c .before .before .before .product-at .result + c .before .before .product-at2 .result + c .before .product-at3 .result + c .product-at4 .result)
+room c =
+    four-room _ _ _ _ (c .before .before .before .product-at .ensures .1) (c .before .before .product-at2 .ensures .1)
     (c .before .product-at3 .ensures .1) (c .product-at4 .ensures .1)
+
+add-result-3 : tie.Need-add-result-3
+add-result-3 c = room-fits _ (room c)
 
 returns : tie.Need-returns
 unfolding fourAt
-returns c =
-    omega (
-      arith,
-      c .before .before .before .product-at .ensures .0,
-      c .before .before .product-at2 .ensures .0,
-      c .before .product-at3 .ensures .0,
-      c .product-at4 .ensures .0,
-    )
+returns c = (
+  omega (
+    arith,
+    c .before .before .before .product-at .ensures .0,
+    c .before .before .product-at2 .ensures .0,
+    c .before .product-at3 .ensures .0,
+    c .product-at4 .ensures .0,
+  ),
+  room c,
+)
 
 pub four-at-spec : {M : Type 1} → statement M
 four-at-spec =

@@ -1,59 +1,75 @@
 -- `field::sums::settle` meets its contract. The loop's invariant: the first j numbers have their sums added, the others as they were.
-use mathlib.Core.Path.{ap, _∙_}
-use mathlib.Core.List.{List}
-use Prim.Native.Nat.{ℕ, _+_, _-_, _≤_}
+use mathlib.Core.Path.{refl, ap, _∙_}
+use Prim.Native.Nat.{_*_, _-_, _%_, _≤_}
 use native.Mathlib.Omega.{arith}
-use lib.ListN.{length, getD}
+use lib.ListN.{length}
 use Rattle.field.specs.Residue.{reduce}
-use Rattle.field.specs.Halves.{whole}
+use Rattle.field.specs.Halves.{wholeAt}
+use Rattle.field.specs.Four.{Powers, summedAt}
 use Rattle.field.proofs.Halves.{word-fits, whole-low}
+use Rattle.field.proofs.Four.{mod-short, quarter-product, one-fits}
 use Rattle.field.proofs.Walk.{Walked, walked-none, walked-more}
 use Rattle.field.proofs.sums.settle.Statement.{statement}
 use Rattle.field.proofs.sums.settle.Tie as tie
 
--- what settle leaves at a place
-summed : ℕ → List ℕ → List ℕ → List ℕ → ℕ → ℕ
-summed p lo hi out j = (reduce p (getD out j 0 + whole (getD lo j 0) (getD hi j 0))) .value
-
 abbrev Inv-loop : tie.InvT-loop
-Inv-loop p lo hi out₀ j₀ out j = (j ≤ length out₀) × Walked j (summed p lo hi out₀) out₀ out
+Inv-loop p lo hi out₀ once twice j₀ out j = (j ≤ length out₀) × Walked j (summedAt p (wholeAt lo hi) out₀) out₀ out
 
 abbrev μ-loop : tie.MeasureT-loop
-μ-loop p lo hi out₀ j₀ out j = length out₀ - j
+μ-loop p lo hi out₀ once twice j₀ out j = length out₀ - j
+
+-- 2^32 and 2^64 modulo p
+powers : (c : tie.Start Inv-loop μ-loop) → Powers (c .args .p) (4294967296 % c .args .p) (4294967296 % c .args .p * (4294967296 % c .args .p) % c .args .p)
+powers c =
+    record {
+      short-once = mod-short (c .args .p) _ (c .pre .0) (c .pre .1);
+      short-twice = mod-short (c .args .p) _ (c .pre .0) (c .pre .1);
+      once = refl;
+      twice = refl;
+    }
+
+rem-once : tie.Need-rem-once Inv-loop μ-loop
+rem-once c = c .before .pre .0
+
+mul-twice : tie.Need-mul-twice Inv-loop μ-loop
+mul-twice c = let s = powers (c .before) .short-once in one-fits _ (quarter-product _ _ s s)
+
+rem-twice : tie.Need-rem-twice Inv-loop μ-loop
+rem-twice c = c .before .pre .0
 
 loop-holds : tie.Need-loop-holds Inv-loop μ-loop
 loop-holds c = (omega arith, walked-none _ _)
 
-mul-reduced : tie.Need-mul-reduced Inv-loop μ-loop
-mul-reduced c = omega arith
+mul-folded : tie.Need-mul-folded Inv-loop μ-loop
+mul-folded c = omega arith
 
-element-copy-out-reduced : tie.Need-element-copy-out-reduced Inv-loop μ-loop
-element-copy-out-reduced c = omega arith
+element-copy-out-folded : tie.Need-element-copy-out-folded Inv-loop μ-loop
+element-copy-out-folded c = omega arith
 
-mul-reduced-2 : tie.Need-mul-reduced-2 Inv-loop μ-loop
-mul-reduced-2 c = omega arith
+mul-folded-2 : tie.Need-mul-folded-2 Inv-loop μ-loop
+mul-folded-2 c = omega arith
 
-slice-read-reduced : tie.Need-slice-read-reduced Inv-loop μ-loop
-slice-read-reduced c = omega arith
+slice-read-folded : tie.Need-slice-read-folded Inv-loop μ-loop
+slice-read-folded c = omega arith
 
-cast-reduced : tie.Need-cast-reduced Inv-loop μ-loop
-cast-reduced c = omega (arith, c .slice-known2 .given (c .before .before .before .loop .j))
+cast-folded : tie.Need-cast-folded Inv-loop μ-loop
+cast-folded c = omega (arith, c .slice-known2 .given (c .before .before .before .loop .j))
 
-add-reduced : tie.Need-add-reduced Inv-loop μ-loop
-add-reduced c =
+add-folded : tie.Need-add-folded Inv-loop μ-loop
+add-folded c =
     let j = c .before .before .before .loop .j in
-    word-fits _ _ (c .before .before .before .before .before .pre .1 .room-lo j (omega arith)) (c .slice-known2 .given j)
+    word-fits _ _ (c .before .before .before .before .before .pre .2 .room-lo j (omega arith)) (c .slice-known2 .given j)
 
-mul-reduced-3 : tie.Need-mul-reduced-3 Inv-loop μ-loop
-mul-reduced-3 c = omega arith
+mul-folded-3 : tie.Need-mul-folded-3 Inv-loop μ-loop
+mul-folded-3 c = omega arith
 
-element-copy-out-reduced-2 : tie.Need-element-copy-out-reduced-2 Inv-loop μ-loop
-element-copy-out-reduced-2 c = omega arith
+element-copy-out-folded-2 : tie.Need-element-copy-out-folded-2 Inv-loop μ-loop
+element-copy-out-folded-2 c = omega arith
 
-reduced-requires : tie.Need-reduced-requires Inv-loop μ-loop
-reduced-requires c κs =
+folded-requires : tie.Need-folded-requires Inv-loop μ-loop
+folded-requires c κs =
     let s = c .before .before .before .before .before .before in
-    (s .pre .0, s .pre .1 .room-hi (c .before .before .before .before .loop .j) (omega arith))
+    (s .pre .0, powers s, s .pre .2 .room-hi (c .before .before .before .before .loop .j) (omega arith))
 
 mul-out : tie.Need-mul-out Inv-loop μ-loop
 mul-out c = omega arith
@@ -68,20 +84,19 @@ loop-less : tie.Need-loop-less Inv-loop μ-loop
 loop-less c = omega arith
 
 loop-again : tie.Need-loop-again Inv-loop μ-loop
-unfolding summed
+unfolding summedAt wholeAt
 loop-again c =
     let l = c .before .before .before .before .before .loop in
     let a = c .before .before .before .before .before .before .before .args in (
       omega arith,
       walked-more (l .j) _ _ _ _ (l .inv .1) (omega arith)
-          (c .reduced .ensures ∙ ap (λ n. (reduce (a .p) n) .value) (whole-low _ _ _ _ (l .inv .1 .left (l .j) (omega arith)))),
+          (c .folded .ensures ∙ ap (λ n. (reduce (a .p) n) .value) (whole-low _ _ _ _ (l .inv .1 .left (l .j) (omega arith)))),
     )
 
 same-length : tie.Need-same-length Inv-loop μ-loop
 same-length c = omega arith
 
 returns : tie.Need-returns Inv-loop μ-loop
-unfolding summed
 returns c =
     let l = c .before .loop in
     record { long = l .inv .1 .long; summed-at = λ j h. l .inv .1 .passed j (omega arith) }
@@ -92,16 +107,19 @@ settle-spec =
     (tie.spec
     Inv-loop
     μ-loop
+    rem-once
+    mul-twice
+    rem-twice
     loop-holds
-    mul-reduced
-    element-copy-out-reduced
-    mul-reduced-2
-    slice-read-reduced
-    cast-reduced
-    add-reduced
-    mul-reduced-3
-    element-copy-out-reduced-2
-    reduced-requires
+    mul-folded
+    element-copy-out-folded
+    mul-folded-2
+    slice-read-folded
+    cast-folded
+    add-folded
+    mul-folded-3
+    element-copy-out-folded-2
+    folded-requires
     mul-out
     slice-write-out
     add-j
