@@ -1,85 +1,76 @@
 // The stored lists of calls. Each call finds the board as the last one left it and is lent what the file gives, and its
 // answer, the lent memory and the board are compared with what the file says.
 ghost use Prim.Native.Nat.{_≤_};
-use super::input;
-use super::lent;
+use super::memory;
 use super::report;
-use super::report::Told;
+use testing::counts;
+use testing::input;
+use testing::lent;
+use testing::told;
+use testing::told::Told;
 
-// Whether take answered what the file says next: the number, and the count, which new and repeat carry.
-fn is_take_as_stored(told: Told) -> bool {
+// Counts a take by its answer, which the file says next: the number, and the count, which new and repeat carry.
+fn expect_take(answer: Told, tally: &mut [u32; 16]) {
     let number = input::word();
     let count = input::word();
-    if told.number != number {
-        return false;
+    counts::count(tally, report::TAKES);
+    counts::count_if(tally, report::take_place(number), answer.number == number);
+    if !told::is_refused(number) {
+        counts::expect(tally, answer.value == count);
     }
-    if number == 0 {
-        return told.value == count;
-    }
-    if number == 100 {
-        return told.value == count;
-    }
-    true
 }
 
 // A take of the frame, with the mix from the file.
-fn take_lent(board: &mut [u32], frame: &[u8], mix: &mut [u32], tally: &mut [u32]) {
+fn take_frame(board: &mut [u32], frame: &[u8], tally: &mut [u32; 16]) {
+    let room = input::length(66);
+    let mut words = lent::words(memory::WORD);
+    let mix = lent::front(&mut words, room);
     input::read_words(mix);
-    let told = report::take_told(board::take(board, frame, mix));
-    report::count_take(tally, told.number);
-    report::expect(tally, is_take_as_stored(told));
-    report::expect(tally, input::are_next_words(mix));
-    report::expect(tally, input::are_next_words(board));
+    let answer = report::take_told(board::take(board, frame, mix));
+    expect_take(answer, tally);
+    counts::expect_words(tally, mix);
+    counts::expect_words(tally, board);
 }
 
 // A take, with the frame from the file.
-fn take_frame(board: &mut [u32], frame: &mut [u8], tally: &mut [u32]) {
-    input::read_bytes(frame);
-    let room = input::length(66);
-    let mut mix = lent::words();
-    take_lent(board, frame, &mut mix[..room], tally);
-}
-
-fn take(board: &mut [u32], tally: &mut [u32]) {
+fn take(board: &mut [u32], tally: &mut [u32; 16]) {
     let length = input::length(272);
-    let mut frame = lent::bytes();
-    take_frame(board, &mut frame[..length], tally);
+    let mut bytes = lent::bytes(0);
+    let frame = lent::front_bytes(&mut bytes, length);
+    input::read_wide_bytes(frame);
+    take_frame(board, frame, tally);
 }
 
-fn withdraw(board: &mut [u32], tally: &mut [u32]) {
-    let told = report::count_told(board::withdraw(board, input::word()));
-    report::count(tally, report::WITHDRAWALS);
-    report::expect(tally, told.number == input::word());
-    report::expect(tally, input::are_next_words(board));
+fn withdraw(board: &mut [u32], tally: &mut [u32; 16]) {
+    let answer = report::count_told(board::withdraw(board, input::word()));
+    counts::count_if(tally, report::WITHDRAWALS, answer.number == input::word());
+    counts::expect_words(tally, board);
 }
 
 // A show with the marks, and with the numbers from the file.
-fn show_lent(board: &[u32], marks: &mut [u32], numbers: &mut [i32], tally: &mut [u32]) {
+fn show_marks(board: &[u32], marks: &mut [u32], tally: &mut [u32; 16]) {
+    let room = input::length(66);
+    let mut signed = memory::numbers();
+    let numbers = lent::front_numbers(&mut signed, room);
     input::read_numbers(numbers);
-    let told = report::count_told(board::show(board, marks, numbers));
-    report::count(tally, report::SHOWS);
-    report::expect(tally, told.number == input::word());
-    report::expect(tally, input::are_next_words(marks));
-    report::expect(tally, input::are_next_numbers(numbers));
+    let answer = report::count_told(board::show(board, marks, numbers));
+    counts::count_if(tally, report::SHOWS, answer.number == input::word());
+    counts::expect_words(tally, marks);
+    counts::expect(tally, input::are_next_numbers(numbers));
 }
 
 // A show, with the marks from the file.
-fn show_marks(board: &[u32], marks: &mut [u32], tally: &mut [u32]) {
+fn show(board: &[u32], tally: &mut [u32; 16]) {
+    let room = input::length(66);
+    let mut words = lent::words(memory::WORD);
+    let marks = lent::front(&mut words, room);
     input::read_words(marks);
-    let room = input::length(66);
-    let mut numbers = lent::numbers();
-    show_lent(board, marks, &mut numbers[..room], tally);
-}
-
-fn show(board: &[u32], tally: &mut [u32]) {
-    let room = input::length(66);
-    let mut marks = lent::words();
-    show_marks(board, &mut marks[..room], tally);
+    show_marks(board, marks, tally);
 }
 
 // Writes a word into the board, as nobody should.
-fn tamper(board: &mut [u32], tally: &mut [u32]) {
-    report::count(tally, report::TAMPERED);
+fn tamper(board: &mut [u32], tally: &mut [u32; 16]) {
+    counts::count(tally, report::TAMPERED);
     let place = input::word() as usize;
     let word = input::word();
     if place < board.len() {
@@ -87,69 +78,67 @@ fn tamper(board: &mut [u32], tally: &mut [u32]) {
     }
 }
 
-// The next call, and whether there was one.
-fn next_call(board: &mut [u32], tally: &mut [u32]) -> bool {
+// The next call, and whether there was one. A kind above 4 is none of the script's.
+fn next_call(board: &mut [u32], tally: &mut [u32; 16]) -> bool {
     let kind = input::word();
-    if kind == 0 {
-        return false;
-    }
     if kind == 1 {
         take(board, tally);
-    } else if kind == 2 {
-        withdraw(board, tally);
-    } else if kind == 3 {
-        show(board, tally);
-    } else if kind == 4 {
-        tamper(board, tally);
-    } else {
-        report::count(tally, report::MISMATCHES);
+        return true;
     }
-    true
+    if kind == 2 {
+        withdraw(board, tally);
+        return true;
+    }
+    if kind == 3 {
+        show(board, tally);
+        return true;
+    }
+    if kind == 4 {
+        tamper(board, tally);
+        return true;
+    }
+    if kind != 0 {
+        return counts::stop(tally);
+    }
+    false
 }
 
 // All calls of a history, of which there are at most 1,000.
-fn play_calls(board: &mut [u32], tally: &mut [u32]) {
+fn play_calls(board: &mut [u32], tally: &mut [u32; 16]) {
     let mut left: u32 = 1000;
     while 0 < left && next_call(board, tally) {
         left -= 1;
     }
 }
 
-// A history from its open on.
-fn play(p: u32, n: u32, board: &mut [u32], tally: &mut [u32]) {
-    let told = report::open_told(board::open(p, n, board));
-    report::count(tally, report::HISTORIES);
-    report::expect(tally, told.number == 0);
+// A history from its open on, with memory for its board.
+fn play(p: u32, n: u32, tally: &mut [u32; 16])
+    requires { ⌜ n ≤ 64 ⌝ }
+{
+    let length = memory::board_length(n);
+    let mut words = memory::board();
+    let board = lent::front(&mut words, length);
+    let answer = report::open_told(board::open(p, n, board));
+    counts::count_if(tally, report::HISTORIES, answer.number == 0);
     play_calls(board, tally);
 }
 
-// The same with memory for its board.
-fn play_lent(p: u32, n: u32, tally: &mut [u32])
-    requires { ⌜ n ≤ 64 ⌝ }
-{
-    let size = n as usize;
-    let length = 3 + size * (size + 1);
-    let mut board = lent::board();
-    play(p, n, &mut board[..length], tally);
-}
-
 // The next history, and whether there was one. More than 64 records are none of the script's.
-fn next_history(tally: &mut [u32]) -> bool {
+fn next_history(tally: &mut [u32; 16]) -> bool {
     let p = input::word();
+    let n = input::word();
     if p == 0 {
         return false;
     }
-    let n = input::word();
     if 64 < n {
-        report::count(tally, report::MISMATCHES);
-        return false;
+        return counts::stop(tally);
     }
-    play_lent(p, n, tally);
+    play(p, n, tally);
     true
 }
 
 // All histories, of which there are at most 100,000.
-pub fn run(tally: &mut [u32]) {
+pub fn run(tally: &mut [u32; 16]) {
     let mut left: u32 = 100000;
     while 0 < left && next_history(tally) {
         left -= 1;

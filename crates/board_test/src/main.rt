@@ -8,18 +8,21 @@
 // - `histories N`; `takes N`, and of these `new N`, `repeat N`, `conflict N` (9) and `refused N` (otherwise);
 //   `withdrawals N`, `shows N`; `tampered N`, how often a word was written into a board.
 // - `example NAME ANSWER COUNT` for each example, and the mix, or the marks and numbers, as the call left them. Open has no
-//   count, and that of a show is what is missing. Lent words begin as 9 and lent numbers as -9.
-// - `mismatches N`: how often an answer, lent memory or a board was not the one expected.
+//   count, and that of a show is what is missing. Lent words begin as 9 and lent numbers as -9. An open that is refused and
+//   changed them would add `touched`.
+// - `mismatches N`: how often an answer to a stored call, lent memory or a board was not the one expected.
 mod calls;
 mod examples;
-mod input;
-mod lent;
+mod memory;
 mod report;
 
+use testing::counts;
+use testing::output;
+
 fn main() {
-    let mut tally = report::tally();
+    let mut tally = counts::none();
     calls::run(&mut tally);
     report::print_calls(&tally);
-    examples::run(&mut tally);
-    report::print_mismatches(&tally);
+    examples::run();
+    output::print_count(b"mismatches", &tally, counts::MISMATCHES);
 }

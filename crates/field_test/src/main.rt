@@ -9,6 +9,9 @@ ghost use Prim.Native.Nat.{_≤_};
 ghost use lib.IntN.{pos, negℤ, natAbs};
 use libc::STDOUT_FILENO;
 use modulus::Refusal;
+use testing::output::print_end;
+use testing::output::print_number;
+use testing::output::print_text;
 
 // The size of a record, |z|. It is taken in 64 bits, where the smallest i32 has a negation.
 fn magnitude(z: i32) -> u64
@@ -27,16 +30,6 @@ fn minus(n: u32) -> i32
     ensures { λ r. ⌜ r ≡ negℤ (pos n) ⌝ }
 {
     -(n as i32)
-}
-
-fn print_text(text: &[u8]) {
-    io::write_all(STDOUT_FILENO, text);
-}
-
-// A space and n in decimal.
-fn print_number(n: u32) {
-    print_text(b" ");
-    io::print_decimal(STDOUT_FILENO, n as u64);
 }
 
 // A space and z in decimal, with a leading minus where it is below 0.
@@ -66,7 +59,7 @@ fn print_modulus(p: u32) {
 fn print_refusal(kind: Refusal) {
     print_text(b"refusal");
     print_number(modulus::number_of(kind));
-    print_text(b"\n");
+    print_end();
 }
 
 fn print_signed(p: u32, v: u32) {
@@ -77,7 +70,7 @@ fn print_signed(p: u32, v: u32) {
         signed::SignedAnswer::Record(z) => print_record(z),
         signed::SignedAnswer::Refused(kind) => print_refused(kind),
     }
-    print_text(b"\n");
+    print_end();
 }
 
 fn print_residue(p: u32, z: i32) {
@@ -88,7 +81,7 @@ fn print_residue(p: u32, z: i32) {
         signed::ResidueAnswer::Residue(v) => print_number(v),
         signed::ResidueAnswer::Refused(kind) => print_refused(kind),
     }
-    print_text(b"\n");
+    print_end();
 }
 
 // Document 01's examples of a modulus and numbers near them.

@@ -1,121 +1,77 @@
 // The stored cases: each frame is read, compared with what its case says, and written again where it was accepted.
 ghost use Prim.Native.Nat.{_≤_};
-use super::input;
-use super::lent;
+use super::memory;
 use super::report;
-use super::report::Told;
-use frame::WriteAnswer;
-use libc::STDIN_FILENO;
+use testing::counts;
+use testing::input;
+use testing::lent;
+use testing::told::Told;
 
-// Whether the words are the next ones of the input, all of which are read.
-fn are_next_words(words: &[u32]) -> bool {
-    let mut is_same = true;
-    let mut i = 0;
-    while i < words.len() {
-        if input::word() != words[i] {
-            is_same = false;
-        }
-        i += 1;
-    }
-    is_same
+// Writes what was read: lent bytes hold the frame again, and behind it are as they were.
+fn rewrite(p: u32, n: u32, words: &[u32], value: u32, frame: &[u8], tally: &mut [u32; 16]) {
+    let mut space = lent::bytes(memory::BYTE);
+    let bytes = lent::front_bytes(&mut space, 268);
+    let told = report::write_told(frame::write(p, n, words, value, bytes));
+    let is_whole = told.value as usize == frame.len();
+    counts::count_if(tally, report::REWRITTEN, is_whole);
+    counts::expect(tally, memory::is_only_front(frame, bytes));
 }
 
-// Whether reading answered what the input says next, and left the lent words so.
-fn is_as_stored(told: Told, words: &[u32]) -> bool {
+// Counts a reading by its answer, and expects what the input says next: the number, and of an accepted frame the value and the
+// words. A refusal leaves the words as they were.
+fn expect_read(told: Told, words: &[u32], tally: &mut [u32; 16]) {
     let number = input::word();
-    if number != 0 {
-        return told.number == number && lent::are_words_untouched(words);
-    }
-    let value = input::word();
-    let is_same = are_next_words(words);
-    told.number == 0 && told.value == value && is_same
-}
-
-// Whether the multipliers and the value are written to the lent bytes as the frame, and bytes behind it keep their contents.
-fn is_rewritten(p: u32, n: u32, words: &[u32], value: u32, frame: &[u8], bytes: &mut [u8]) -> bool {
-    match frame::write(p, n, words, value, bytes) {
-        WriteAnswer::Length(length) => {
-            length as usize == frame.len() && lent::is_only_front(frame, bytes)
-        }
-        WriteAnswer::Refused(_) => false,
-    }
-}
-
-// Writes what was read, and counts whether the frame came back.
-fn rewrite(
-    p: u32,
-    n: u32,
-    words: &[u32],
-    value: u32,
-    frame: &[u8],
-    bytes: &mut [u8],
-    tally: &mut [u32],
-) {
-    if is_rewritten(p, n, words, value, frame, bytes) {
-        report::count(tally, report::REWRITTEN);
+    counts::count(tally, report::FRAMES);
+    counts::count_if(tally, number as usize, told.number == number);
+    if number == 0 {
+        counts::expect(tally, told.value == input::word());
+        counts::expect_words(tally, words);
     } else {
-        report::count(tally, report::MISMATCHES);
+        counts::expect(tally, lent::are_untouched(words, memory::WORD));
     }
 }
 
-// One case from its frame on: the frame comes from the input, words are lent for reading it, and bytes for writing it.
-fn compare(
-    p: u32,
-    n: u32,
-    frame: &mut [u8],
-    words: &mut [u32],
-    bytes: &mut [u8],
-    tally: &mut [u32],
-) {
-    io::read_full(STDIN_FILENO, frame);
+// One case from its frame on, with words lent for its multipliers.
+fn compare(p: u32, n: u32, frame: &[u8], words: &mut [u32], tally: &mut [u32; 16]) {
     let told = report::read_told(frame::read(p, n, frame, words));
-    report::count_frame(tally, told.number);
-    report::expect(tally, is_as_stored(told, words));
+    expect_read(told, words, tally);
     if told.number == 0 {
-        rewrite(p, n, words, told.value, frame, bytes, tally);
+        rewrite(p, n, words, told.value, frame, tally);
     }
 }
 
-// The same with memory for a frame of that length.
-fn compare_lent(p: u32, n: u32, length: usize, tally: &mut [u32])
+// The same with the frame from the input, and memory for it and for its multipliers.
+fn compare_lent(p: u32, n: u32, length: usize, tally: &mut [u32; 16])
     requires { ⌜ (n ≤ 64) × (length ≤ 4096) ⌝ }
 {
     let size = n as usize;
-    let mut frame = io::buffer();
-    let mut words = lent::words();
-    let mut bytes = lent::bytes();
-    compare(
-        p,
-        n,
-        &mut frame[..length],
-        &mut words[..size],
-        &mut bytes[..268],
-        tally,
-    );
+    let mut words = lent::words(memory::WORD);
+    let mut bytes = io::buffer();
+    let frame = lent::front_bytes(&mut bytes, length);
+    input::read_bytes(frame);
+    compare(p, n, frame, lent::front(&mut words, size), tally);
 }
 
 // The next case, and whether there was one. A frame of more records or bytes than there is room for is none of the script's.
-fn next(tally: &mut [u32]) -> bool {
+fn next(tally: &mut [u32; 16]) -> bool {
     let p = input::word();
     let n = input::byte();
+    let length = input::half() as usize;
     if n == 0 {
         return false;
     }
-    let length = input::half() as usize;
     if 64 < n {
-        report::count(tally, report::MISMATCHES);
-        return false;
+        return counts::stop(tally);
     }
     if 4096 < length {
-        report::count(tally, report::MISMATCHES);
-        return false;
+        return counts::stop(tally);
     }
     compare_lent(p, n, length, tally);
     true
 }
 
 // All cases, of which there are at most 100,000.
-pub fn run(tally: &mut [u32]) {
+pub fn run(tally: &mut [u32; 16]) {
     let mut left: u32 = 100000;
     while 0 < left && next(tally) {
         left -= 1;

