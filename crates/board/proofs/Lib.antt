@@ -1,7 +1,3 @@
-pub mod JudgeWrites
-pub mod JudgeRows
-pub mod JudgeCombinations
-pub mod JudgeTake
 pub mod CallOpen
 pub mod CallBoard
 pub mod CallWithdraw

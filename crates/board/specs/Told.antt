@@ -1,23 +1,16 @@
--- What the answers of open, take, withdraw and show tell, as the firmware gets it: 0 when done; 0 for new and 100 for repeat,
--- with the count; 200 plus the count that withdraw and show answer; or the refusal's number.
+-- What the answers of open, withdraw and show tell, as the firmware gets it: 0 when done; 200 plus the count that withdraw and
+-- show answer; or the refusal's number. Take's answer is told in the crate `judging`.
 use mathlib.Core.List.{[]}
 use Rattle.modulus.specs.Told.{Told, refused}
-use Rattle.ledger.specs.Steps.{newTold, repeatTold, countTold}
+use Rattle.ledger.specs.Steps.{countTold}
 use Rattle.board.specs.declared.OpenAnswer.{OpenAnswer}
 use Rattle.board.specs.declared.OpenAnswer.the-variants as opening
-use Rattle.board.specs.declared.TakeAnswer.{TakeAnswer}
-use Rattle.board.specs.declared.TakeAnswer.the-variants as taking
 use Rattle.board.specs.declared.CountAnswer.{CountAnswer}
 use Rattle.board.specs.declared.CountAnswer.the-variants as counting
 
 abbrev pub openTold : OpenAnswer → Told
 openTold opening.Opened = record { number = 0; values = [] }
 openTold (opening.Refused k) = refused k
-
-abbrev pub takeTold : TakeAnswer → Told
-takeTold (taking.New k) = newTold k
-takeTold (taking.Repeat k) = repeatTold k
-takeTold (taking.Refused k) = refused k
 
 -- of withdraw and show
 abbrev pub answerTold : CountAnswer → Told

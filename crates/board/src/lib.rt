@@ -1,25 +1,19 @@
 // The board: open, take, withdraw and show. The ledger that they keep is in the words that the caller lends.
 ghost use mathlib.Core.Path.{_≡_};
-ghost use Rattle.board.specs.Told.{openTold, takeTold, answerTold};
+ghost use Rattle.board.specs.Told.{openTold, answerTold};
+ghost use Rattle.judging.specs.Told.{takeTold};
 ghost use Rattle.ledger.specs.Steps.{shown};
 ghost use Rattle.ledger.specs.Calls.{opened, openCall, takeOutcome, takeCall, withdrawCall, showCall};
 use field::rooms::row_room;
 use field::rooms::table_room;
+pub use judging::TakeAnswer;
+use judging::take_row;
 use modulus::Refusal;
 use standing::records;
 use standing::test;
 
-pub mod judge;
-
 pub enum OpenAnswer {
     Opened,
-    Refused(Refusal),
-}
-
-// New and repeat carry the count; a refusal carries its kind.
-pub enum TakeAnswer {
-    New(u32),
-    Repeat(u32),
     Refused(Refusal),
 }
 
@@ -70,7 +64,7 @@ pub fn take(board: &mut [u32], frame: &[u8], mix: &mut [u32]) -> TakeAnswer
     }
     let mut f = row_room();
     match frame_bytes::reading::read_frame(p, n, frame, &mut f[..n]) {
-        frame_bytes::ReadAnswer::Value(v) => judge::take_row(board, &rows, &d, &f[..n], v, mix),
+        frame_bytes::ReadAnswer::Value(v) => take_row(board, &rows, &d, &f[..n], v, mix),
         frame_bytes::ReadAnswer::Refused(kind) => TakeAnswer::Refused(kind),
     }
 }

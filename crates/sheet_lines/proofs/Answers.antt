@@ -20,8 +20,8 @@ use Rattle.modulus.specs.declared.Refusal.the-variants.{
 }
 use Rattle.modulus.specs.Refusal.{numberOf}
 use Rattle.modulus.specs.Told.{refused}
-use Rattle.board.specs.Told.{takeTold}
-use Rattle.board.specs.declared.TakeAnswer.the-variants.{New, Repeat}
+use Rattle.judging.specs.Told.{takeTold}
+use Rattle.judging.specs.declared.TakeAnswer.the-variants.{New, Repeat}
 use Rattle.sheet_lines.specs.Lines.{answerLine, newLine, repeatLine, conflictLine, refusedLine}
 
 pub new-answer : (k count : ℕ) → answerLine (takeTold (New k)) count ≡ newLine k

@@ -6,7 +6,7 @@ ghost use lib.IntN.{natAbs};
 ghost use lib.ListN.{length};
 ghost use Rattle.modulus.specs.Refusal.{numberOf};
 ghost use Rattle.modulus.specs.Told.{refused};
-ghost use Rattle.board.specs.Told.{takeTold};
+ghost use Rattle.judging.specs.Told.{takeTold};
 ghost use Rattle.sheet_lines.specs.Lines.{digit, decimal, signedDecimal, wordLine, refusedLine, missingLine, answerLine, recordText, recordLine};
 ghost use Rattle.sheet_lines.specs.Written.{Put, Printed};
 ghost use Rattle.sheet_lines.specs.Input.{headerTold, headerCall, frameLength, frameTold, frameStart, frameBody, lengthIn};

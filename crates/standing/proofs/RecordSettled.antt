@@ -61,7 +61,7 @@ module _ (ws rows d : List ℕ) (held : Held ws rows d) where
   rows-same i j h l =
       let e : i * sizeWord ws + j ≡ 0 + i * sizeWord ws + j = omega arith in
       ap (reduce (modulusWord ws))
-      (words-multiplier ws i j h l ∙ sym (held .same-rows i j h l) ∙ ap (λ q. getD rows q 0) e)
+      (words-multiplier ws i j h l ∙ sym (held .work .same-rows i j h l) ∙ ap (λ q. getD rows q 0) e)
       ∙ sym (table-entry (modulusWord ws) rows 0 (sizeWord ws) (countWord ws) (sizeWord ws) i j h l)
 
   values-same : (i : ℕ) → i < countWord ws → valueColumn (modulusWord ws) (entriesOf ws) i ≡ heldValues ws i
@@ -98,7 +98,7 @@ module _ (ws rows d : List ℕ) (held : Held ws rows d) where
     value-meets : MeetsHeld ws (valueIn ws d)
     value-meets =
         solves-meets (valueIn ws d)
-        (solutions.inverse-solves (ringOf ws) laws (held .inverse) (held .all-rows) (heldValues ws))
+        (solutions.inverse-solves (ringOf ws) laws (held .work .inverse) (held .all-rows) (heldValues ws))
 
     -- a record is settled exactly if row j of D R is the unit row of j
     unit-settled : (j : ℕ) → j < sizeWord ws → UnitIn ws rows d j → SettledIn ws j
@@ -106,11 +106,11 @@ module _ (ws rows d : List ℕ) (held : Held ws rows d) where
       where
         agree : (z : Assignment (modulusWord ws)) → MeetsHeld ws z → z j ≡ valueIn ws d j
         agree z met =
-            solutions.unit-agree (ringOf ws) laws (held .inverse) (held .all-rows) (heldValues ws) j l row z (meets-solves z met)
+            solutions.unit-agree (ringOf ws) laws (held .work .inverse) (held .all-rows) (heldValues ws) j l row z (meets-solves z met)
 
     settled-unit : (j : ℕ) → SettledIn ws j → UnitIn ws rows d j
     settled-unit j settled =
-        solutions.agree-unit (ringOf ws) laws (held .inverse) (held .all-rows) (heldValues ws) j
+        solutions.agree-unit (ringOf ws) laws (held .work .inverse) (held .all-rows) (heldValues ws) j
         (λ x y s t. settled x y (solves-meets x s) (solves-meets y t))
 
     -- then the ledger marks it 1 and reads it from row j of D v

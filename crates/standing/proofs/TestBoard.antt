@@ -43,7 +43,7 @@ module _ (ws rows d : List ℕ) (h : Header ws) (f : Filled ws) where
       ≡ table (modulusWord ws) ws headerLength (rowLength (sizeWord ws)) (countWord ws) (sizeWord ws)
   same-table t v =
       table-same (modulusWord ws) rows 0 (sizeWord ws) ws headerLength (rowLength (sizeWord ws)) (countWord ws) (sizeWord ws)
-      (λ i j k l. ap (λ q. getD rows (q + j) 0) (zero-add (i * sizeWord ws)) ∙ v .same-rows i j k l)
+      (λ i j k l. ap (λ q. getD rows (q + j) 0) (zero-add (i * sizeWord ws)) ∙ v .work .same-rows i j k l)
 
   held : Inverted ws rows d true → Held ws rows d
   held v =
@@ -58,24 +58,17 @@ module _ (ws rows d : List ℕ) (h : Header ws) (f : Filled ws) where
               below = f .below;
               independent =
                   subst (Independent (residues (modulusWord ws)) (countWord ws) (sizeWord ws)) (same-table true v)
-                  (chosen-independent (residues (modulusWord ws)) (field .ring) (v .inverse) (v .all-rows .0 refl));
+                  (chosen-independent (residues (modulusWord ws)) (field .ring) (v .work .inverse) (v .all-rows .0 refl));
               zeros = f .zeros;
             };
-        rows-long = v .rows-long;
-        rows-below = v .rows-below;
-        d-long = v .d-long;
-        d-below = v .d-below;
-        same-rows = v .same-rows;
-        I = v .I;
-        J = v .J;
+        work = v .work;
         all-rows = v .all-rows .0 refl;
-        inverse = v .inverse;
       }
 
   dependent : Inverted ws rows d false → IsBoard ws → ⊥
   dependent v b =
       v .all-rows .1 refl
-      (independent-chosen (residues (modulusWord ws)) (field .ring) (field .one-not-zero) (v .inverse)
+      (independent-chosen (residues (modulusWord ws)) (field .ring) (field .one-not-zero) (v .work .inverse)
       (subst (Independent (residues (modulusWord ws)) (countWord ws) (sizeWord ws)) (sym (same-table false v)) (b .independent)))
 
   -- past the other clauses the marks decide

@@ -173,13 +173,16 @@ module _ (ws rows₀ rows d columns chosen : List ℕ) (h : Header ws) (f : Fill
         let k = countWord ws in
         let rows-long = laid .same-length ∙ long in
         record {
-          rows-long = laid .same-length ∙ long;
-          rows-below = room-below ws rows₀ rows h f laid blank;
-          d-long = d-whole p n k (h .prime) (h .size) (h .count) rows d columns chosen rows-long room d′ columns′ chosen′ e;
-          d-below = d-residues p n k (h .prime) (h .size) (h .count) rows d columns chosen rows-long room d′ columns′ chosen′ e;
-          same-rows = laid .each;
-          I = e .I;
-          J = e .J;
-          inverse = inverse-holds p n k (h .prime) (h .size) (h .count) rows d columns chosen rows-long room d′ columns′ chosen′ e;
+          work =
+              record {
+                rows-long = laid .same-length ∙ long;
+                rows-below = room-below ws rows₀ rows h f laid blank;
+                d-long = d-whole p n k (h .prime) (h .size) (h .count) rows d columns chosen rows-long room d′ columns′ chosen′ e;
+                d-below = d-residues p n k (h .prime) (h .size) (h .count) rows d columns chosen rows-long room d′ columns′ chosen′ e;
+                same-rows = laid .each;
+                I = e .I;
+                J = e .J;
+                inverse = inverse-holds p n k (h .prime) (h .size) (h .count) rows d columns chosen rows-long room d′ columns′ chosen′ e;
+              };
           all-rows = marked-chosen p n k (h .prime) (h .size) (h .count) rows d columns chosen rows-long room d′ columns′ chosen′ e told;
         }

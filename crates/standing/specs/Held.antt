@@ -10,8 +10,8 @@ use Rattle.field.specs.Residue.{residues}
 use Rattle.field.specs.View.{table, Below}
 use Rattle.ledger.specs.Board.{IsBoard, headerLength, rowLength, modulusWord, sizeWord, countWord}
 
-pub record Held (ws rows d : List ℕ) : Type 0 where
-  pub board : IsBoard ws
+-- the multiplier rows side by side, with room behind them, and a quasiinverse of them
+pub record Worked (ws rows d : List ℕ) : Type 0 where
   pub rows-long : length rows ≡ 4096
   pub rows-below : Below (modulusWord ws) rows
   pub d-long : length d ≡ 4096
@@ -21,8 +21,13 @@ pub record Held (ws rows d : List ℕ) : Type 0 where
       → getD rows (i * sizeWord ws + j) 0 ≡ getD ws (headerLength + i * rowLength (sizeWord ws) + j) 0
   pub I : Marks
   pub J : Marks
-  pub all-rows : (y : ℕ) → y < countWord ws → J y ≡ true
   pub inverse :
       IsQuasiinverse (residues (modulusWord ws)) (countWord ws) (sizeWord ws)
       (table (modulusWord ws) rows 0 (sizeWord ws) (countWord ws) (sizeWord ws))
       (table (modulusWord ws) d 0 (countWord ws) (sizeWord ws) (countWord ws)) I J
+
+-- the words are a board, so that all rows are in J
+pub record Held (ws rows d : List ℕ) : Type 0 where
+  pub board : IsBoard ws
+  pub work : Worked ws rows d
+  pub all-rows : (y : ℕ) → y < countWord ws → work .J y ≡ true

@@ -5,12 +5,10 @@ use mathlib.Core.Bool.{Bool, true}
 use mathlib.Core.List.{List}
 use Prim.Native.Nat.{ℕ, _+_, _*_, _≤_, _<_}
 use lib.ListN.{length, getD}
-use Rattle.algebra.specs.Quasiinverse.{Marks, IsQuasiinverse}
 use Rattle.modulus.specs.Prime.{IsModulus}
-use Rattle.field.specs.Residue.{residues}
-use Rattle.field.specs.View.{table, Below}
 use Rattle.frame_bytes.specs.Checks.{FrameSize}
 use Rattle.standing.specs.Answers.{Tells}
+use Rattle.standing.specs.Held.{Worked}
 use Rattle.ledger.specs.Board.{headerLength, rowLength, boardLength, modulusWord, sizeWord, countWord}
 
 -- every number is 0; no number is 0
@@ -46,19 +44,7 @@ pub record Laid (k n : ℕ) (ws rows rows′ : List ℕ) : Type 0 where
   pub each : (i j : ℕ) → i < k → j < n → getD rows′ (i * n + j) 0 ≡ getD ws (headerLength + i * rowLength n + j) 0
   pub rest : (q : ℕ) → k * n ≤ q → q < length rows → getD rows′ q 0 ≡ getD rows q 0
 
--- the multiplier rows are laid out, d holds a quasiinverse of them, and t says whether all rows are in its set J
+-- the rows and their quasiinverse are worked out, and t says whether all rows are in its set J
 pub record Inverted (ws rows d : List ℕ) (t : Bool) : Type 0 where
-  pub rows-long : length rows ≡ 4096
-  pub rows-below : Below (modulusWord ws) rows
-  pub d-long : length d ≡ 4096
-  pub d-below : Below (modulusWord ws) d
-  pub same-rows :
-      (i j : ℕ) → i < countWord ws → j < sizeWord ws
-      → getD rows (i * sizeWord ws + j) 0 ≡ getD ws (headerLength + i * rowLength (sizeWord ws) + j) 0
-  pub I : Marks
-  pub J : Marks
-  pub inverse :
-      IsQuasiinverse (residues (modulusWord ws)) (countWord ws) (sizeWord ws)
-      (table (modulusWord ws) rows 0 (sizeWord ws) (countWord ws) (sizeWord ws))
-      (table (modulusWord ws) d 0 (countWord ws) (sizeWord ws) (countWord ws)) I J
-  pub all-rows : Tells t ((y : ℕ) → y < countWord ws → J y ≡ true)
+  pub work : Worked ws rows d
+  pub all-rows : Tells t ((y : ℕ) → y < countWord ws → work .J y ≡ true)

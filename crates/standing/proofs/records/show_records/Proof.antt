@@ -50,10 +50,10 @@ settled-requires c κs =
       b .size .1,
       omega (arith, b .size, b .count),
       c .loop-test .taken,
-      H .rows-long,
-      H .d-long,
-      H .rows-below,
-      H .d-below,
+      H .work .rows-long,
+      H .work .d-long,
+      H .work .rows-below,
+      H .work .d-below,
     )
 
 mul-marks : tie.Need-mul-marks Inv-loop μ-loop
@@ -66,7 +66,7 @@ record-at-requires : tie.Need-record-at-requires Inv-loop μ-loop
 record-at-requires c κs =
     let s = c .before .before .before .before .before .before .before .before .before .before .before in
     let b = board s in
-    (b .prime .prime .two-or-more, b .prime .in-range, b .size .1, b .count, c .before .before .loop-test .taken, b .long, s .pre .0 .d-long)
+    (b .prime .prime .two-or-more, b .prime .in-range, b .size .1, b .count, c .before .before .loop-test .taken, b .long, s .pre .0 .work .d-long)
 
 mul-t16 : tie.Need-mul-t16 Inv-loop μ-loop
 mul-t16 c = omega arith

@@ -32,8 +32,8 @@ use Rattle.ledger.proofs.Proper.{append-proper, length-more}
 use Rattle.ledger.proofs.LayoutChanges.{appended-layout}
 use Rattle.ledger.proofs.LedgerLaws.{take-new, take-repeat, take-conflict}
 use Rattle.standing.specs.Held.{Held}
-use Rattle.board.proofs.JudgeRows.{Mixed}
-use Rattle.board.proofs.JudgeCombinations.{residuesOf, line-residues, Compared, same-combines, combines-same, multiplier-below}
+use Rattle.judging.proofs.Rows.{Mixed}
+use Rattle.judging.proofs.Combinations.{residuesOf, line-residues, Compared, same-combines, combines-same, multiplier-below}
 
 -- ---- the entries that a board holds
 
@@ -54,7 +54,7 @@ held-standing ws rows d H =
       alike = λ i j h l.
           let place : 0 + i * sizeWord ws + j ≡ i * sizeWord ws + j = omega arith in
           table-entry (modulusWord ws) rows 0 (sizeWord ws) (countWord ws) (sizeWord ws) i j h l
-          ∙ ap (reduce (modulusWord ws)) (ap (λ q. getD rows q 0) place ∙ H .same-rows i j h l)
+          ∙ ap (reduce (modulusWord ws)) (ap (λ q. getD rows q 0) place ∙ H .work .same-rows i j h l)
           ∙ sym (table-entry (modulusWord ws) ws headerLength (rowLength (sizeWord ws)) (countWord ws) (sizeWord ws) i j h l)
           ∙ sym (rows-table ws (modulusWord ws) i j h l);
       values = rows-values ws (modulusWord ws);
@@ -73,9 +73,9 @@ pub held-compared : (ws rows d f c g : List ℕ) → Held ws rows d → length f
 held-compared ws rows d f c g H long below mixed-c mixed-g =
     let (positive, small, few) = held-sizes ws rows d H in
     record {
-      I = H .I;
-      J = H .J;
-      inverse = H .inverse;
+      I = H .work .I;
+      J = H .work .J;
+      inverse = H .work .inverse;
       positive = positive;
       small = small;
       few = few;

@@ -1,4 +1,4 @@
--- `board::judge::same` meets its contract. The loop's invariant: the first j numbers agree.
+-- `judging::same` meets its contract. The loop's invariant: the first j numbers agree.
 use mathlib.Core.Path.{_≡_, ap}
 use mathlib.Core.Bool.{true≢false, false≢true}
 use Prim.Native.Nat.{ℕ, _-_, _≤_, _<_}
@@ -6,8 +6,8 @@ use native.Mathlib.Omega.{arith}
 use lib.ListN.{length, getD}
 use lib.Seq.{ext-getD}
 use borrow.Author.Count.{below-more}
-use Rattle.board.proofs.judge.same.Statement.{statement}
-use Rattle.board.proofs.judge.same.Tie as tie
+use Rattle.judging.proofs.same.Statement.{statement}
+use Rattle.judging.proofs.same.Tie as tie
 
 abbrev Inv-loop : tie.InvT-loop
 Inv-loop xs ys j₀ j = (j ≤ length xs) × ((i : ℕ) → i < j → getD xs i 0 ≡ getD ys i 0)

@@ -1,4 +1,4 @@
--- `board::judge::take_row` meets its contract: c and g are what decides, and each of the three ways out leaves what the
+-- `judging::take_row` meets its contract: c and g are what decides, and each of the three ways out leaves what the
 -- ledger's step leaves.
 use mathlib.Core.Path.{_≡_, sym, _∙_}
 use Prim.Native.Nat.{_≤_, _<_}
@@ -8,10 +8,10 @@ use lib.Seq.{length-take-le}
 use borrow.Author.Needs.{needs}
 use borrow.Author.Tests.{not-true, not-false}
 use Rattle.ledger.specs.Board.{modulusWord, sizeWord, countWord, entriesOf}
-use Rattle.board.proofs.JudgeRows.{mixed-below}
-use Rattle.board.proofs.JudgeWrites.{put-whole}
-use Rattle.board.proofs.JudgeCombinations.{Compared}
-use Rattle.board.proofs.JudgeTake.{
+use Rattle.judging.proofs.Rows.{mixed-below}
+use Rattle.judging.proofs.Writes.{put-whole}
+use Rattle.judging.proofs.Combinations.{Compared}
+use Rattle.judging.proofs.Take.{
   held-sizes,
   held-standing,
   held-compared,
@@ -22,8 +22,8 @@ use Rattle.board.proofs.JudgeTake.{
   repeat-outcome,
   conflict-outcome,
 }
-use Rattle.board.proofs.judge.take_row.Statement.{statement}
-use Rattle.board.proofs.judge.take_row.Tie as tie
+use Rattle.judging.proofs.take_row.Statement.{statement}
+use Rattle.judging.proofs.take_row.Tie as tie
 
 -- ---- what is known on the way
 
@@ -63,8 +63,8 @@ mix-rows-requires c κs =
       omega (arith, b .pre .1),
       few,
       λ j l. b .pre .2 j (rw (b .pre .1) at l),
-      H .d-below,
-      H .d-long,
+      H .work .d-below,
+      H .work .d-long,
     )
 
 array-share-prefix-c : tie.Need-array-share-prefix-c
@@ -83,8 +83,8 @@ mix-rows-requires-2 c κs =
       omega (arith, slice-aggregate-mix-rows c),
       small,
       mixed-below _ _ (b .args .f .now) (b .args .d .now) (c .before .mix-rows .result) positive (c .before .mix-rows .ensures),
-      H .rows-below,
-      H .rows-long,
+      H .work .rows-below,
+      H .work .rows-long,
     )
 
 array-share-prefix-g : tie.Need-array-share-prefix-g

@@ -16,7 +16,7 @@ use Rattle.field.specs.Residue.{reduce, residues}
 use Rattle.field.specs.View.{line, table}
 use Rattle.field.proofs.Field.{residues-ring}
 use Rattle.field.proofs.Residues.{reduce-of-value, reduce-injective, below-of-value}
-use Rattle.board.proofs.JudgeRows.{Mixed}
+use Rattle.judging.proofs.Rows.{Mixed}
 
 -- numbers as residues
 abbrev pub residuesOf : (p : ℕ) → List ℕ → Vector (residues p)

@@ -1,11 +1,11 @@
--- `board::judge::put` meets its contract. The loop's invariant: the first j numbers are written.
+-- `judging::put` meets its contract. The loop's invariant: the first j numbers are written.
 use mathlib.Core.Path.{_≡_}
 use Prim.Native.Nat.{_-_, _≤_}
 use native.Mathlib.Omega.{arith}
 use lib.ListN.{length}
-use Rattle.board.proofs.JudgeWrites.{Put, put-none, put-more}
-use Rattle.board.proofs.judge.put.Statement.{statement}
-use Rattle.board.proofs.judge.put.Tie as tie
+use Rattle.judging.proofs.Writes.{Put, put-none, put-more}
+use Rattle.judging.proofs.put.Statement.{statement}
+use Rattle.judging.proofs.put.Tie as tie
 
 abbrev Inv-loop : tie.InvT-loop
 Inv-loop xs out₀ at j₀ out j = (j ≤ length xs) × Put xs at j out₀ out

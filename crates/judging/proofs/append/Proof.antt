@@ -1,12 +1,12 @@
--- `board::judge::append` meets its contract: what `put` writes, with the value and the count written after it, is the row
+-- `judging::append` meets its contract: what `put` writes, with the value and the count written after it, is the row
 -- appended.
 use native.Mathlib.Numerals.{add-one}
 use native.Mathlib.Omega.{arith}
 use lib.ListN.{length-set}
 use Rattle.ledger.specs.Board.{headerLength, rowLength}
-use Rattle.board.proofs.JudgeWrites.{put-appended}
-use Rattle.board.proofs.judge.append.Statement.{statement}
-use Rattle.board.proofs.judge.append.Tie as tie
+use Rattle.judging.proofs.Writes.{put-appended}
+use Rattle.judging.proofs.append.Statement.{statement}
+use Rattle.judging.proofs.append.Tie as tie
 
 add-at : tie.Need-add-at
 unfolding headerLength rowLength

@@ -1,10 +1,10 @@
--- `board::judge::mix_rows` meets its contract: `combine` adds the row times the table to zeros.
+-- `judging::mix_rows` meets its contract: `combine` adds the row times the table to zeros.
 use mathlib.Core.Path.{sym}
 use native.Mathlib.Omega.{arith}
 use lib.Seq.{length-take-le}
-use Rattle.board.proofs.JudgeRows.{rows-inside, combined-mixed}
-use Rattle.board.proofs.judge.mix_rows.Statement.{statement}
-use Rattle.board.proofs.judge.mix_rows.Tie as tie
+use Rattle.judging.proofs.Rows.{rows-inside, combined-mixed}
+use Rattle.judging.proofs.mix_rows.Statement.{statement}
+use Rattle.judging.proofs.mix_rows.Tie as tie
 
 row-room-requires : tie.Need-row-room-requires
 row-room-requires c κs = tt

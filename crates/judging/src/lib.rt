@@ -11,10 +11,16 @@ ghost use Rattle.ledger.specs.Board.{modulusWord, sizeWord, entriesOf, headerLe
 ghost use Rattle.ledger.specs.Changes.{Appended};
 ghost use Rattle.ledger.specs.Steps.{takeAccepted};
 ghost use Rattle.ledger.specs.Calls.{takeOutcome, laidOut};
-ghost use Rattle.board.specs.Told.{takeTold};
+ghost use Rattle.judging.specs.Told.{takeTold};
 ghost use Rattle.standing.specs.Held.{Held};
-use crate::TakeAnswer;
 use modulus::Refusal;
+
+// New and repeat carry the count; a refusal carries its kind.
+pub enum TakeAnswer {
+    New(u32),
+    Repeat(u32),
+    Refused(Refusal),
+}
 
 // The row `by` times the table, whose rows have `width` numbers; zeros behind.
 fn mix_rows(p: u32, by: &[u32], table: &[u32], width: usize) -> [u32; 64]
