@@ -1,4 +1,5 @@
 pub mod Choice
+pub mod Answers
 pub mod Rings
 pub mod Sums
 pub mod Matrices

@@ -1,4 +1,5 @@
 pub mod Choice
+pub mod Answers
 pub mod Ring
 pub mod Matrix
 pub mod Span

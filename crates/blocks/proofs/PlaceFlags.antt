@@ -13,7 +13,7 @@ use Rattle.algebra.proofs.Choice.{pick-elim}
 use Rattle.algebra.proofs.Rings.{times-zero}
 use Rattle.algebra.proofs.Sums.{sum-same}
 use Rattle.field.specs.Residue.{reduce, residues, _⊗_}
-use Rattle.field.specs.View.{table, Below}
+use Rattle.field.specs.View.{table, Below, Blank}
 use Rattle.field.proofs.Field.{residues-ring}
 use Rattle.field.proofs.Views.{table-entry, table-sized}
 use Rattle.blocks.specs.Places.{Used, Masked}
@@ -38,7 +38,7 @@ module _ {t n : ℕ} {y : List ℕ} {y-start y-stride : ℕ} {used : List ℕ} (
 
 module _ {x : List ℕ} {x-at k : ℕ} {used zs by : List ℕ} (masked : Masked x x-at k used zs by) where
   -- masked residues are residues
-  pub masked-below : {p : ℕ} → 0 < p → ((j : ℕ) → getD zs j 0 ≡ 0) → x-at + k ≤ length x → Below p x → Below p by
+  pub masked-below : {p : ℕ} → 0 < p → Blank zs → x-at + k ≤ length x → Below p x → Below p by
   masked-below {p} positive blank fits below i h = by-place (decLt i k)
     where
       by-place : Dec (i < k) → getD by i 0 < p

@@ -12,7 +12,7 @@ use Rattle.algebra.specs.Matrix.{Matrix, sum, add, product}
 use Rattle.algebra.proofs.Matrices.{entry}
 use Rattle.algebra.proofs.Step.{product-row}
 use Rattle.field.specs.Residue.{Residue, reduce, residues, _⊕_, _⊗_}
-use Rattle.field.specs.View.{line, table, Below}
+use Rattle.field.specs.View.{line, table, Below, Blank}
 use Rattle.field.proofs.Residues.{below-of-value, reduce-of-value}
 use Rattle.field.proofs.Field.{residues-ring}
 use Rattle.field.proofs.Views.{table-entry, table-sized}
@@ -209,7 +209,7 @@ is-part {xs} {a} {n} fits =
     }
 
 -- where the multipliers are 0 nothing need be done
-pub row-skipped : {p k n : ℕ} {x : List ℕ} {x-at : ℕ} {y : List ℕ} {y-start y-stride : ℕ} {z : List ℕ} {z-at : ℕ} {by : List ℕ} → Factors p 1 k n x x-at k y y-start y-stride z z-at n → IsPart x x-at k by → ((j : ℕ) → getD by j 0 ≡ 0) → Multiplied p 1 k n x x-at k y y-start y-stride z z z-at n
+pub row-skipped : {p k n : ℕ} {x : List ℕ} {x-at : ℕ} {y : List ℕ} {y-start y-stride : ℕ} {z : List ℕ} {z-at : ℕ} {by : List ℕ} → Factors p 1 k n x x-at k y y-start y-stride z z-at n → IsPart x x-at k by → Blank by → Multiplied p 1 k n x x-at k y y-start y-stride z z z-at n
 unfolding Entries times
 row-skipped {p} {k} {n} {x} {x-at} {y} {y-start} {y-stride} {z} {z-at} F is-by zeros =
     multiplied-of p k n x y y-start y-stride 1 x-at k z z z-at n (F .positive) (kept-none p z z-at n 1 n (F .below))

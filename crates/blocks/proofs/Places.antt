@@ -16,7 +16,7 @@ use Rattle.algebra.proofs.Sums.{sum-same}
 use Rattle.algebra.proofs.Matrices.{entries}
 use Rattle.algebra.proofs.Step.{product-row, product-column}
 use Rattle.field.specs.Residue.{reduce, residues, _⊕_, _⊗_, negated}
-use Rattle.field.specs.View.{line, table, Below}
+use Rattle.field.specs.View.{line, table, Below, Blank}
 use Rattle.field.proofs.Field.{residues-ring}
 use Rattle.field.proofs.Views.{table-entry, table-sized}
 use Rattle.blocks.specs.Places.{Kept, Copied}
@@ -125,26 +125,11 @@ table-same p xs start stride ys start′ stride′ m n same =
     ∙ ap (reduce p) (same i j h l)
     ∙ sym (table-entry p ys start′ stride′ m n i j h l))
 
--- the table of a part is the table of the whole at the shifted start
-pub part-table : (p : ℕ) (xs : List ℕ) (a k start stride m n : ℕ) → ((i : ℕ) → i < m → start + i * stride + n ≤ k) → table p (take k (drop a xs)) start stride m n ≡ table p xs (a + start) stride m n
-part-table p xs a k start stride m n inside =
-    table-same p (take k (drop a xs)) start stride xs (a + start) stride m n
-    (λ i j h l.
-    let e : a + (start + i * stride + j) ≡ a + start + i * stride + j = omega arith in
-    part-at xs a k (start + i * stride + j) (omega (arith, inside i h)) ∙ ap (λ q. getD xs q 0) e)
-
--- the same of a part from the front, and of one up to the end
+-- the table of a part from the front is the table of the whole
 pub front-table : (p : ℕ) (xs : List ℕ) (k start stride m n : ℕ) → ((i : ℕ) → i < m → start + i * stride + n ≤ k) → table p (take k xs) start stride m n ≡ table p xs start stride m n
 front-table p xs k start stride m n inside =
     table-same p (take k xs) start stride xs start stride m n
     (λ i j h l. getD-take k xs (start + i * stride + j) 0 (omega (arith, inside i h)))
-
-pub rest-table : (p : ℕ) (xs : List ℕ) (a start stride m n : ℕ) → table p (drop a xs) start stride m n ≡ table p xs (a + start) stride m n
-rest-table p xs a start stride m n =
-    table-same p (drop a xs) start stride xs (a + start) stride m n
-    (λ i j h l.
-    let e : a + (start + i * stride + j) ≡ a + start + i * stride + j = omega arith in
-    getD-drop a xs (start + i * stride + j) 0 ∙ ap (λ q. getD xs q 0) e)
 
 -- the table at the front of what was copied
 pub copied-table : (p : ℕ) {xs : List ℕ} {start size : ℕ} {zs zs′ : List ℕ} (stride m n : ℕ) → Copied xs start size zs zs′ → ((i : ℕ) → i < m → i * stride + n ≤ size) → table p zs′ 0 stride m n ≡ table p xs start stride m n
@@ -155,7 +140,7 @@ copied-table p {xs} {start} {size} {zs} {zs′} stride m n copied inside =
     copied .front (0 + i * stride + j) (omega (arith, inside i h)) ∙ ap (λ q. getD xs q 0) e)
 
 -- what was copied over zeros is below p
-pub copied-below : {p : ℕ} {xs : List ℕ} {start size : ℕ} {zs zs′ : List ℕ} → 0 < p → ((j : ℕ) → getD zs j 0 ≡ 0) → start + size ≤ length xs → Below p xs → Copied xs start size zs zs′ → Below p zs′
+pub copied-below : {p : ℕ} {xs : List ℕ} {start size : ℕ} {zs zs′ : List ℕ} → 0 < p → Blank zs → start + size ≤ length xs → Below p xs → Copied xs start size zs zs′ → Below p zs′
 copied-below {p} {xs} {start} {size} {zs} {zs′} positive blank fits below copied i h = by-place (decLt i size)
   where
     by-place : Dec (i < size) → getD zs′ i 0 < p

@@ -1,10 +1,10 @@
 // Products of blocks of residues, row by row through field's combination of rows.
 ghost use mathlib.Core.Path.{_≡_};
-ghost use mathlib.Core.Bool.{true};
 ghost use Prim.Native.Nat.{ℕ, _+_, _≤_, _<_};
 ghost use lib.ListN.{length, getD};
+ghost use Rattle.algebra.specs.Answers.{Tells};
 ghost use Rattle.field.specs.Residue.{reduce, negated};
-ghost use Rattle.field.specs.View.{Below, Zeros};
+ghost use Rattle.field.specs.View.{Below, Blank, Zeros};
 ghost use Rattle.blocks.specs.Places.{Block, Factors, Multiplied, Copied, Used, Masked};
 
 // 2,048 zeros: room for half the rows of the largest table.
@@ -35,7 +35,7 @@ pub fn negate(p: u32, xs: &mut [u32])
 
 // Makes each number 0.
 pub fn clear(xs: &mut [u32])
-    ensures { λ _. ⌜ (length (now (xs .exit)) ≡ length (now (xs .entry))) × ((j : ℕ) → getD (now (xs .exit)) j 0 ≡ 0) ⌝ }
+    ensures { λ _. ⌜ (length (now (xs .exit)) ≡ length (now (xs .entry))) × Blank (now (xs .exit)) ⌝ }
 {
     let mut j = 0;
     while j < xs.len() {
@@ -57,8 +57,8 @@ pub fn copy(xs: &[u32], start: usize, n: usize, zs: &mut [u32])
 }
 
 // Whether every number is 0.
-fn all_zero(xs: &[u32]) -> bool
-    ensures { λ r. ⌜ (r ≡ true → (j : ℕ) → getD (now (xs .entry)) j 0 ≡ 0) ⌝ }
+pub fn all_zero(xs: &[u32]) -> bool
+    ensures { λ r. ⌜ Tells r (Blank (now (xs .entry))) ⌝ }
 {
     let mut j = 0;
     while j < xs.len() {

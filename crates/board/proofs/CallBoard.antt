@@ -8,7 +8,7 @@ use borrow.Author.Tests.{not-false}
 use Rattle.ledger.specs.Board.{IsBoard}
 use Rattle.ledger.specs.Decide.{board?}
 use Rattle.standing.specs.Held.{Held}
-use Rattle.standing.proofs.TestAnswers.{tells-pick, guard-taken}
+use Rattle.algebra.proofs.Answers.{tells-pick, guard-taken}
 use Rattle.standing.proofs.TestBoard.{BoardTold}
 
 module _ {ws rows d : List ℕ} {t : Bool} (told : BoardTold ws rows d t) where

@@ -11,6 +11,7 @@ use lib.Seq.{getD-set-same, getD-set-other}
 use Rattle.algebra.proofs.Choice.{pick-yes, pick-no}
 use Rattle.modulus.specs.declared.Refusal.the-variants.{NotBoard, Withdrawal}
 use Rattle.modulus.specs.Told.{refused}
+use Rattle.field.specs.View.{Blank}
 use Rattle.blocks.proofs.Places.{replaced, replaced-length, replaced-inside, replaced-elsewhere, part-length}
 use Rattle.ledger.specs.Steps.{Withdrawn, withdrawn, countTold, ledgerWithdraw}
 use Rattle.ledger.specs.Board.{IsBoard, headerLength, rowLength, modulusWord, sizeWord, countWord, layout, entriesOf}
@@ -26,7 +27,7 @@ use Rattle.standing.proofs.TestBoard.{board-header}
 module _ (n k m : ℕ) (ws ys : List ℕ) (fewer : m ≤ k) (inside : 3 + k * (n + 1) ≤ length ws)
     (behind : (q : ℕ) → 3 + k * (n + 1) ≤ q → getD ws q 0 ≡ 0)
     (long : length ys ≡ length (take (length ws - (3 + m * (n + 1))) (drop (3 + m * (n + 1)) ws)))
-    (zero : (j : ℕ) → getD ys j 0 ≡ 0) where
+    (zero : Blank ys) where
   from : ℕ
   from = 3 + m * (n + 1)
 
@@ -119,7 +120,7 @@ module _ (ws : List ℕ) (b : IsBoard ws) (t : ℕ) where
       by-place (no l) = List·getD-eq-default ws 0 (omega arith)
 
   -- with the last t rows cleared the words are the layout of the other entries
-  module _ (few : t ≤ countWord ws) (ys : List ℕ) (long : length ys ≡ length (lastPart ws t)) (zero : (j : ℕ) → getD ys j 0 ≡ 0) where
+  module _ (few : t ≤ countWord ws) (ys : List ℕ) (long : length ys ≡ length (lastPart ws t)) (zero : Blank ys) where
     kept-layout : clearedWords ws t ys ≡ layout (modulusWord ws) (sizeWord ws) (take (countWord ws - t) (entriesOf ws))
     kept-layout =
         dropped-layout (modulusWord ws) (sizeWord ws) (entriesOf ws) (countWord ws - t) (clearedWords ws t ys) (board-wide ws b)

@@ -8,20 +8,21 @@ use lib.ListN.{length, getD}
 use Rattle.algebra.specs.Matrix.{Matrix, add, negative, product}
 use Rattle.algebra.proofs.Matrices.{product-negative}
 use Rattle.field.specs.Residue.{residues}
-use Rattle.field.specs.View.{table, Below}
+use Rattle.field.specs.View.{table, Below, Blank}
 use Rattle.field.proofs.Field.{residues-ring}
 use Rattle.blocks.specs.Places.{Factors, Kept, Multiplied}
 use Rattle.elimination.specs.Eliminated.{Halves, Joined}
 use Rattle.blocks.proofs.Places.{kept-trans, kept-wider, table-kept}
 use Rattle.elimination.proofs.StepNegative.{rows-block, columns-block}
-use Rattle.elimination.proofs.StepReduce.{modulus-positive, quarter-room, blank-below}
+use Rattle.field.proofs.Views.{blank-below}
+use Rattle.elimination.proofs.StepReduce.{modulus-positive, quarter-room}
 
 module _ {p m₁ m₂ n : ℕ} {a d : List ℕ} {at stride : ℕ} {t c : List ℕ} (h : Halves p m₁ m₂ n a d at stride t c) where
   small-room : m₁ * m₂ ≤ length c
   small-room = omega (arith, mul-le-mul (h .upper-most) (h .lower-most), h .c-long)
 
   -- B F into c, which was cleared
-  pub join-first : (c′ : List ℕ) → length c′ ≡ length c → ((j : ℕ) → getD c′ j 0 ≡ 0) → Factors p m₁ n m₂ a 0 n d (at + m₁) stride c′ 0 m₂
+  pub join-first : (c′ : List ℕ) → length c′ ≡ length c → Blank c′ → Factors p m₁ n m₂ a 0 n d (at + m₁) stride c′ 0 m₂
   join-first c′ long blank =
       record {
         positive = modulus-positive h;

@@ -11,7 +11,7 @@ use Rattle.algebra.specs.Ring.{IsCommutativeRing}
 use Rattle.algebra.specs.Matrix.{Matrix, add, negative, product}
 use Rattle.algebra.proofs.Matrices.{zeros-add}
 use Rattle.field.specs.Residue.{reduce, residues, negated}
-use Rattle.field.specs.View.{table, Below}
+use Rattle.field.specs.View.{table, Below, Blank}
 use Rattle.field.proofs.Field.{residues-ring}
 use Rattle.blocks.specs.Places.{Block, Factors, Multiplied}
 use Rattle.blocks.proofs.Places.{front-inside, front-below, table-negative}
@@ -48,7 +48,7 @@ dropped-below p xs k below i h =
 -- Z becomes X Y and then, number by number, its negative; `front` is what stands there then
 module _ {p m k n : ℕ} {x : List ℕ} {x-stride : ℕ} {y : List ℕ} {y-start y-stride : ℕ} {z z′ : List ℕ} (front : List ℕ)
     (f : Factors p m k n x 0 x-stride y y-start y-stride z 0 n)
-    (blank : (j : ℕ) → getD z j 0 ≡ 0)
+    (blank : Blank z)
     (multiplied : Multiplied p m k n x 0 x-stride y y-start y-stride z z′ 0 n)
     (long : length front ≡ length (take (m * n) z′))
     (below : Below p front)

@@ -7,15 +7,12 @@ use native.Mathlib.Omega.{arith}
 use lib.ListN.{length, getD}
 use Rattle.algebra.specs.Matrix.{add, negative, product}
 use Rattle.field.specs.Residue.{residues}
-use Rattle.field.specs.View.{table, Below}
+use Rattle.field.specs.View.{table, Below, Blank}
+use Rattle.field.proofs.Views.{blank-below}
 use Rattle.blocks.specs.Places.{Factors, Multiplied, Copied}
 use Rattle.elimination.specs.Eliminated.{Halves, Reduced}
 use Rattle.blocks.proofs.Places.{copied-table, copied-below}
 use Rattle.elimination.proofs.StepNegative.{row-inside, rows-block, columns-block}
-
--- zeros are below p
-pub blank-below : (p : ℕ) (xs : List ℕ) → 0 < p → ((j : ℕ) → getD xs j 0 ≡ 0) → Below p xs
-blank-below p xs positive blank i h = rw (blank i) positive
 
 -- a modulus is not 0, and the rooms for T and for C are large enough
 module _ {p m₁ m₂ n : ℕ} {a d : List ℕ} {at stride : ℕ} {t c : List ℕ} (h : Halves p m₁ m₂ n a d at stride t c) where
@@ -32,8 +29,8 @@ module _ {p m₁ m₂ n : ℕ} {a d : List ℕ} {at stride : ℕ} {t c : List �
     (h : Halves p m₁ m₂ n a d at stride t c)
     (k-long : length k ≡ m₂ * n)
     (k-below : Below p k)
-    (t-blank : (j : ℕ) → getD t j 0 ≡ 0)
-    (c-blank : (j : ℕ) → getD c j 0 ≡ 0)
+    (t-blank : Blank t)
+    (c-blank : Blank c)
   where
     -- K E into t
     pub reduce-first : Factors p m₂ n m₁ k 0 n d at stride t 0 m₁

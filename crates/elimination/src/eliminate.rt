@@ -4,7 +4,7 @@ ghost use Prim.Native.Nat.{ℕ, _+_, _*_, _≤_, _<_};
 ghost use lib.ListN.{length, getD};
 ghost use Rattle.algebra.specs.Matrix.{negative, product};
 ghost use Rattle.field.specs.Residue.{residues};
-ghost use Rattle.field.specs.View.{table, Below};
+ghost use Rattle.field.specs.View.{table, Below, Blank};
 ghost use Rattle.modulus.specs.Prime.{IsModulus};
 ghost use Rattle.blocks.specs.Places.{Factors};
 ghost use Rattle.elimination.specs.Eliminated.{Eliminable, Eliminated, Reduced, Joined, Halves};
@@ -63,7 +63,7 @@ fn negative_product(
     y_stride: usize,
     z: &mut [u32],
 )
-    requires { ⌜ Factors p m k n (now x) 0 «x_stride» (now y) «y_start» «y_stride» (now z) 0 n × ((j : ℕ) → getD (now z) j 0 ≡ 0) ⌝ }
+    requires { ⌜ Factors p m k n (now x) 0 «x_stride» (now y) «y_start» «y_stride» (now z) 0 n × Blank (now z) ⌝ }
     ensures { λ _. ⌜ (length (now (z .exit)) ≡ length (now (z .entry))) × Below p (now (z .exit)) × (table p (now (z .exit)) 0 n m n ≡ negative (residues p) (product (residues p) k (table p (now (x .entry)) 0 «x_stride» m k) (table p (now (y .entry)) «y_start» «y_stride» k n))) ⌝ }
 {
     add_product(p, m, k, n, x, 0, x_stride, y, y_start, y_stride, z, 0, n);
@@ -85,7 +85,7 @@ fn reduce_rows(
     t: &mut [u32],
     c: &mut [u32],
 )
-    requires { ⌜ Halves p m1 m2 n (now a) (now d) at stride (now t) (now c) × (length (now lower) ≡ m2 * n) × Below p (now lower) × ((j : ℕ) → getD (now t) j 0 ≡ 0) × ((j : ℕ) → getD (now c) j 0 ≡ 0) ⌝ }
+    requires { ⌜ Halves p m1 m2 n (now a) (now d) at stride (now t) (now c) × (length (now lower) ≡ m2 * n) × Below p (now lower) × Blank (now t) × Blank (now c) ⌝ }
     ensures { λ _. ⌜ Reduced p m1 m2 n (now (a .entry)) (now (lower .entry)) (now (d .entry)) at stride (now (t .entry)) (now (c .entry)) (now (t .exit)) (now (c .exit)) ⌝ }
 {
     negative_product(p, m2, n, m1, lower, n, d, at, stride, t);

@@ -54,13 +54,6 @@ pub reduce-small : (p a : ℕ) → a < p → (reduce p a) .value ≡ a
 unfolding reduce
 reduce-small p a h = mod-eq-of-lt h
 
--- what is left of a number by p, and what is a multiple of p
-pub reduce-mod : (p a : ℕ) → reduce p (a % p) ≡ reduce p a
-reduce-mod p a = reduce-same p (a % p) a (mod-mod a p)
-
-pub reduce-multiple : (p k : ℕ) → reduce p (p * k) ≡ reduce p 0
-reduce-multiple p k = reduce-same p (p * k) 0 (mul-mod-right p k ∙ sym (zero-mod p))
-
 -- a value is below p
 pub value-below : {p : ℕ} → 0 < p → (x : Residue p) → x .value < p
 value-below {p} h x = subst (λ (n : ℕ). n < p) (x .reduced) (mod-lt (x .value) h)

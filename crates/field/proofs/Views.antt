@@ -1,5 +1,5 @@
--- The laws of views: a table is zero outside its sizes, its entries are the numbers' residues, and parts of a table are
--- tables.
+-- The laws of views: a table is zero outside its sizes, its entries are the numbers' residues, parts of a table are tables, and
+-- zeros are below p.
 use mathlib.Core.Path.{_≡_, refl, ap, _∙_}
 use mathlib.Core.Bool.{Bool, true, false}
 use mathlib.Core.List.{List}
@@ -10,7 +10,7 @@ use borrow.Author.Tests.{lt-ltb, le-ltb}
 use Rattle.algebra.specs.Choice.{choose}
 use Rattle.algebra.specs.Matrix.{Sized}
 use Rattle.field.specs.Residue.{reduce, residues}
-use Rattle.field.specs.View.{table}
+use Rattle.field.specs.View.{table, Below, Blank}
 
 module _ (p : ℕ) (xs : List ℕ) (start stride m n : ℕ) where
   -- the entry at row i and column j
@@ -34,3 +34,7 @@ module _ (p : ℕ) (xs : List ℕ) (start stride m n : ℕ) where
       same : (b : Bool) → choose b (reduce p 0) (reduce p 0) ≡ reduce p 0
       same true = refl
       same false = refl
+
+-- zeros are below p
+pub blank-below : (p : ℕ) (xs : List ℕ) → 0 < p → Blank xs → Below p xs
+blank-below p xs positive blank i h = rw (blank i) positive

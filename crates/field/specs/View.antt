@@ -26,6 +26,10 @@ Reaches k start step len = (t : ℕ) → t < k → start + t * step < len
 abbrev pub Below : ℕ → List ℕ → Type 0
 Below p xs = (i : ℕ) → i < length xs → getD xs i 0 < p
 
+-- every number of xs is 0, and so is what is read past its end
+abbrev pub Blank : List ℕ → Type 0
+Blank xs = (j : ℕ) → getD xs j 0 ≡ 0
+
 -- k zeros
 abbrev pub Zeros : ℕ → List ℕ → Type 0
-Zeros k xs = (length xs ≡ k) × ((j : ℕ) → getD xs j 0 ≡ 0)
+Zeros k xs = (length xs ≡ k) × Blank xs

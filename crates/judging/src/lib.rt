@@ -1,8 +1,8 @@
 // Taking a frame that has been read: whether its row is a combination of the standing rows, and which.
-ghost use mathlib.Core.Bool.{true, false};
 ghost use mathlib.Core.Path.{_≡_};
 ghost use Prim.Native.Nat.{ℕ, suc, _+_, _*_, _<_, _≤_};
 ghost use lib.ListN.{length, getD};
+ghost use Rattle.algebra.specs.Answers.{Tells};
 ghost use Rattle.algebra.specs.Matrix.{mixed};
 ghost use Rattle.modulus.specs.Prime.{IsModulus};
 ghost use Rattle.field.specs.Residue.{residues};
@@ -35,7 +35,7 @@ fn mix_rows(p: u32, by: &[u32], table: &[u32], width: usize) -> [u32; 64]
 // Whether two rows of the same length have the same numbers.
 fn same(xs: &[u32], ys: &[u32]) -> bool
     requires { ⌜ length (now xs) ≡ length (now ys) ⌝ }
-    ensures { λ r. ⌜ (r ≡ true → now (xs .entry) ≡ now (ys .entry)) × (r ≡ false → now (xs .entry) ≡ now (ys .entry) → ⊥) ⌝ }
+    ensures { λ r. ⌜ Tells r (now (xs .entry) ≡ now (ys .entry)) ⌝ }
 {
     let mut j = 0;
     while j < xs.len() {

@@ -1,4 +1,3 @@
-pub mod TestAnswers
 pub mod TestSizes
 pub mod TestFilled
 pub mod TestRows

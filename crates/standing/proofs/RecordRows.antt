@@ -12,9 +12,9 @@ use Rattle.algebra.proofs.Rings.{zero-plus}
 use Rattle.field.specs.Residue.{Residue, reduce, residues, _⊕_, _⊗_}
 use Rattle.field.specs.View.{line, table, Zeros}
 use Rattle.field.proofs.Field.{residues-ring}
-use Rattle.standing.specs.Answers.{Tells}
+use Rattle.algebra.specs.Answers.{Tells}
 use Rattle.standing.specs.Records.{IsUnitRow, UnitAt}
-use Rattle.standing.proofs.TestAnswers.{tells-same}
+use Rattle.algebra.proofs.Answers.{tells-same}
 use Rattle.standing.proofs.RecordUnits.{numbers-to-residues, residues-to-numbers}
 use Rattle.standing.proofs.RecordTables.{rowPart, row-times-rows}
 

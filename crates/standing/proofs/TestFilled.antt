@@ -3,12 +3,13 @@
 use mathlib.Core.Path.{_≡_, sym, ap, _∙_}
 use mathlib.Core.List.{List}
 use Prim.Native.Nat.{ℕ, _+_, _*_, _-_, _<_}
+use native.Mathlib.Decide.{decLt}
 use native.Mathlib.Omega.{arith}
-use lib.ListN.{length, getD, take, drop}
-use Rattle.field.specs.View.{Below}
+use lib.ListN.{length, getD, take, drop, List·getD-eq-default}
+use Rattle.field.specs.View.{Below, Blank}
 use Rattle.blocks.proofs.Places.{part-length, part-at}
 use Rattle.ledger.specs.Board.{headerLength, rowLength, modulusWord, sizeWord, countWord}
-use Rattle.standing.specs.Tested.{AllZero, Header, Filled}
+use Rattle.standing.specs.Tested.{Header, Filled}
 use Rattle.standing.proofs.TestSizes.{rows-inside}
 
 -- where the rows end
@@ -34,13 +35,16 @@ module _ (ws : List ℕ) (h : Header ws) where
       let inside : i < endOf ws - 3 = omega (arith, entry-long) in
       rw (part-at ws 3 (endOf ws - 3) i inside) (f .below i (omega arith))
 
-  pub filled-zero : Filled ws → AllZero (restPart ws)
+  pub filled-zero : Filled ws → Blank (restPart ws)
   unfolding headerLength rowLength
-  filled-zero f j l =
-      let inside : j < length ws - endOf ws = omega (arith, rest-long) in
-      part-at ws (endOf ws) (length ws - endOf ws) j inside ∙ f .zeros (endOf ws + j) (omega arith) (omega arith)
+  filled-zero f j = by-place (decLt j (length ws - endOf ws))
+    where
+      by-place : Dec (j < length ws - endOf ws) → getD (restPart ws) j 0 ≡ 0
+      by-place (yes inside) =
+          part-at ws (endOf ws) (length ws - endOf ws) j inside ∙ f .zeros (endOf ws + j) (omega arith) (omega arith)
+      by-place (no past) = List·getD-eq-default (restPart ws) 0 (omega (arith, rest-long))
 
-  pub parts-filled : Below (modulusWord ws) (entryPart ws) → AllZero (restPart ws) → Filled ws
+  pub parts-filled : Below (modulusWord ws) (entryPart ws) → Blank (restPart ws) → Filled ws
   unfolding headerLength rowLength
   parts-filled b z =
       record {
@@ -50,5 +54,5 @@ module _ (ws : List ℕ) (h : Header ws) where
             let place : endOf ws + (i - endOf ws) ≡ i = omega arith in
             ap (λ q. getD ws q 0) (sym place)
             ∙ sym (part-at ws (endOf ws) (length ws - endOf ws) (i - endOf ws) (omega arith))
-            ∙ z (i - endOf ws) (omega (arith, rest-long));
+            ∙ z (i - endOf ws);
       }

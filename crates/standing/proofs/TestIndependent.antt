@@ -14,23 +14,20 @@ use Rattle.algebra.specs.Quasiinverse.{IsQuasiinverse}
 use Rattle.algebra.proofs.Marks.{is-true}
 use Rattle.modulus.specs.Prime.{IsModulus}
 use Rattle.field.specs.Residue.{residues}
-use Rattle.field.specs.View.{table, Below}
+use Rattle.field.specs.View.{table, Below, Blank}
+use Rattle.field.proofs.Views.{blank-below}
 use Rattle.elimination.specs.Eliminated.{Eliminable, Eliminated}
 use Rattle.blocks.proofs.Places.{front-inside, front-below, front-table, table-same}
 use Rattle.frame_bytes.specs.Checks.{FrameSize}
 use Rattle.ledger.specs.Board.{headerLength, rowLength, modulusWord, sizeWord, countWord}
-use Rattle.standing.specs.Answers.{Tells}
+use Rattle.algebra.specs.Answers.{Tells}
 use Rattle.standing.specs.Tested.{AllMarked, Header, Filled, Laid, Inverted}
-use Rattle.standing.proofs.TestAnswers.{tells-same}
+use Rattle.algebra.proofs.Answers.{tells-same}
 use Rattle.standing.proofs.TestSizes.{table-most}
 
 -- every place among k rows of n numbers is a place of one of them
 table-place : (n k q : ℕ) → 0 < n → q < k * n → (i : ℕ) × (j : ℕ) × (i < k) × (j < n) × (i * n + j ≡ q)
 table-place n k q some h = (q / n, q % n, div-lt-iff-lt-mul some .1 h, mod-lt q some, div-add-mod' q n)
-
--- zeros are below p
-pub zeros-below : (p : ℕ) (xs : List ℕ) → 0 < p → ((j : ℕ) → getD xs j 0 ≡ 0) → Below p xs
-zeros-below p xs h z i l = rw (z i) h
 
 -- the copied rows are below p, as the board's entries are, and so is the room that they lie in
 module _ (ws rows₀ rows : List ℕ) (h : Header ws) (f : Filled ws) (laid : Laid (countWord ws) (sizeWord ws) ws rows₀ rows) where
@@ -46,7 +43,7 @@ module _ (ws rows₀ rows : List ℕ) (h : Header ws) (f : Filled ws) (laid : La
       let inside : q < countWord ws * sizeWord ws = omega (arith, length-take (countWord ws * sizeWord ws) rows) in
       rw (getD-take (countWord ws * sizeWord ws) rows q 0 inside) (entry-below q inside)
 
-  room-below : ((j : ℕ) → getD rows₀ j 0 ≡ 0) → Below (modulusWord ws) rows
+  room-below : Blank rows₀ → Below (modulusWord ws) rows
   room-below blank q l = by-place (decLt q (countWord ws * sizeWord ws))
     where
       by-place : Dec (q < countWord ws * sizeWord ws) → getD rows q 0 < modulusWord ws
@@ -57,10 +54,10 @@ module _ (ws rows₀ rows : List ℕ) (h : Header ws) (f : Filled ws) (laid : La
 -- zeroed memory of 4,096 words for D, and of 64 words for each set of marks
 pub record Room (d columns chosen : List ℕ) : Type 0 where
   pub d-long : length d ≡ 4096
-  pub d-zero : (j : ℕ) → getD d j 0 ≡ 0
+  pub d-zero : Blank d
   pub columns-long : length columns ≡ 64
   pub chosen-long : length chosen ≡ 64
-  pub chosen-zero : (j : ℕ) → getD chosen j 0 ≡ 0
+  pub chosen-zero : Blank chosen
 
 module _ (p n k : ℕ) (ok : IsModulus p) (size : FrameSize n) (count : k ≤ n)
     (rows d columns chosen : List ℕ) (rows-long : length rows ≡ 4096) (room : Room d columns chosen) where
@@ -105,7 +102,7 @@ module _ (p n k : ℕ) (ok : IsModulus p) (size : FrameSize n) (count : k ≤ n)
 
     pub d-residues : Below p (d′ ++ drop (k * n) d)
     d-residues =
-        front-below d (k * n) d′ d-part p (zeros-below p d positive (room .d-zero)) (e .kept .below)
+        front-below d (k * n) d′ d-part p (blank-below p d positive (room .d-zero)) (e .kept .below)
         (omega (arith, few, room .d-long))
 
     -- a quasiinverse of the rows, in the whole of D's memory
@@ -149,7 +146,7 @@ module _ (p n k : ℕ) (ok : IsModulus p) (size : FrameSize n) (count : k ≤ n)
 
 module _ (ws rows₀ rows d columns chosen : List ℕ) (h : Header ws) (f : Filled ws)
     (laid : Laid (countWord ws) (sizeWord ws) ws rows₀ rows) (long : length rows₀ ≡ 4096)
-    (blank : (j : ℕ) → getD rows₀ j 0 ≡ 0) (room : Room d columns chosen) where
+    (blank : Blank rows₀) (room : Room d columns chosen) where
   pub board-ready :
       Eliminable (modulusWord ws) (countWord ws) (sizeWord ws) (take (countWord ws * sizeWord ws) rows)
       (take (countWord ws * sizeWord ws) d) 0 (countWord ws) (take (sizeWord ws) columns) (take (countWord ws) chosen)

@@ -7,14 +7,11 @@ use Prim.Native.Nat.{ℕ, _+_, _*_, _≤_, _<_}
 use lib.ListN.{length, getD}
 use Rattle.modulus.specs.Prime.{IsModulus}
 use Rattle.frame_bytes.specs.Checks.{FrameSize}
-use Rattle.standing.specs.Answers.{Tells}
+use Rattle.algebra.specs.Answers.{Tells}
 use Rattle.standing.specs.Held.{Worked}
 use Rattle.ledger.specs.Board.{headerLength, rowLength, boardLength, modulusWord, sizeWord, countWord}
 
--- every number is 0; no number is 0
-abbrev pub AllZero : List ℕ → Type 0
-AllZero xs = (j : ℕ) → j < length xs → getD xs j 0 ≡ 0
-
+-- no number is 0
 abbrev pub AllMarked : List ℕ → Type 0
 AllMarked xs = (j : ℕ) → j < length xs → 1 ≤ getD xs j 0
 

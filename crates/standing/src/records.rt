@@ -10,7 +10,7 @@ ghost use Rattle.signed.specs.Reading.{reading};
 ghost use Rattle.ledger.specs.Board.{boardLength, modulusWord, sizeWord, entriesOf};
 ghost use Rattle.ledger.specs.Steps.{markOf, numberOf, tabulateℤ};
 ghost use Rattle.standing.specs.Held.{Held};
-ghost use Rattle.standing.specs.Answers.{Tells};
+ghost use Rattle.algebra.specs.Answers.{Tells};
 ghost use Rattle.standing.specs.Records.{IsUnitRow, UnitAt, valueAt};
 
 // Whether e is the unit row of j.

@@ -2,27 +2,12 @@
 // a quasiinverse of them, serves the calls.
 ghost use mathlib.Core.Path.{_≡_};
 ghost use mathlib.Core.Bool.{true, false};
-ghost use Prim.Native.Nat.{ℕ};
-ghost use lib.ListN.{length, getD};
 ghost use Rattle.algebra.specs.Choice.{pick};
+ghost use Rattle.field.specs.View.{Zeros};
 ghost use Rattle.ledger.specs.Decide.{board?};
 ghost use Rattle.standing.specs.Held.{Held};
-ghost use Rattle.standing.specs.Answers.{Tells};
-ghost use Rattle.standing.specs.Tested.{AllZero, AllMarked, Header, Filled, Rows, Laid, Inverted};
-
-// Whether every number is 0.
-fn all_zero(xs: &[u32]) -> bool
-    ensures { λ r. ⌜ Tells r (AllZero (now (xs .entry))) ⌝ }
-{
-    let mut j = 0;
-    while j < xs.len() {
-        if xs[j] != 0 {
-            return false;
-        }
-        j += 1;
-    }
-    true
-}
+ghost use Rattle.algebra.specs.Answers.{Tells};
+ghost use Rattle.standing.specs.Tested.{AllMarked, Header, Filled, Rows, Laid, Inverted};
 
 // Whether no number is 0.
 fn all_marked(xs: &[u32]) -> bool
@@ -72,7 +57,7 @@ fn is_filled(board: &[u32]) -> bool
     if !field::checks::all_below(board[0], &board[3..end]) {
         return false;
     }
-    all_zero(&board[end..])
+    blocks::all_zero(&board[end..])
 }
 
 // Puts the multipliers of the k rows one behind the other.
@@ -91,7 +76,7 @@ fn copy_rows(board: &[u32], k: usize, n: usize, rows: &mut [u32])
 
 // Whether the k multiplier rows are independent: whether a quasiinverse of them has every row in its set J.
 fn independent(board: &[u32], rows: &mut [u32], d: &mut [u32]) -> bool
-    requires { ⌜ Header (now board) × Filled (now board) × (length (now rows) ≡ 4096) × (length (now d) ≡ 4096) × ((j : ℕ) → getD (now d) j 0 ≡ 0) × ((j : ℕ) → getD (now rows) j 0 ≡ 0) ⌝ }
+    requires { ⌜ Header (now board) × Filled (now board) × Zeros 4096 (now rows) × Zeros 4096 (now d) ⌝ }
     ensures { λ r. ⌜ Inverted (now (board .entry)) (now (rows .exit)) (now (d .exit)) r ⌝ }
 {
     let n = board[1] as usize;
@@ -116,7 +101,7 @@ fn independent(board: &[u32], rows: &mut [u32], d: &mut [u32]) -> bool
 
 // Whether the words are a board; then `rows` holds its multiplier rows one behind the other, and `d` a quasiinverse of them.
 pub fn is_board(board: &[u32], rows: &mut [u32], d: &mut [u32]) -> bool
-    requires { ⌜ (length (now rows) ≡ 4096) × (length (now d) ≡ 4096) × ((j : ℕ) → getD (now d) j 0 ≡ 0) × ((j : ℕ) → getD (now rows) j 0 ≡ 0) ⌝ }
+    requires { ⌜ Zeros 4096 (now rows) × Zeros 4096 (now d) ⌝ }
     ensures { λ r. ⌜ (r ≡ pick (board? (now (board .entry))) true false) × (r ≡ true → Held (now (board .entry)) (now (rows .exit)) (now (d .exit))) ⌝ }
 {
     if !has_header(board) {

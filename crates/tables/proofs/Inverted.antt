@@ -12,7 +12,7 @@ use Rattle.algebra.proofs.Exists.{solved}
 use Rattle.algebra.proofs.Unique.{inverse-on, inverse-unique}
 use Rattle.modulus.specs.Prime.{IsModulus}
 use Rattle.field.specs.Residue.{residues}
-use Rattle.field.specs.View.{table, Below}
+use Rattle.field.specs.View.{table, Below, Blank}
 use Rattle.field.specs.Written.{marksOf}
 use Rattle.field.proofs.Views.{table-sized}
 use Rattle.elimination.specs.Eliminated.{Eliminable, Eliminated}
@@ -75,7 +75,7 @@ module _ (p : ℕ) (ok : IsModulus p) (m n : ℕ) (a : List ℕ) where
 
 -- memory that was cleared is what the elimination asks for
 pub cleared-eliminable : (p m n : ℕ) (a d columns rows : List ℕ) → Checked p m n a → Room m n d columns rows
-    → ((j : ℕ) → getD d j 0 ≡ 0) → Eliminable p m n a d 0 m columns rows
+    → Blank d → Eliminable p m n a d 0 m columns rows
 cleared-eliminable p m n a d columns rows k r z =
     record {
       is-modulus = k .is-modulus;

@@ -16,7 +16,7 @@ use Rattle.algebra.specs.Kernel.{kernelVector}
 use Rattle.algebra.specs.Solve.{mixOf}
 use Rattle.algebra.proofs.Sums as sums
 use Rattle.field.specs.Residue.{residues, reduce, _⊕_, _⊗_, negated}
-use Rattle.field.specs.View.{line, table, Below}
+use Rattle.field.specs.View.{line, table, Below, Blank}
 use Rattle.field.specs.Written.{tabulate, rowsOf, marksOf}
 use Rattle.field.proofs.Residues.{reduce-small}
 use Rattle.field.proofs.Totals.{total, total-zero, total-suc}
@@ -40,7 +40,7 @@ rows-written p n m d D below long e = is-tabulate (n * m) _ d long (λ q h. at q
         ∙ ap (λ X. (X (q / m) (q % m)) .value) e
 
 -- numbers that are all 0
-pub zeros-written : (k : ℕ) (xs : List ℕ) → length xs ≡ k → ((j : ℕ) → getD xs j 0 ≡ 0) → xs ≡ replicate k 0
+pub zeros-written : (k : ℕ) (xs : List ℕ) → length xs ≡ k → Blank xs → xs ≡ replicate k 0
 zeros-written k xs long z =
     ext-getD 0 xs (replicate k 0) (long ∙ sym (length-replicate k 0))
     (λ j h. z j ∙ sym (getD-replicate k j 0 0 (rw long at h)))

@@ -16,6 +16,7 @@ use Rattle.algebra.specs.Quasiinverse.{Marks, count}
 use Rattle.algebra.specs.Kernel.{kernelVector}
 use Rattle.algebra.proofs.Independent.{count-next}
 use Rattle.field.specs.Residue.{residues}
+use Rattle.field.specs.View.{Blank}
 use Rattle.field.specs.Written.{numbers}
 use Rattle.field.proofs.Written.{length-tabulate}
 use Rattle.tables.specs.Calls.{vectorsFrom}
@@ -136,7 +137,7 @@ module _ {p : ℕ} (m n : ℕ) (I : Marks) (D A : Matrix (residues p)) where
 
   -- in the end what stands behind the vectors becomes 0
   pub filled-all : {before : List ℕ} {c k : ℕ} {basis : List ℕ} (rest : List ℕ) → Filled before c k basis → c ≡ n → length before ≡ n * n
-      → length rest ≡ length (midOf (k * n) (length basis - k * n) basis) → ((j : ℕ) → getD rest j 0 ≡ 0)
+      → length rest ≡ length (midOf (k * n) (length basis - k * n) basis) → Blank rest
       → putMid (k * n) (length basis - k * n) basis rest ≡ vectorsFrom m n I D A 0 n ++ replicate (n * count n I) 0
   filled-all {before} {c} {k} {basis} rest f d b l z =
       let e : k * n ≤ length basis = omega (arith, filled-long f b (omega arith), filled-room f (omega arith)) in

@@ -1,4 +1,5 @@
--- What the calls on tables check besides the numbers (field/specs/Checks.antt), each with its decision. 01: "Order for all three: 1, 2, 3, 4 (A first, then w)."
+-- What the calls on tables check besides the numbers (field/specs/Checks.antt), each with its decision. 01: "Order for all
+-- three: 1, 2, 3, 4 (A first, then w)."
 use mathlib.Core.Path.{_≡_}
 use mathlib.Core.List.{List}
 use mathlib.Core.Logic.{Dec·and}

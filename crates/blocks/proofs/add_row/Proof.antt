@@ -28,7 +28,7 @@ all-zero-requires c κs = search needs
 returns : tie.Need-returns
 returns c =
     let s = c .before .before .before .before .before .before in
-    row-skipped (s .pre) (is-part (row-fits (s .pre .left))) (c .before .all-zero .ensures (c .if1 .taken))
+    row-skipped (s .pre) (is-part (row-fits (s .pre .left))) (c .before .all-zero .ensures .0 (c .if1 .taken))
 
 add-z-end : tie.Need-add-z-end
 add-z-end c = omega (arith, row-fits (c .before .before .before .before .before .before .pre .target))

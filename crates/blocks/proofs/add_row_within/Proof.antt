@@ -31,7 +31,7 @@ same-length c = search needs
 returns : tie.Need-returns
 returns c =
     let s = c .before .before .before .before .before .before in
-    row-skipped (s .pre) (is-part (row-fits (s .pre .left))) (c .before .all-zero .ensures (c .if1 .taken))
+    row-skipped (s .pre) (is-part (row-fits (s .pre .left))) (c .before .all-zero .ensures .0 (c .if1 .taken))
 
 row-room-requires : tie.Need-row-room-requires
 row-room-requires c κs = search needs

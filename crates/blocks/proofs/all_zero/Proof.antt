@@ -6,11 +6,13 @@ use native.Mathlib.Omega.{arith}
 use lib.ListN.{length, getD, List·getD-eq-default}
 use mathlib.Core.List.{List}
 use borrow.Author.Count.{below-none, below-more}
+use Rattle.algebra.proofs.Answers.{tells-yes, tells-no}
+use Rattle.field.specs.View.{Blank}
 use Rattle.blocks.proofs.all_zero.Statement.{statement}
 use Rattle.blocks.proofs.all_zero.Tie as tie
 
 -- zeros up to the end are zeros everywhere
-zero-everywhere : (xs : List ℕ) (n : ℕ) → length xs ≤ n → ((j : ℕ) → j < n → getD xs j 0 ≡ 0) → (j : ℕ) → getD xs j 0 ≡ 0
+zero-everywhere : (xs : List ℕ) (n : ℕ) → length xs ≤ n → ((j : ℕ) → j < n → getD xs j 0 ≡ 0) → Blank xs
 zero-everywhere xs n l zeros j = by-place (decLt j n)
   where
     by-place : Dec (j < n) → getD xs j 0 ≡ 0
@@ -33,7 +35,7 @@ shared-slice-read-if1 : tie.Need-shared-slice-read-if1 Inv-loop μ-loop
 shared-slice-read-if1 c = omega arith
 
 returns : tie.Need-returns Inv-loop μ-loop
-returns c e = let z : _≡_ {A = ℕ} 0 1 = cc in absurd (omega arith)
+returns c = tells-no (λ blank. c .if1 .taken (blank (c .before .before .before .loop .j)))
 
 add-j : tie.Need-add-j Inv-loop μ-loop
 add-j c = omega arith
@@ -45,7 +47,7 @@ loop-again : tie.Need-loop-again Inv-loop μ-loop
 loop-again c = (omega arith, below-more _ _ (c .before .before .before .loop .inv .1) (c .if1 .left))
 
 returns-2 : tie.Need-returns-2 Inv-loop μ-loop
-returns-2 c e = zero-everywhere (c .before .before .args .xs .now) (c .before .loop .j) (c .loop-test .left) (c .before .loop .inv .1)
+returns-2 c = tells-yes (zero-everywhere (c .before .before .args .xs .now) (c .before .loop .j) (c .loop-test .left) (c .before .loop .inv .1))
 
 pub all-zero-spec : {M : Type 1} → statement M
 all-zero-spec =

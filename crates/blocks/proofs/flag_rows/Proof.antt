@@ -4,7 +4,7 @@ use mathlib.Core.Logic.{⊎-elim}
 use Prim.Native.Nat.{_+_, _*_, _-_, _≤_}
 use native.Mathlib.Omega.{arith}
 use lib.ListN.{length, length-set}
-use borrow.Author.Tests.{not-false}
+use Rattle.algebra.proofs.Answers.{guard-left}
 use Rattle.blocks.specs.Places.{Used}
 use Rattle.blocks.proofs.PlaceRows.{is-part}
 use Rattle.blocks.proofs.PlaceFlags.{used-zeros, used-set}
@@ -72,7 +72,7 @@ loop-again c =
       omega arith,
       l .inv .1,
       used-zeros (l .inv .2) (omega (arith, l .inv .1))
-          (λ j h. sym (is-part (in-y (c .before .before .before)) .same j h) ∙ c .before .all-zero .ensures (not-false _ (w .0 .left)) j),
+          (λ j h. sym (is-part (in-y (c .before .before .before)) .same j h) ∙ guard-left (c .before .all-zero .ensures) (w .0 .left) j),
     ))
     (c .if1 .came)
 

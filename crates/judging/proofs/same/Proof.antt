@@ -1,11 +1,11 @@
 -- `judging::same` meets its contract. The loop's invariant: the first j numbers agree.
 use mathlib.Core.Path.{_≡_, ap}
-use mathlib.Core.Bool.{true≢false, false≢true}
 use Prim.Native.Nat.{ℕ, _-_, _≤_, _<_}
 use native.Mathlib.Omega.{arith}
 use lib.ListN.{length, getD}
 use lib.Seq.{ext-getD}
 use borrow.Author.Count.{below-more}
+use Rattle.algebra.proofs.Answers.{tells-yes, tells-no}
 use Rattle.judging.proofs.same.Statement.{statement}
 use Rattle.judging.proofs.same.Tie as tie
 
@@ -33,7 +33,7 @@ shared-slice-read-if1-2 c = omega arith
 returns : tie.Need-returns Inv-loop μ-loop
 returns c =
     let j = c .before .before .before .before .loop .j in
-    (λ e. absurd (false≢true e), λ _ e. c .if1 .taken (ap (λ zs. getD zs j 0) e))
+    tells-no (λ e. c .if1 .taken (ap (λ zs. getD zs j 0) e))
 
 add-j : tie.Need-add-j Inv-loop μ-loop
 add-j c = omega arith
@@ -50,7 +50,7 @@ returns-2 : tie.Need-returns-2 Inv-loop μ-loop
 returns-2 c =
     let a = c .before .before .args in
     let l = c .before .loop in
-    (λ _. ext-getD 0 (a .xs .now) (a .ys .now) (c .before .before .pre) (λ i h. l .inv .1 i (omega arith)), λ e. absurd (true≢false e))
+    tells-yes (ext-getD 0 (a .xs .now) (a .ys .now) (c .before .before .pre) (λ i h. l .inv .1 i (omega arith)))
 
 pub same-spec : {M : Type 1} → statement M
 same-spec =

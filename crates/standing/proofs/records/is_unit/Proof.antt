@@ -6,7 +6,7 @@ use native.Mathlib.Omega.{arith}
 use borrow.Author.Count.{below-more}
 use lib.ListN.{length, getD}
 use Rattle.standing.specs.Records.{unitNumber}
-use Rattle.standing.proofs.TestAnswers.{tells-yes, tells-no}
+use Rattle.algebra.proofs.Answers.{tells-yes, tells-no}
 use Rattle.standing.proofs.RecordUnits.{unit-here, unit-elsewhere}
 use Rattle.standing.proofs.records.is_unit.Statement.{statement}
 use Rattle.standing.proofs.records.is_unit.Tie as tie

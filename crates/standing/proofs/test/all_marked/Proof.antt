@@ -4,7 +4,7 @@ use Prim.Native.Nat.{ℕ, _-_, _≤_, _<_}
 use native.Mathlib.Omega.{arith}
 use lib.ListN.{length, getD}
 use borrow.Author.Count.{below-none, below-more}
-use Rattle.standing.proofs.TestAnswers.{tells-yes, tells-no}
+use Rattle.algebra.proofs.Answers.{tells-yes, tells-no}
 use Rattle.standing.proofs.test.all_marked.Statement.{statement}
 use Rattle.standing.proofs.test.all_marked.Tie as tie
 

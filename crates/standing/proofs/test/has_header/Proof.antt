@@ -6,7 +6,7 @@ use native.Mathlib.Omega.{arith}
 use borrow.Author.Needs.{needs}
 use Rattle.modulus.proofs.Guards.{no-modulus, is-modulus}
 use Rattle.ledger.specs.Board.{sizeWord, countWord}
-use Rattle.standing.proofs.TestAnswers.{tells-no, tells-leb}
+use Rattle.algebra.proofs.Answers.{tells-no, tells-leb}
 use Rattle.standing.proofs.TestSizes.{rows-most, board-long}
 use Rattle.standing.proofs.test.has_header.Statement.{statement}
 use Rattle.standing.proofs.test.has_header.Tie as tie

@@ -36,15 +36,15 @@ rows-room :
     countWord ws * sizeWord ws ≤ length (copied-of c .copy-rows .last .1 .1 .1 .0)
 rows-room c =
     let s = start-of c in
-    omega (arith, small s, copied-of c .copy-rows .ensures .same-length, s .pre .2)
+    omega (arith, small s, copied-of c .copy-rows .ensures .same-length, s .pre .2 .0)
 
 -- the memory lent to the elimination
 room : (c : tie.After-row-room2) → Room (start-of c .args .d .now) (c .before .row-room .result) (c .row-room2 .result)
 room c =
     let s = start-of c in
     record {
-      d-long = s .pre .3;
-      d-zero = s .pre .4;
+      d-long = s .pre .3 .0;
+      d-zero = s .pre .3 .1;
       columns-long = c .before .row-room .ensures .0;
       chosen-long = c .row-room2 .ensures .0;
       chosen-zero = c .row-room2 .ensures .1;
@@ -58,7 +58,7 @@ marks :
 marks c =
     let r = rooms-of (c .before) in
     let s = start-of r in
-    board-marks _ _ _ _ _ _ (s .pre .0) (s .pre .1) (copied-of r .copy-rows .ensures) (s .pre .2) (s .pre .5) (room r) _ _ _ (c .eliminate .ensures)
+    board-marks _ _ _ _ _ _ (s .pre .0) (s .pre .1) (copied-of r .copy-rows .ensures) (s .pre .2 .0) (s .pre .2 .1) (room r) _ _ _ (c .eliminate .ensures)
 
 shared-slice-read-n : tie.Need-shared-slice-read-n
 shared-slice-read-n c = search needs
@@ -79,7 +79,7 @@ copy-rows-requires c κs =
       k-most = few s;
       n-most = s .pre .0 .size .1;
       inside = rw rows-end (rows-inside _ (s .pre .0));
-      room = s .pre .2;
+      room = s .pre .2 .0;
     }
 
 mul-size : tie.Need-mul-size
@@ -101,12 +101,12 @@ slice-aggregate-eliminate : tie.Need-slice-aggregate-eliminate
 slice-aggregate-eliminate c = sym (length-take-le _ _ (rows-room (c .before .before)))
 
 slice-relend-prefix-eliminate : tie.Need-slice-relend-prefix-eliminate
-slice-relend-prefix-eliminate c = let s = start-of (c .before .before) in omega (arith, small s, s .pre .3)
+slice-relend-prefix-eliminate c = let s = start-of (c .before .before) in omega (arith, small s, s .pre .3 .0)
 
 slice-aggregate-eliminate-2 : tie.Need-slice-aggregate-eliminate-2
 slice-aggregate-eliminate-2 c =
     let s = start-of (c .before .before .before) in
-    sym (length-take-le _ _ (omega (arith, small s, s .pre .3)))
+    sym (length-take-le _ _ (omega (arith, small s, s .pre .3 .0)))
 
 array-borrow-prefix-columns : tie.Need-array-borrow-prefix-columns
 array-borrow-prefix-columns c = search needs
@@ -128,7 +128,7 @@ eliminate-requires : tie.Need-eliminate-requires
 eliminate-requires c κs =
     let r = rooms-of c in
     let s = start-of r in
-    board-ready _ _ _ _ _ _ (s .pre .0) (s .pre .1) (copied-of r .copy-rows .ensures) (s .pre .2) (s .pre .5) (room r)
+    board-ready _ _ _ _ _ _ (s .pre .0) (s .pre .1) (copied-of r .copy-rows .ensures) (s .pre .2 .0) (s .pre .2 .1) (room r)
 
 array-share-prefix-chosen : tie.Need-array-share-prefix-chosen
 array-share-prefix-chosen c =
@@ -154,7 +154,7 @@ returns c =
     let e = c .before .before .before .before .before .before in
     let r = rooms-of (e .before) in
     let s = start-of r in
-    board-inverted _ _ _ _ _ _ (s .pre .0) (s .pre .1) (copied-of r .copy-rows .ensures) (s .pre .2) (s .pre .5) (room r) _ _ _ (e .eliminate .ensures)
+    board-inverted _ _ _ _ _ _ (s .pre .0) (s .pre .1) (copied-of r .copy-rows .ensures) (s .pre .2 .0) (s .pre .2 .1) (room r) _ _ _ (e .eliminate .ensures)
     (c .all-marked .ensures)
 
 pub independent-spec : {M : Type 1} → statement M

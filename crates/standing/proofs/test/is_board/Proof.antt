@@ -2,7 +2,7 @@
 -- independence of the rows decides.
 use borrow.Author.Needs.{needs}
 use Rattle.standing.specs.Tested.{Header, Filled}
-use Rattle.standing.proofs.TestAnswers.{guard-left, guard-taken}
+use Rattle.algebra.proofs.Answers.{guard-left, guard-taken}
 use Rattle.standing.proofs.TestBoard.{board-header, board-filled, told-no-board, told-board}
 use Rattle.standing.proofs.test.is_board.Statement.{statement}
 use Rattle.standing.proofs.test.is_board.Tie as tie
@@ -31,7 +31,7 @@ independent-requires : tie.Need-independent-requires
 independent-requires c κs =
     let e = c .before .before in
     let s = c .before .before .before .before .before .before .before .before .before in
-    (header (e .before .before), filled e, s .pre .0, s .pre .1, s .pre .2, s .pre .3)
+    (header (e .before .before), filled e, s .pre .0, s .pre .1)
 
 same-length : tie.Need-same-length
 same-length c = search needs

@@ -5,7 +5,7 @@ use native.Mathlib.Omega.{arith}
 use lib.ListN.{length}
 use borrow.Author.Needs.{needs}
 use Rattle.ledger.specs.Board.{sizeWord, countWord}
-use Rattle.standing.proofs.TestAnswers.{tells-no, tells-same, tells-pick, guard-left, guard-taken}
+use Rattle.algebra.proofs.Answers.{tells-no, tells-same, tells-pick, guard-left, guard-taken}
 use Rattle.standing.proofs.TestSizes.{rows-most, rows-inside}
 use Rattle.standing.proofs.TestFilled.{filled-below, filled-zero, parts-filled}
 use Rattle.standing.proofs.test.is_filled.Statement.{statement}

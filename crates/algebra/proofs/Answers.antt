@@ -5,9 +5,9 @@ use Prim.Native.Nat.{ℕ, _≤_}
 use native.Mathlib.Omega.{arith}
 use lib.Dec.{leb}
 use borrow.Author.Tests.{not-true, not-false, leb-true, leb-false}
 use Rattle.algebra.specs.Choice.{pick}
 use Rattle.algebra.proofs.Choice.{pick-true, pick-false}
-use Rattle.standing.specs.Answers.{Tells}
+use Rattle.algebra.specs.Answers.{Tells}
 
 -- the answer true where P holds, and false where it does not
 pub tells-yes : {P : Type 0} → P → Tells true P
