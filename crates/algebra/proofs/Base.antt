@@ -2,15 +2,15 @@
 use mathlib.Core.Path.{_≡_, refl, sym, ap, _∙_, subst}
 use mathlib.Core.Bool.{Bool, true, false}
 use Prim.Native.Nat.{ℕ, suc, _+_, _≤_, _<_}
-use native.Mathlib.Nat.{zero-lt-suc, zero-add, ne-of-lt}
-use native.Mathlib.Decide.{decLt, ℕ-discrete}
+use native.Mathlib.Nat.{zero-lt-suc, ne-of-lt}
+use native.Mathlib.Decide.{ℕ-discrete}
 use native.Mathlib.Omega.{arith}
 use lib.Dec.{eqb}
 use borrow.Author.Tests.{eq-eqb, ne-eqb, eqb-true, eqb-false}
 use Rattle.algebra.specs.Choice.{choose}
 use Rattle.algebra.specs.Ring.{Ring, IsCommutativeRing}
-use Rattle.algebra.specs.Matrix.{Vector, Matrix, Sized, sum, unit, zeros, product}
-use Rattle.algebra.specs.Quasiinverse.{Marks, count, none, only, single, IsQuasiinverse}
+use Rattle.algebra.specs.Matrix.{Matrix, Sized, unit, zeros, product}
+use Rattle.algebra.specs.Quasiinverse.{count, none, only, single, IsQuasiinverse}
 use Rattle.algebra.proofs.Rings as rings
 use Rattle.algebra.proofs.Sums as sums
 use Rattle.algebra.proofs.Matrices as matrices

@@ -2,16 +2,15 @@
 -- position is in the first part or behind it (`Part`), which spares index arithmetic.
 use mathlib.Core.Path.{_≡_, refl, sym, ap, _∙_, subst}
 use mathlib.Core.Bool.{Bool, true, false}
-use Prim.Native.Nat.{ℕ, suc, _+_, _-_, _≤_, _<_}
-use native.Mathlib.Nat.{le-add-right, add-sub-cancel-left, add-sub-of-le, lt-of-not-le, le-of-suc-le-suc, add-left-cancel}
+use Prim.Native.Nat.{ℕ, _+_, _-_, _≤_, _<_}
+use native.Mathlib.Nat.{le-add-right, add-sub-cancel-left, add-sub-of-le, add-left-cancel}
 use native.Mathlib.Decide.{decLt, ℕ-discrete}
 use native.Mathlib.Omega.{arith}
 use lib.Dec.{ltb}
 use borrow.Author.Tests.{lt-ltb, le-ltb}
 use Rattle.algebra.specs.Choice.{choose}
 use Rattle.algebra.specs.Ring.{Ring, IsCommutativeRing}
-use Rattle.algebra.specs.Matrix.{Vector, Matrix, sum, unit, zeros, add, product, stack, beside}
-use Rattle.algebra.specs.Quasiinverse.{Marks}
+use Rattle.algebra.specs.Matrix.{Matrix, sum, unit, add, product, stack, beside}
 use Rattle.algebra.proofs.Sums as sums
 use Rattle.algebra.proofs.Matrices.{entries}
 

@@ -4,7 +4,6 @@ use mathlib.Core.Bool.{Bool, true, false}
 use Prim.Native.Nat.{ℕ, suc, _+_, _-_, _<_}
 use native.Mathlib.Nat.{lt-suc-self, le-step, add-zero, add-suc, add-assoc}
 use native.Mathlib.Omega.{arith}
-use lib.Dec.{ltb}
 use Rattle.algebra.specs.Choice.{choose}
 use Rattle.algebra.specs.Quasiinverse.{Marks, count, either, follow}
 use Rattle.algebra.proofs.Marks.{by-test}

@@ -2,12 +2,12 @@
 -- of the rows; and whether rows are independent: if J has them all.
 use mathlib.Core.Path.{_≡_, refl, sym, ap, _∙_}
 use mathlib.Core.Bool.{Bool, true, false, true≢false}
-use Prim.Native.Nat.{ℕ, _≤_, _<_}
+use Prim.Native.Nat.{ℕ, _<_}
 use lib.Dec.{ltb}
 use borrow.Author.Tests.{lt-ltb, le-ltb}
 use Rattle.algebra.specs.Choice.{choose}
 use Rattle.algebra.specs.Ring.{Ring, IsField}
-use Rattle.algebra.specs.Matrix.{Vector, Matrix, Sized, sum, mixed}
+use Rattle.algebra.specs.Matrix.{Vector, Matrix, Sized, mixed}
 use Rattle.algebra.specs.Span.{Combines, IsCombination, Independent}
 use Rattle.algebra.proofs.Choice.{all-below?}
 use Rattle.algebra.proofs.Sums as sums

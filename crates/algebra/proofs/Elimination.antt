@@ -1,7 +1,7 @@
 -- Theorems 1 and 2 of document 001 for a table cut into its upper rows B and its lower rows K. E is a quasiinverse of B
 -- and F one of the reduced table C = K - TB with T = KE; then, with G = F - E(BF), the table [E - GT | G] is one of the
 -- whole. The equations are variables of the section, so that code which has made T, C and G can hand them in.
-use mathlib.Core.Path.{_≡_, refl, sym, ap, _∙_}
+use mathlib.Core.Path.{_≡_, sym, ap, _∙_}
 use Prim.Native.Nat.{ℕ, _+_}
 use Rattle.algebra.specs.Ring.{Ring, IsCommutativeRing}
 use Rattle.algebra.specs.Matrix.{Matrix, zeros, add, negative, product, stack, beside}

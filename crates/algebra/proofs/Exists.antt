@@ -2,14 +2,14 @@
 -- last row by `Base`.
 use mathlib.Core.Path.{_≡_, refl, sym, ap, _∙_, subst}
 use mathlib.Core.Bool.{Bool, true, false}
-use mathlib.Core.Logic.{_⊎_, inl, inr, ⊎-elim}
-use Prim.Native.Nat.{ℕ, suc, _+_, _-_, _≤_, _<_, zero-le}
-use native.Mathlib.Nat.{lt-suc-self, le-step, add-zero}
+use mathlib.Core.Logic.{_⊎_, inl, inr}
+use Prim.Native.Nat.{ℕ, suc, _+_, _<_, zero-le}
+use native.Mathlib.Nat.{lt-suc-self, le-step}
 use native.Mathlib.Numerals.{add-one}
 use native.Mathlib.Decide.{decLt}
 use native.Mathlib.Omega.{arith}
 use lib.Dec.{ltb}
-use borrow.Author.Tests.{lt-ltb, le-ltb}
+use borrow.Author.Tests.{le-ltb}
 use borrow.Author.Count.{below-more}
 use Rattle.algebra.specs.Choice.{choose}
 use Rattle.algebra.specs.Ring.{Ring, IsCommutativeRing, IsField}

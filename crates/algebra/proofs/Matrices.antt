@@ -1,17 +1,9 @@
 -- The laws of matrix sums and products, as equations of functions, and of matrices put together from blocks. The inner
 -- size of a product is a label: associativity and distributivity hold whatever it is.
-use mathlib.Core.Path.{_≡_, refl, sym, ap, ap₂, _∙_, subst, fun-ext}
-use mathlib.Core.Bool.{Bool, true, false}
-use mathlib.Core.Logic.{_⊎_, inl, inr, ⊎-elim}
-use Prim.Native.Nat.{ℕ, suc, _+_, _-_, _≤_, _<_}
-use native.Mathlib.Nat.{le-add-right, add-sub-cancel-left, add-sub-of-le}
-use native.Mathlib.Decide.{decLt}
-use native.Mathlib.Omega.{arith}
-use lib.Dec.{eqb, ltb}
-use borrow.Author.Tests.{lt-ltb, le-ltb}
-use Rattle.algebra.specs.Choice.{choose}
+use mathlib.Core.Path.{_≡_, sym, ap, _∙_, fun-ext}
+use Prim.Native.Nat.{ℕ}
 use Rattle.algebra.specs.Ring.{Ring, IsCommutativeRing}
-use Rattle.algebra.specs.Matrix.{Vector, Matrix, Sized, sum, unit, zeros, add, negative, product, apply, mixed, stack, beside}
+use Rattle.algebra.specs.Matrix.{Matrix, sum, zeros, add, negative, product}
 use Rattle.algebra.proofs.Rings as rings
 use Rattle.algebra.proofs.Sums as sums
 

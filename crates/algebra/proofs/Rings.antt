@@ -1,5 +1,5 @@
 -- What follows from the laws of a commutative ring: the mirrored laws, zero and the negative.
-use mathlib.Core.Path.{_≡_, refl, sym, ap, _∙_}
+use mathlib.Core.Path.{_≡_, sym, ap, _∙_}
 use Rattle.algebra.specs.Ring.{Ring, IsCommutativeRing}
 
 module _ (R : Ring) (L : IsCommutativeRing R) where

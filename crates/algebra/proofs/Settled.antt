@@ -1,13 +1,12 @@
 -- What all solutions of a system agree on: where it has one, x_j is the same in all of them exactly if row j of 1 - DA is
 -- zero, and then it is (Dw)_j. Otherwise adding a kernel vector gives two solutions that differ at j.
-use mathlib.Core.Path.{_≡_, refl, sym, ap, _∙_}
-use mathlib.Core.Bool.{Bool, true, false}
+use mathlib.Core.Path.{_≡_, sym, ap, _∙_}
 use Prim.Native.Nat.{ℕ, _≤_, _<_}
 use native.Mathlib.Nat.{ne-of-lt, lt-of-lt-of-le}
 use native.Mathlib.Decide.{decLt}
 use native.Mathlib.Omega.{arith}
 use Rattle.algebra.specs.Ring.{Ring, IsCommutativeRing, IsField}
-use Rattle.algebra.specs.Matrix.{Vector, Matrix, Sized, sum, unit, product, apply}
+use Rattle.algebra.specs.Matrix.{Vector, Matrix, unit, product, apply}
 use Rattle.algebra.specs.Span.{Solves, AgreeAt}
 use Rattle.algebra.specs.Quasiinverse.{Marks, IsQuasiinverse}
 use Rattle.algebra.specs.Kernel.{kernelVector}

@@ -1,14 +1,14 @@
 -- The recursion of Algorithm Q: quasiinverses of the upper rows and of the reduced lower rows make one of the whole table,
 -- with the union of their columns and the one's rows before the other's (DESIGN: what to carry through the recursion).
-use mathlib.Core.Path.{_≡_, refl, sym, ap, _∙_, subst}
-use mathlib.Core.Bool.{Bool, true, false}
-use Prim.Native.Nat.{ℕ, _+_, _≤_, _<_}
+use mathlib.Core.Path.{_≡_, sym, ap, _∙_, subst}
+use mathlib.Core.Bool.{true, false}
+use Prim.Native.Nat.{ℕ, _+_, _<_}
 use native.Mathlib.Nat.{ne-of-lt}
 use native.Mathlib.Decide.{decLt}
 use native.Mathlib.Omega.{arith}
 use Rattle.algebra.specs.Ring.{Ring, IsCommutativeRing}
-use Rattle.algebra.specs.Matrix.{Matrix, sum, unit, zeros, add, negative, product, stack, beside}
-use Rattle.algebra.specs.Quasiinverse.{Marks, count, either, follow, IsQuasiinverse}
+use Rattle.algebra.specs.Matrix.{Matrix, unit, zeros, add, negative, product, stack, beside}
+use Rattle.algebra.specs.Quasiinverse.{Marks, either, follow, IsQuasiinverse}
 use Rattle.algebra.proofs.Rings as rings
 use Rattle.algebra.proofs.Sums as sums
 use Rattle.algebra.proofs.Matrices as matrices

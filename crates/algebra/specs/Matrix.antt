@@ -1,7 +1,6 @@
 -- Matrices over a ring as functions of a row and a column, and what is made of them. A matrix of m rows and n columns
 -- is zero elsewhere (`Sized`), so that laws are plain equations of functions.
 use mathlib.Core.Path.{_≡_}
-use mathlib.Core.Bool.{Bool, true, false}
 use Prim.Native.Nat.{ℕ, zero, suc, _+_, _-_, _≤_}
 use lib.Dec.{eqb, ltb}
 use Rattle.algebra.specs.Choice.{choose}

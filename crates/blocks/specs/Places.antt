@@ -5,7 +5,7 @@ use Prim.Native.Nat.{ℕ, _+_, _*_, _≤_, _<_}
 use native.Mathlib.Decide.{ℕ-discrete}
 use lib.ListN.{length, getD}
 use Rattle.algebra.specs.Choice.{pick}
-use Rattle.algebra.specs.Matrix.{Matrix, add, negative, product}
+use Rattle.algebra.specs.Matrix.{add, product}
 use Rattle.field.specs.Residue.{residues}
 use Rattle.field.specs.View.{table, Below}
 

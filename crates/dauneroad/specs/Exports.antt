@@ -3,7 +3,6 @@
 use mathlib.Core.List.{List, [], _∷_}
 use Prim.Native.Nat.{ℕ}
 use lib.IntN.{ℤ, natAbs}
-use Rattle.modulus.specs.Told.{Told}
 use Rattle.signed.specs.Calls.{signedCall, residueCall}
 use Rattle.tables.specs.Calls.{quasiinverseCall, kernelCall, solveCall}
 use Rattle.frame_bytes.specs.Calls.{readCall, writeCall, sealCall}

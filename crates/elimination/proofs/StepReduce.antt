@@ -1,10 +1,10 @@
 -- The step between the halves: what `reduce_rows` asks of its callees, and that what they leave is -T and C.
 use mathlib.Core.Path.{_≡_, ap, _∙_}
 use mathlib.Core.List.{List}
-use Prim.Native.Nat.{ℕ, _+_, _*_, _≤_, _<_}
+use Prim.Native.Nat.{ℕ, _*_, _≤_, _<_}
 use native.Mathlib.Nat.{mul-le-mul}
 use native.Mathlib.Omega.{arith}
-use lib.ListN.{length, getD}
+use lib.ListN.{length}
 use Rattle.algebra.specs.Matrix.{add, negative, product}
 use Rattle.field.specs.Residue.{residues}
 use Rattle.field.specs.View.{table, Below, Blank}

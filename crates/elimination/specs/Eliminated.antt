@@ -1,7 +1,6 @@
 -- The contract of the recursion of Algorithm Q: a quasiinverse of the m rows of n numbers in a is put into the block of D's
 -- memory that begins at column `at`, and its columns and rows are marked.
 use mathlib.Core.Path.{_≡_}
-use mathlib.Core.Bool.{Bool}
 use mathlib.Core.List.{List}
 use Prim.Native.Nat.{ℕ, _+_, _*_, _≤_, _<_}
 use lib.ListN.{length, getD}

@@ -5,7 +5,6 @@ ghost use lib.ListN.{length, getD};
 ghost use Rattle.algebra.specs.Matrix.{negative, product};
 ghost use Rattle.field.specs.Residue.{residues};
 ghost use Rattle.field.specs.View.{table, Below, Blank};
-ghost use Rattle.modulus.specs.Prime.{IsModulus};
 ghost use Rattle.blocks.specs.Places.{Factors};
 ghost use Rattle.elimination.specs.Eliminated.{Eliminable, Eliminated, Reduced, Joined, Halves};
 use blocks::add_product;

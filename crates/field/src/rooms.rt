@@ -1,7 +1,4 @@
 // Room for rows and tables of the largest size, made here so that its zeros stand in no other proof.
-ghost use mathlib.Core.Path.{_≡_};
-ghost use Prim.Native.Nat.{ℕ};
-ghost use lib.ListN.{length, getD};
 ghost use Rattle.field.specs.View.{Zeros};
 
 // 64 zeros: room for the longest row or column.

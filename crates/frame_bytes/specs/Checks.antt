@@ -1,6 +1,5 @@
 -- What the calls on frames check besides the frame itself, and that it is decided. 01: "For these, n is 1 to 64, and the
 -- order is 1, 2, 3, then the checks above (writing: multipliers, then value; sealing: multipliers, then records)."
-use mathlib.Core.Path.{_≡_}
 use mathlib.Core.List.{List}
 use mathlib.Core.Logic.{Dec·and}
 use Prim.Native.Nat.{ℕ, _≤_, _<_}

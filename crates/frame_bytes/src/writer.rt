@@ -4,7 +4,7 @@ ghost use mathlib.Core.List.{_∷_, [], _++_};
 ghost use Prim.Native.Nat.{_+_, _*_, _≤_, _<_};
 ghost use lib.ListN.{length, take, drop};
 ghost use Rattle.field.specs.Written.{tabulate};
-ghost use Rattle.frame_bytes.specs.Format.{width, mapLength, longest, bytesOf, stands, mapByte, packed, frameOf};
+ghost use Rattle.frame_bytes.specs.Format.{width, longest, bytesOf, stands, mapByte, packed, frameOf};
 ghost use Rattle.frame_bytes.specs.Put.{placed};
 
 // Puts the four bytes of x, most significant first, in the place of those from `at` on.

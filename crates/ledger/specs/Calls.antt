@@ -1,6 +1,5 @@
 -- What open, take, withdraw and show answer and leave in lent memory, for every input. A call on words that are a board is
 -- the ledger's step on the entries that they hold, laid out again; on other words it is refusal 11.
-use mathlib.Core.Path.{_≡_}
 use mathlib.Core.List.{List, []}
 use Prim.Native.Nat.{ℕ}
 use native.Mathlib.Decide.{ℕ-discrete}
@@ -11,9 +10,8 @@ use Rattle.modulus.specs.declared.Refusal.the-variants.{Modulus, Size, Length, 
 use Rattle.modulus.specs.Told.{Told, refused}
 use Rattle.modulus.specs.Decide.{modulus?}
 use Rattle.frame_bytes.specs.Checks.{frameSize?}
-use Rattle.ledger.specs.Ledger.{Entry}
 use Rattle.ledger.specs.Steps.{Taken, Shown, shown, ledgerTake, ledgerWithdraw, ledgerShow}
-use Rattle.ledger.specs.Board.{boardLength, modulusWord, sizeWord, layout, entriesOf, IsBoard}
+use Rattle.ledger.specs.Board.{boardLength, modulusWord, sizeWord, layout, entriesOf}
 use Rattle.ledger.specs.Decide.{board?}
 
 -- ---- open: checks 1, 2, 3, then writes a fresh board

@@ -2,7 +2,7 @@
 -- fresh. It is fed each call's arguments and the memory lent to it, and reads nothing of the board. (Ledger, board and mix
 -- are 01's words: the received coded packets, their matrix in memory, and the coefficients of a linear combination.)
 use mathlib.Core.Path.{_≡_}
-use mathlib.Core.List.{List, [], _∷_, _++_}
+use mathlib.Core.List.{List, []}
 use Prim.Native.Nat.{ℕ, _<_}
 use lib.ListN.{length, getD}
 use Rattle.algebra.specs.Matrix.{Vector, Matrix, sum}

@@ -1,22 +1,20 @@
 -- The ledger's step for each call: what it then holds, what is told, and what becomes of the memory lent to the call.
-use mathlib.Core.Path.{_≡_}
 use mathlib.Core.List.{List, [], _∷_, _++_}
-use Prim.Native.Nat.{ℕ, zero, suc, _+_, _-_, _≤_, _<_}
+use Prim.Native.Nat.{ℕ, zero, suc, _+_, _-_}
 use native.Mathlib.Decide.{decLe, ℕ-discrete}
 use lib.IntN.{ℤ, pos}
-use lib.ListN.{length, getD, take, replicate}
+use lib.ListN.{length, take, replicate}
 use Rattle.algebra.specs.Choice.{pick, pickBy}
 use Rattle.algebra.specs.Matrix.{Vector, sum}
-use Rattle.modulus.specs.declared.Refusal.{Refusal}
 use Rattle.modulus.specs.declared.Refusal.the-variants.{Length, Conflict, Withdrawal}
 use Rattle.modulus.specs.Told.{Told, refused}
 use Rattle.modulus.specs.Prime.{IsModulus}
-use Rattle.field.specs.Residue.{Residue, reduce, residues, _⊗_}
+use Rattle.field.specs.Residue.{reduce, residues, _⊗_}
 use Rattle.field.specs.Written.{tabulate, numbers}
 use Rattle.field.proofs.Field.{residue-equal?}
 use Rattle.signed.specs.Reading.{reading}
 use Rattle.frame_bytes.specs.Reading.{Found, accepted, rejected, readFrame}
-use Rattle.ledger.specs.Ledger.{Entry, entry, Agreed, Combined, valueColumn}
+use Rattle.ledger.specs.Ledger.{Entry, entry, valueColumn}
 use Rattle.ledger.specs.Decide.{combined?, agreed?}
 
 -- new tells 0 and the count, repeat 100 and the count

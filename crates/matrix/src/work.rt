@@ -1,6 +1,6 @@
 // The work of kernel and solve on a table that has passed the checks. Leaves for `lib.rt`, which meets what each requires.
 ghost use mathlib.Core.Path.{_≡_};
-ghost use Prim.Native.Nat.{ℕ, _*_};
+ghost use Prim.Native.Nat.{_*_};
 ghost use lib.ListN.{length};
 ghost use Rattle.modulus.specs.Prime.{IsModulus};
 ghost use Rattle.tables.specs.Calls.{solvedAs, solution};

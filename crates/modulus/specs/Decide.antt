@@ -2,11 +2,10 @@
 -- nothing computes with it.
 use mathlib.Core.Bool.{Bool, true, false}
 use Prim.Native.Nat.{ℕ, _≤_, _<_, _∣_}
-use native.Mathlib.Decide.{decLe, decLt, decDvd, map-dec}
-use mathlib.Core.Logic.{Dec·and, Dec·not}
+use native.Mathlib.Decide.{decLe, decLt, decDvd}
 use Rattle.algebra.specs.Choice.{pick}
 use Rattle.algebra.proofs.Choice.{all-below?}
-use Rattle.modulus.specs.Prime.{Prime, IsModulus}
+use Rattle.modulus.specs.Prime.{IsModulus}
 
 no-divisor? : (p d : ℕ) → Dec (1 < d → d ∣ p → ⊥)
 no-divisor? p d = go (decLt 1 d) (decDvd d p)

@@ -1,8 +1,5 @@
 -- 01, "The field and the tables": the modulus is a prime from 2 to 2,147,483,647.
-use mathlib.Core.Bool.{Bool, true, false}
-use Prim.Native.Nat.{ℕ, zero, suc, _≤_, _<_, _∣_}
-use native.Mathlib.Decide.{decLe, decLt, decDvd}
-use Rattle.algebra.specs.Choice.{pick}
+use Prim.Native.Nat.{ℕ, _≤_, _<_, _∣_}
 
 -- at least 2, with no divisor strictly between 1 and itself
 pub record Prime (p : ℕ) : Type 0 where

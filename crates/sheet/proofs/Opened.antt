@@ -1,6 +1,6 @@
 -- An accepted open: its board is one of at most 64 records, since otherwise open would have told 1 or 2.
 use mathlib.Core.Path.{_≡_, sym, ap, _∙_, subst}
-use mathlib.Core.List.{List, []}
+use mathlib.Core.List.{List}
 use Prim.Native.Nat.{ℕ, _≤_}
 use native.Mathlib.Omega.{arith}
 use Rattle.modulus.specs.Prime.{IsModulus}

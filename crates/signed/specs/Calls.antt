@@ -1,5 +1,5 @@
 -- 01: "Called from outside, each checks 1, then 4." What is told of every call, refused or not.
-use Prim.Native.Nat.{ℕ, _<_}
+use Prim.Native.Nat.{ℕ}
 use native.Mathlib.Decide.{decLt}
 use mathlib.Core.List.{[], _∷_}
 use lib.IntN.{ℤ, pos}
@@ -7,7 +7,7 @@ use Rattle.algebra.specs.Choice.{pick}
 use Rattle.modulus.specs.declared.Refusal.the-variants.{Modulus, Number}
 use Rattle.modulus.specs.Told.{Told, refused}
 use Rattle.modulus.specs.Decide.{modulus?}
-use Rattle.signed.specs.Reading.{reading, residueOf, IsRecord}
+use Rattle.signed.specs.Reading.{reading, residueOf}
 use Rattle.signed.specs.Decide.{record?}
 
 -- of the signed reading of v modulo p

@@ -1,7 +1,6 @@
 -- 01, "Signed reading of a residue v: v where 2 × v ≤ p, otherwise v - p. A signed record lies from -(p - 1)/2 to p/2,
 -- both divided downwards in size." `readFrom` and `residueFrom` are the same with a low end, the size of the least record,
 -- which 01 fixes at (p - 1)/2 (`lowEnd`).
-use mathlib.Core.Bool.{Bool, true, false}
 use Prim.Native.Nat.{ℕ, suc, _+_, _-_, _*_, _/_}
 use lib.Dec.{leb, ltb}
 use lib.IntN.{ℤ, pos, negsuc, negℤ, _-ℤ_}

@@ -1,9 +1,9 @@
 -- What quasiinverse, kernel and solve answer and leave in lent memory, for every input: 01, "Quasiinverse, kernel, solution"
 -- and "What is handed back on refusal".
 use mathlib.Core.Path.{_≡_}
-use mathlib.Core.Bool.{Bool, true, false, not}
-use mathlib.Core.List.{List, [], _∷_, _++_}
-use Prim.Native.Nat.{ℕ, zero, suc, _+_, _*_, _-_, _<_}
+use mathlib.Core.Bool.{Bool, true, false}
+use mathlib.Core.List.{List, [], _++_}
+use Prim.Native.Nat.{ℕ, zero, suc, _+_, _*_, _-_}
 use lib.ListN.{getD, replicate}
 use Rattle.algebra.specs.Choice.{choose, pick, pickBy}
 use Rattle.algebra.specs.Ring.{IsField}

@@ -1,14 +1,13 @@
 -- 01, "Quasiinverse": I is the set of columns that are no combination of the columns before them, J the same for rows; D is
 -- the inverse of A restricted to J and I, and 0 outside I and J. The prime is needed to decide, and the types say what is
 -- decided; `proofs/` shows that there is one such D only.
-use mathlib.Core.Bool.{Bool, true, false}
-use Prim.Native.Nat.{ℕ, _<_}
+use mathlib.Core.Bool.{true, false}
+use Prim.Native.Nat.{ℕ}
 use lib.Dec.{ltb}
 use Rattle.algebra.specs.Choice.{choose, pick}
 use Rattle.algebra.specs.Ring.{Ring, IsField}
-use Rattle.algebra.specs.Matrix.{Matrix, Sized, transpose}
-use Rattle.algebra.specs.Span.{RowDepends, ColumnDepends}
-use Rattle.algebra.specs.Quasiinverse.{Marks, count, IsInverseOn}
+use Rattle.algebra.specs.Matrix.{Matrix, transpose}
+use Rattle.algebra.specs.Quasiinverse.{Marks, count}
 use Rattle.algebra.proofs.Decide.{combination?}
 
 module _ (R : Ring) (F : IsField R) where

@@ -1,7 +1,6 @@
 -- 01: "D, of n rows and m columns, is the inverse of A restricted to J and I, and 0 outside I and J." The type says what D
 -- is, and `proofs/` shows that there is no other; that there is one comes from algebra's existence theorem.
-use mathlib.Core.Path.{_≡_, sym, fun-ext, subst₂}
-use mathlib.Core.Bool.{Bool, true, false}
+use mathlib.Core.Path.{fun-ext, subst₂}
 use Prim.Native.Nat.{ℕ}
 use Rattle.algebra.specs.Ring.{Ring, IsField}
 use Rattle.algebra.specs.Matrix.{Matrix, Sized}

@@ -1,9 +1,9 @@
 -- `field::arith::times` meets its contract: the product of two numbers below 2 ^ 31 fits 64 bits, and its remainder is the
 -- value of the residues' product.
-use Prim.Native.Nat.{ℕ, _≤_, _*_}
+use Prim.Native.Nat.{_≤_, _*_}
 use native.Mathlib.Nat.{mul-le-mul, mod-lt}
 use native.Mathlib.Omega.{arith}
-use mathlib.Core.Path.{_≡_, ap}
+use mathlib.Core.Path.{ap}
 use Rattle.field.specs.Residue.{Residue, reduce}
 use Rattle.field.proofs.Residues.{reduce-times}
 use Rattle.field.proofs.arith.times.Statement.{statement}
