@@ -1,3 +1,3 @@
 pub mod Places
 pub mod PlaceRows
-pub mod PlaceFlags
+pub mod PlaceLists

@@ -1,5 +1,5 @@
 -- A product of blocks row by row. `Multiplied` says of each entry what it says of the tables, one row's product comes from what
--- `combine` leaves, and a row behind those that are done makes one row more: the contract is its own loop invariant.
+-- `combine_listed` leaves, and a row behind those that are done makes one row more: the contract is its own loop invariant.
 use mathlib.Core.Path.{_≡_, refl, sym, ap, _∙_}
 use mathlib.Core.List.{List}
 use Prim.Native.Nat.{ℕ, _+_, _*_, _-_, _≤_, _<_}
@@ -12,11 +12,12 @@ use Rattle.algebra.specs.Matrix.{Matrix, sum, add, product}
 use Rattle.algebra.proofs.Matrices.{entry}
 use Rattle.algebra.proofs.Step.{product-row}
 use Rattle.field.specs.Residue.{Residue, reduce, residues, _⊕_, _⊗_}
-use Rattle.field.specs.View.{line, table, Below, Blank}
-use Rattle.field.proofs.Residues.{below-of-value, reduce-of-value}
+use Rattle.field.specs.View.{line, table, Below}
+use Rattle.field.specs.Four.{Passes}
+use Rattle.field.proofs.Residues.{reduce-zero, below-of-value, reduce-of-value}
 use Rattle.field.proofs.Field.{residues-ring}
 use Rattle.field.proofs.Views.{table-entry, table-sized}
-use Rattle.blocks.specs.Places.{Block, Kept, Factors, Multiplied, Copied}
+use Rattle.blocks.specs.Places.{Block, Kept, Factors, Multiplied, Copied, Used}
 use Rattle.blocks.proofs.Places.{replaced, replaced-length, replaced-inside, replaced-elsewhere, replaced-below, part-length, part-at, tables-equal, table-same, copied-table, same-place, kept-at, kept-none, add-sized, product-sized, row-product}
 
 module _ (p k n : ℕ) (x y : List ℕ) (y-start y-stride : ℕ) where
@@ -209,9 +210,9 @@ is-part {xs} {a} {n} fits =
     }
 
 -- where the multipliers are 0 nothing need be done
-pub row-skipped : {p k n : ℕ} {x : List ℕ} {x-at : ℕ} {y : List ℕ} {y-start y-stride : ℕ} {z : List ℕ} {z-at : ℕ} {by : List ℕ} → Factors p 1 k n x x-at k y y-start y-stride z z-at n → IsPart x x-at k by → Blank by → Multiplied p 1 k n x x-at k y y-start y-stride z z z-at n
+pub row-skipped : {p k n : ℕ} {x : List ℕ} {x-at : ℕ} {y : List ℕ} {y-start y-stride : ℕ} {z : List ℕ} {z-at : ℕ} → Factors p 1 k n x x-at k y y-start y-stride z z-at n → ((t : ℕ) → t < k → getD x (x-at + t) 0 ≡ 0) → Multiplied p 1 k n x x-at k y y-start y-stride z z z-at n
 unfolding Entries times
-row-skipped {p} {k} {n} {x} {x-at} {y} {y-start} {y-stride} {z} {z-at} F is-by zeros =
+row-skipped {p} {k} {n} {x} {x-at} {y} {y-start} {y-stride} {z} {z-at} F zeros =
     multiplied-of p k n x y y-start y-stride 1 x-at k z z z-at n (F .positive) (kept-none p z z-at n 1 n (F .below))
     (λ i j h l.
     sym
@@ -226,15 +227,37 @@ row-skipped {p} {k} {n} {x} {x-at} {y} {y-start} {y-stride} {z} {z-at} F is-by z
         let place : x-at + i * k + t ≡ x-at + t = omega (arith, only-row i k h) in
         table-entry p x x-at k 1 k i t h l
         ∙ ap (λ q. reduce p (getD x q 0)) place
-        ∙ ap (reduce p) (sym (is-by .same t l) ∙ zeros t)
+        ∙ ap (reduce p) (zeros t l)
 
--- One row by `combine`: by is X's row, out is Z's row.
+-- rows of Z + X Y are zeros where those of X and of Z are
+pub used-product : {p m k n : ℕ} {x : List ℕ} {x-start x-stride : ℕ} {y : List ℕ} {y-start y-stride : ℕ} {z z′ : List ℕ} {z-start z-stride : ℕ} {u v both : List ℕ} → 0 < p → Block z z-start z-stride m n → Multiplied p m k n x x-start x-stride y y-start y-stride z z′ z-start z-stride → Used m k x x-start x-stride u → Used m n z z-start z-stride v → m ≤ length both → ((c : ℕ) → c < m → getD both c 0 ≡ 0 → (getD u c 0 ≡ 0) × (getD v c 0 ≡ 0)) → Used m n z′ z-start z-stride both
+unfolding Entries times
+used-product {p} {m} {k} {n} {x} {x-start} {x-stride} {y} {y-start} {y-stride} {z} {z′} {z-start} {z-stride} {both = both} positive block M x-used z-used long split =
+    record { long = long; zeros = zeros }
+  where
+    ring : IsCommutativeRing (residues p)
+    ring = residues-ring p positive
+
+    zeros : (c : ℕ) → c < m → getD both c 0 ≡ 0 → (j : ℕ) → j < n → getD z′ (z-start + c * z-stride + j) 0 ≡ 0
+    zeros c h e j l =
+        let place = z-start + c * z-stride + j in
+        let row-zero : ((t : ℕ) → t < k → table p x x-start x-stride m k c t ≡ reduce p 0) = λ t b. table-entry p x x-start x-stride m k c t h b ∙ ap (reduce p) (x-used .zeros c h (split c h e .0) t b) in
+        let same : reduce p (getD z′ place 0) ≡ reduce p 0 =
+        multiplied-entries p k n x y y-start y-stride m x-start x-stride z z′ z-start z-stride M c j h l
+        ∙ ap (λ r. reduce p (getD z place 0) ⊕ r) (product-row (residues p) ring k _ _ c row-zero j)
+        ∙ ring .plus-zero (reduce p (getD z place 0))
+        ∙ ap (reduce p) (z-used .zeros c h (split c h e .1) j l) in
+        let below : getD z′ place 0 < p = M .kept .below place (omega (arith, M .kept .same-length, block .inside c h)) in
+        reduce-zero p _ below same
+
+-- One row by `combine_listed`: by is X's row, out is Z's row.
 module _ {p k n : ℕ} {x : List ℕ} {x-at : ℕ} {y : List ℕ} {y-start y-stride : ℕ} {z : List ℕ} {z-at : ℕ} {by out : List ℕ} (F : Factors p 1 k n x x-at k y y-start y-stride z z-at n) (is-by : IsPart x x-at k by) (is-out : IsPart z z-at n out) where
-  -- what combine asks
-  pub row-ready :
+  -- what combine_listed asks
+  pub row-ready : {next : List ℕ} → Passes k next y-start y-stride n y →
       (0 < p) × (p ≤ 2147483647) × (length by ≤ 64) × (length out ≤ 64) × Below p by × Below p y
       × ((t : ℕ) → t < length by → y-start + t * y-stride + length out ≤ length y)
-  row-ready = (
+      × Passes (length by) next y-start y-stride (length out) y
+  row-ready passes = (
     F .positive,
     F .in-range,
     omega (arith, is-by .long, F .inner),
@@ -244,9 +267,10 @@ module _ {p k n : ℕ} {x : List ℕ} {x-at : ℕ} {y : List ℕ} {y-start y-str
         rw (is-by .same j h) (F .left-below (x-at + j) (omega (arith, row-fits (F .left)))),
     F .right-below,
     λ t l. omega (arith, is-out .long, F .right .inside t (omega (arith, is-by .long))),
+    rw (is-by .long, is-out .long) passes,
   )
 
-  -- what combine adds at place j
+  -- what it adds at place j
   abbrev row-sum : ℕ → Residue p
   row-sum j = sum (residues p) (length by) (λ t. line p by 0 1 t ⊗ line p y (y-start + j) y-stride t)
 

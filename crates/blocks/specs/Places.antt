@@ -2,12 +2,11 @@
 use mathlib.Core.Path.{_≡_}
 use mathlib.Core.List.{List}
 use Prim.Native.Nat.{ℕ, _+_, _*_, _≤_, _<_}
-use native.Mathlib.Decide.{ℕ-discrete}
 use lib.ListN.{length, getD}
-use Rattle.algebra.specs.Choice.{pick}
 use Rattle.algebra.specs.Matrix.{add, product}
 use Rattle.field.specs.Residue.{residues}
 use Rattle.field.specs.View.{table, Below}
+use Rattle.field.specs.Four.{Leads, PassesOver}
 
 -- m rows of n numbers that begin at start, start + stride, .. lie in xs, one row behind the other
 pub record Block (xs : List ℕ) (start stride m n : ℕ) : Type 0 where
@@ -51,13 +50,12 @@ pub record Copied (xs : List ℕ) (start n : ℕ) (zs zs′ : List ℕ) : Type 0
   pub front : (j : ℕ) → j < n → getD zs′ j 0 ≡ getD xs (start + j) 0
   pub rest : (j : ℕ) → n ≤ j → getD zs′ j 0 ≡ getD zs j 0
 
--- flags of the k rows of Y: where one is 0 the row is zeros
-pub record Used (k n : ℕ) (y : List ℕ) (y-start y-stride : ℕ) (used : List ℕ) : Type 0 where
-  pub long : k ≤ length used
-  pub zeros : (t : ℕ) → t < k → getD used t 0 ≡ 0 → (j : ℕ) → j < n → getD y (y-start + t * y-stride + j) 0 ≡ 0
+-- marks of k rows of n numbers: where one is 0 the row is zeros
+pub record Used (k n : ℕ) (y : List ℕ) (y-start y-stride : ℕ) (marks : List ℕ) : Type 0 where
+  pub long : k ≤ length marks
+  pub zeros : (t : ℕ) → t < k → getD marks t 0 ≡ 0 → (j : ℕ) → j < n → getD y (y-start + t * y-stride + j) 0 ≡ 0
 
--- the n first numbers of zs are those of xs from start on, but 0 where the flag is 0
-pub record Masked (xs : List ℕ) (start n : ℕ) (used zs zs′ : List ℕ) : Type 0 where
-  pub same-length : length zs′ ≡ length zs
-  pub front : (j : ℕ) → j < n → getD zs′ j 0 ≡ pick (ℕ-discrete (getD used j 0) 0) 0 (getD xs (start + j) 0)
-  pub rest : (j : ℕ) → n ≤ j → getD zs′ j 0 ≡ getD zs j 0
+-- the list leads from each row to a later one, or to the end, and passes over none that is marked
+pub record Listed (marks next : List ℕ) : Type 0 where
+  pub leads : Leads (length marks) next
+  pub over : PassesOver (length marks) next (λ u. getD marks u 0)

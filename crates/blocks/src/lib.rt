@@ -5,7 +5,8 @@ ghost use lib.ListN.{length, getD};
 ghost use Rattle.algebra.specs.Answers.{Tells};
 ghost use Rattle.field.specs.Residue.{reduce, negated};
 ghost use Rattle.field.specs.View.{Below, Blank, Zeros};
-ghost use Rattle.blocks.specs.Places.{Block, Factors, Multiplied, Copied, Used, Masked};
+ghost use Rattle.field.specs.Four.{Passes};
+ghost use Rattle.blocks.specs.Places.{Factors, Multiplied, Copied, Used, Listed};
 
 // 2,048 zeros: room for half the rows of the largest table.
 pub fn half_table() -> [u32; 2048]
@@ -70,53 +71,38 @@ pub fn all_zero(xs: &[u32]) -> bool
     true
 }
 
-// Sets the flags of the k rows of Y that are not all zeros.
-fn flag_rows(k: usize, n: usize, y: &[u32], y_start: usize, y_stride: usize, used: &mut [u32])
-    requires { ⌜ Block (now y) «y_start» «y_stride» k n × (k ≤ length (now used)) ⌝ }
-    ensures { λ _. ⌜ (length (now (used .exit)) ≡ length (now (used .entry))) × Used k n (now (y .entry)) «y_start» «y_stride» (now (used .exit)) ⌝ }
+// Leads from each row to the next one that is marked, or to the end.
+pub fn list_marked(marks: &[u32], next: &mut [u32])
+    requires { ⌜ (length (now marks) ≤ 64) × (length (now marks) ≤ length (now next)) ⌝ }
+    ensures { λ _. ⌜ (length (now (next .exit)) ≡ length (now (next .entry))) × Listed (now (marks .entry)) (now (next .exit)) ⌝ }
 {
-    let mut t = 0;
-    while t < k {
-        let at = y_start + t * y_stride;
-        let end = at + n;
-        if !all_zero(&y[at..end]) {
-            used[t] = 1;
+    let mut later = marks.len();
+    let mut t = marks.len();
+    while 0 < t {
+        t -= 1;
+        next[t] = later as u32;
+        if marks[t] != 0 {
+            later = t;
         }
-        t += 1;
-    }
-}
-
-// Copies n numbers of xs, from start on, to the front of zs, with 0 for those whose flag is not set.
-fn mask(xs: &[u32], start: usize, n: usize, used: &[u32], zs: &mut [u32])
-    requires { ⌜ (start + n ≤ length (now xs)) × (n ≤ length (now used)) × (n ≤ length (now zs)) ⌝ }
-    ensures { λ _. ⌜ Masked (now (xs .entry)) start n (now (used .entry)) (now (zs .entry)) (now (zs .exit)) ⌝ }
-{
-    let mut j = 0;
-    while j < n {
-        let mut x = xs[start + j];
-        if used[j] == 0 {
-            x = 0;
-        }
-        zs[j] = x;
-        j += 1;
     }
 }
 
 // One row of Z + X Y: the k numbers of x from `x_at` on are the multipliers of Y's rows, the n numbers of z from `z_at` on get
-// the sum. A row of zeros adds nothing.
+// the sum. Zero multipliers add nothing; the list leads over rows of Y that are zeros.
 fn add_row(
     p: u32,
     k: usize,
     n: usize,
     x: &[u32],
     x_at: usize,
+    next: &[u32],
     y: &[u32],
     y_start: usize,
     y_stride: usize,
     z: &mut [u32],
     z_at: usize,
 )
-    requires { ⌜ Factors p 1 k n (now x) «x_at» k (now y) «y_start» «y_stride» (now z) «z_at» n ⌝ }
+    requires { ⌜ Factors p 1 k n (now x) «x_at» k (now y) «y_start» «y_stride» (now z) «z_at» n × Passes k (now next) «y_start» «y_stride» n (now y) ⌝ }
     ensures { λ _. ⌜ Multiplied p 1 k n (now (x .entry)) «x_at» k (now (y .entry)) «y_start» «y_stride» (now (z .entry)) (now (z .exit)) «z_at» n ⌝ }
 {
     let x_end = x_at + k;
@@ -125,33 +111,10 @@ fn add_row(
         return;
     }
     let z_end = z_at + n;
-    field::sums::combine(p, by, y, y_start, y_stride, &mut z[z_at..z_end]);
+    field::sums::combine_listed(p, by, next, y, y_start, y_stride, &mut z[z_at..z_end]);
 }
 
-// The same as `add_row`, where the rows of Y whose flags are not set are zeros: their multipliers become 0, so that they are
-// skipped.
-fn add_row_used(
-    p: u32,
-    k: usize,
-    n: usize,
-    x: &[u32],
-    x_at: usize,
-    used: &[u32],
-    y: &[u32],
-    y_start: usize,
-    y_stride: usize,
-    z: &mut [u32],
-    z_at: usize,
-)
-    requires { ⌜ Factors p 1 k n (now x) «x_at» k (now y) «y_start» «y_stride» (now z) «z_at» n × Used k n (now y) «y_start» «y_stride» (now used) ⌝ }
-    ensures { λ _. ⌜ Multiplied p 1 k n (now (x .entry)) «x_at» k (now (y .entry)) «y_start» «y_stride» (now (z .entry)) (now (z .exit)) «z_at» n ⌝ }
-{
-    let mut by = field::rooms::row_room();
-    mask(x, x_at, k, used, &mut by);
-    add_row(p, k, n, &by, 0, y, y_start, y_stride, z, z_at);
-}
-
-// Z + X Y for Z, where X, m rows and k columns, Y and Z lie in different places.
+// Z + X Y for Z, where X, m rows and k columns, Y and Z lie in different places; the list leads over rows of Y that are zeros.
 pub fn add_product(
     p: u32,
     m: usize,
@@ -160,6 +123,7 @@ pub fn add_product(
     x: &[u32],
     x_start: usize,
     x_stride: usize,
+    next: &[u32],
     y: &[u32],
     y_start: usize,
     y_stride: usize,
@@ -167,50 +131,51 @@ pub fn add_product(
     z_start: usize,
     z_stride: usize,
 )
-    requires { ⌜ Factors p m k n (now x) «x_start» «x_stride» (now y) «y_start» «y_stride» (now z) «z_start» «z_stride» ⌝ }
+    requires { ⌜ Factors p m k n (now x) «x_start» «x_stride» (now y) «y_start» «y_stride» (now z) «z_start» «z_stride» × Passes k (now next) «y_start» «y_stride» n (now y) ⌝ }
     ensures { λ _. ⌜ Multiplied p m k n (now (x .entry)) «x_start» «x_stride» (now (y .entry)) «y_start» «y_stride» (now (z .entry)) (now (z .exit)) «z_start» «z_stride» ⌝ }
 {
-    let mut used = field::rooms::row_room();
-    flag_rows(k, n, y, y_start, y_stride, &mut used);
     let mut i = 0;
     while i < m {
         let x_at = x_start + i * x_stride;
         let z_at = z_start + i * z_stride;
-        add_row_used(p, k, n, x, x_at, &used, y, y_start, y_stride, z, z_at);
+        add_row(p, k, n, x, x_at, next, y, y_start, y_stride, z, z_at);
         i += 1;
     }
 }
 
-// The same as `add_row` where the multipliers lie in the memory of Z: unless they are all 0, they are copied first.
+// The same as `add_row` where the multipliers lie in the memory of Z: they are copied first. Where the mark is 0 they are all 0.
 fn add_row_within(
     p: u32,
     k: usize,
     n: usize,
+    mark: u32,
     x_at: usize,
+    next: &[u32],
     y: &[u32],
     y_start: usize,
     y_stride: usize,
     z: &mut [u32],
     z_at: usize,
 )
-    requires { ⌜ Factors p 1 k n (now z) «x_at» k (now y) «y_start» «y_stride» (now z) «z_at» n ⌝ }
+    requires { ⌜ Factors p 1 k n (now z) «x_at» k (now y) «y_start» «y_stride» (now z) «z_at» n × Passes k (now next) «y_start» «y_stride» n (now y) × (mark ≡ 0 → (t : ℕ) → t < k → getD (now z) («x_at» + t) 0 ≡ 0) ⌝ }
     ensures { λ _. ⌜ Multiplied p 1 k n (now (z .entry)) «x_at» k (now (y .entry)) «y_start» «y_stride» (now (z .entry)) (now (z .exit)) «z_at» n ⌝ }
 {
-    let x_end = x_at + k;
-    if all_zero(&z[x_at..x_end]) {
+    if mark == 0 {
         return;
     }
     let mut by = field::rooms::row_room();
     copy(z, x_at, k, &mut by);
-    add_row(p, k, n, &by, 0, y, y_start, y_stride, z, z_at);
+    add_row(p, k, n, &by, 0, next, y, y_start, y_stride, z, z_at);
 }
 
-// The same as `add_product` where X lies in the memory of Z, with the same stride and in other columns.
+// The same as `add_product` where X lies in the memory of Z, with the same stride and in other columns; the rows of X whose
+// marks are 0 are zeros.
 pub fn add_product_within(
     p: u32,
     m: usize,
     k: usize,
     n: usize,
+    marks: &[u32],
     x_start: usize,
     y: &[u32],
     y_start: usize,
@@ -219,14 +184,16 @@ pub fn add_product_within(
     z_start: usize,
     stride: usize,
 )
-    requires { ⌜ Factors p m k n (now z) «x_start» stride (now y) «y_start» «y_stride» (now z) «z_start» stride × ((i j l : ℕ) → i < m → j < k → l < n → «x_start» + j ≡ «z_start» + l → ⊥) × («x_start» + k ≤ stride) × («z_start» + n ≤ stride) ⌝ }
+    requires { ⌜ Factors p m k n (now z) «x_start» stride (now y) «y_start» «y_stride» (now z) «z_start» stride × ((i j l : ℕ) → i < m → j < k → l < n → «x_start» + j ≡ «z_start» + l → ⊥) × («x_start» + k ≤ stride) × («z_start» + n ≤ stride) × Used m k (now z) «x_start» stride (now marks) ⌝ }
     ensures { λ _. ⌜ Multiplied p m k n (now (z .entry)) «x_start» stride (now (y .entry)) «y_start» «y_stride» (now (z .entry)) (now (z .exit)) «z_start» stride ⌝ }
 {
+    let next = field::sums::each_row();
     let mut i = 0;
     while i < m {
+        let mark = marks[i];
         let x_at = x_start + i * stride;
         let z_at = z_start + i * stride;
-        add_row_within(p, k, n, x_at, y, y_start, y_stride, z, z_at);
+        add_row_within(p, k, n, mark, x_at, &next, y, y_start, y_stride, z, z_at);
         i += 1;
     }
 }

@@ -9,6 +9,7 @@ use lib.ListN.{length, getD, take, length-drop}
 use lib.Seq.{length-take-le}
 use Rattle.algebra.specs.Quasiinverse.{either, follow}
 use Rattle.field.specs.View.{Below}
+use Rattle.blocks.specs.Places.{Kept}
 use Rattle.elimination.specs.Eliminated.{Eliminable, Eliminated, Halves, Reduced, Joined}
 use Rattle.blocks.proofs.Places.{replaced, part-rest, front-table, kept-trans, kept-wider, kept-at}
 use Rattle.elimination.proofs.ElimMarks.{behind, with-front, rows-length, behind-length, marked-either, marked-rows}
@@ -133,18 +134,17 @@ module _ {p m m₁ m₂ n : ℕ} {a d : List ℕ} {at stride : ℕ} {columns row
                 d-below = E₁ .kept .below;
                 fits = omega (arith, e .fits, s .whole);
                 blank = still-blank;
-                columns-long = E₁ .columns-marked .same-length ∙ e .columns-long;
+                columns-long = omega (arith, E₁ .columns-marked .same-length, e .columns-long);
                 rows-long = behind-length m₁ m₂ (E₁ .J) rows upper rows-split (E₁ .rows-marked);
               }
 
           -- after the call for the lower rows
+          pub after : {d₂ : List ℕ} → Kept p d₁ d₂ (at + m₁) stride n m₂ → Halves p m₁ m₂ n a d₂ at stride t₁ c₁
+          after kept = halves (kept .same-length ∙ E₁ .kept .same-length) (kept .below) t₁ c₁ (R .t-long ∙ t-long) (R .c-long ∙ c-long)
+
           module _ {d₂ columns₂ lower : List ℕ}
               (E₂ : Eliminated p m₂ n (take (m₂ * n) c₁) d₁ (at + m₁) stride columns₁ (behind m₁ (with-front upper m₁ rows)) d₂ columns₂ lower)
             where
-              pub after : Halves p m₁ m₂ n a d₂ at stride t₁ c₁
-              after =
-                  halves (E₂ .kept .same-length ∙ E₁ .kept .same-length) (E₂ .kept .below) t₁ c₁ (R .t-long ∙ t-long) (R .c-long ∙ c-long)
-
               -- after the step that joins the halves
               pub joined-halves :
                   {d₃ : List ℕ} →
@@ -162,7 +162,7 @@ module _ {p m m₁ m₂ n : ℕ} {a d : List ℕ} {at stride : ℕ} {columns row
                     J = follow m₁ (E₁ .J) (E₂ .J);
                     holds =
                         whole-quasiinverse p m₁ m₂ n a d₁ d₂ d₃ at stride t c t₁ c₁ (E₁ .I) (E₂ .I) (E₁ .J) (E₂ .J) (e .is-modulus)
-                        (after .fits)
+                        (after (E₂ .kept) .fits)
                         (rw (front-table p a (m₁ * n) 0 n m₁ n (row-inside m₁ n)) at (E₁ .holds))
                         (rw (part-rest a (m₁ * n)) at R)
                         (E₂ .kept)

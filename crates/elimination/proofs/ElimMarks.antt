@@ -1,5 +1,5 @@
--- How marks are added to lists of numbers: no mark, one mark, the marks of two sets one after the other, and the marks of two
--- sets in the first part and the rest of a list.
+-- How marks are added to lists of numbers: no mark, one mark, the marks of two sets one after the other, fresh marks beside
+-- others, and the marks of two sets in the first part and the rest of a list.
 use mathlib.Core.Path.{_≡_, refl, sym, ap, _∙_}
 use mathlib.Core.Bool.{Bool, true, false}
 use mathlib.Core.List.{List, _++_}
@@ -7,13 +7,16 @@ use Prim.Native.Nat.{ℕ, _+_, _-_, _≤_, _<_}
 use native.Mathlib.Decide.{ℕ-discrete}
 use native.Mathlib.Omega.{arith}
 use lib.ListN.{length, getD, set, take, drop, length-set}
-use lib.Seq.{getD-set-same, getD-set-other, getD-take, length-take-le, length-front}
+use lib.Seq.{getD-set-same, getD-set-other, getD-take, length-take-le, length-front, ext-getD}
 use borrow.Author.Tests.{eq-eqb, ne-eqb}
-use Rattle.algebra.specs.Choice.{choose}
+use Rattle.algebra.specs.Choice.{choose, pick}
 use Rattle.algebra.specs.Quasiinverse.{Marks, none, only, either, follow}
+use Rattle.algebra.proofs.Choice.{pick-yes, pick-no}
 use Rattle.algebra.proofs.Blocks.{Part, upper, lower, part}
 use Rattle.algebra.proofs.Counts.{follow-upper, follow-lower}
-use Rattle.elimination.specs.Eliminated.{Marked}
+use Rattle.field.specs.View.{Zeros}
+use Rattle.field.proofs.Halves.{zeros-at}
+use Rattle.elimination.specs.Eliminated.{noMarks, Marked, BothMarked}
 use Rattle.blocks.proofs.Places.{replaced, replaced-length, replaced-inside, replaced-elsewhere, front-inside, front-past, part-length, part-at}
 
 pub marked-none : (n : ℕ) (xs : List ℕ) → Marked n none xs xs
@@ -41,6 +44,57 @@ marked-either n I K xs ys zs a b =
     both true true x = refl
     both true false x = refl
     both false t x = refl
+
+-- 64 marks of which none is set
+pub fresh-long : length noMarks ≡ 64
+unfolding noMarks
+fresh-long = refl
+
+fresh-zero : (j : ℕ) → getD noMarks j 0 ≡ 0
+unfolding noMarks
+fresh-zero = zeros-at 64
+
+pub room-fresh : (xs : List ℕ) → Zeros 64 xs → xs ≡ noMarks
+room-fresh xs z = ext-getD 0 xs noMarks (z .0 ∙ sym fresh-long) (λ j h. z .1 j ∙ sym (fresh-zero j))
+
+-- what is marked in such marks
+pub fresh-mark : {n : ℕ} {I : Marks} {xs : List ℕ} → Marked n I noMarks xs → (c : ℕ) → c < n → getD xs c 0 ≡ choose (I c) 1 0
+fresh-mark {I = I} m c h = m .each c h ∙ ap (choose (I c) 1) (fresh-zero c)
+
+-- is added to other marks
+module _ {n : ℕ} {I : Marks} {xs ys zs : List ℕ} (m : Marked n I noMarks xs) (b : BothMarked n xs ys zs) where
+  pub marked-too : Marked n I ys zs
+  marked-too = record { same-length = b .same-length; each = λ c h. b .each c h ∙ by-mark (getD ys c 0) (I c) (fresh-mark m c h) }
+    where
+      by-mark : {x : ℕ} (y : ℕ) (s : Bool) → x ≡ choose s 1 0 → pick (ℕ-discrete x 0) y 1 ≡ choose s 1 y
+      by-mark y true e = pick-no (ℕ-discrete _ 0) y 1 (λ z. omega arith)
+      by-mark y false e = pick-yes (ℕ-discrete _ 0) y 1 e
+
+  -- where those are marks of the same kind, in the other order
+  pub marked-over : {K : Marks} → length ys ≡ length xs → Marked n K noMarks ys → Marked n K xs zs
+  marked-over {K} same k =
+      record {
+        same-length = b .same-length ∙ same;
+        each = λ c h.
+            marked-too .each c h
+            ∙ ap (choose (I c) 1) (fresh-mark k c h)
+            ∙ swapped (I c) (K c)
+            ∙ ap (choose (K c) 1) (sym (fresh-mark m c h));
+      }
+    where
+      swapped : (s t : Bool) → _≡_ {A = ℕ} (choose s 1 (choose t 1 0)) (choose t 1 (choose s 1 0))
+      swapped true true = refl
+      swapped true false = refl
+      swapped false true = refl
+      swapped false false = refl
+
+-- where neither is marked, none is
+pub both-zero : {n : ℕ} {xs ys zs : List ℕ} → BothMarked n xs ys zs → (c : ℕ) → c < n → getD zs c 0 ≡ 0 → (getD xs c 0 ≡ 0) × (getD ys c 0 ≡ 0)
+both-zero {xs = xs} {ys = ys} {zs = zs} b c h e = by-place (ℕ-discrete (getD xs c 0) 0)
+  where
+    by-place : Dec (getD xs c 0 ≡ 0) → (getD xs c 0 ≡ 0) × (getD ys c 0 ≡ 0)
+    by-place (yes z) = (z, sym (pick-yes (ℕ-discrete (getD xs c 0) 0) (getD ys c 0) 1 z) ∙ sym (b .each c h) ∙ e)
+    by-place (no d) = absurd (omega (arith, pick-no (ℕ-discrete (getD xs c 0) 0) (getD ys c 0) 1 d, b .each c h))
 
 -- the first m numbers marked by one set and the k numbers behind them by another
 pub marked-follow :

@@ -1,4 +1,5 @@
 pub mod ElimMarks
+pub mod ElimColumns
 pub mod ElimTables
 pub mod RowOne
 pub mod StepNegative

@@ -10,7 +10,7 @@ use Rattle.algebra.proofs.Matrices.{product-negative}
 use Rattle.field.specs.Residue.{residues}
 use Rattle.field.specs.View.{table, Below, Blank}
 use Rattle.field.proofs.Field.{residues-ring}
-use Rattle.blocks.specs.Places.{Factors, Kept, Multiplied}
+use Rattle.blocks.specs.Places.{Block, Factors, Kept, Multiplied}
 use Rattle.elimination.specs.Eliminated.{Halves, Joined}
 use Rattle.blocks.proofs.Places.{kept-trans, kept-wider, table-kept}
 use Rattle.elimination.proofs.StepNegative.{rows-block, columns-block}
@@ -18,6 +18,10 @@ use Rattle.field.proofs.Views.{blank-below}
 use Rattle.elimination.proofs.StepReduce.{modulus-positive, quarter-room}
 
 module _ {p m₁ m₂ n : ℕ} {a d : List ℕ} {at stride : ℕ} {t c : List ℕ} (h : Halves p m₁ m₂ n a d at stride t c) where
+  -- the columns of F
+  pub lower-block : Block d (at + m₁) stride n m₂
+  lower-block = columns-block d (at + m₁) stride n m₂ (h .d-long) (omega (arith, h .fits))
+
   small-room : m₁ * m₂ ≤ length c
   small-room = omega (arith, mul-le-mul (h .upper-most) (h .lower-most), h .c-long)
 
@@ -30,7 +34,7 @@ module _ {p m₁ m₂ n : ℕ} {a d : List ℕ} {at stride : ℕ} {t c : List �
         inner = h .n-most;
         columns = omega (arith, h .lower-most);
         left = rows-block a m₁ n (h .a-long);
-        right = columns-block d (at + m₁) stride n m₂ (h .d-long) (omega (arith, h .fits));
+        right = lower-block;
         target = rows-block c′ m₁ m₂ (omega (arith, small-room));
         left-below = h .a-below;
         right-below = h .d-below;
@@ -54,7 +58,7 @@ module _ {p m₁ m₂ n : ℕ} {a d : List ℕ} {at stride : ℕ} {t c : List �
       columns = omega (arith, h .lower-most);
       left = columns-block d at stride n m₁ (h .d-long) (omega (arith, h .fits));
       right = rows-block c′ m₁ m₂ (omega (arith, small-room));
-      target = columns-block d (at + m₁) stride n m₂ (h .d-long) (omega (arith, h .fits));
+      target = lower-block;
       left-below = h .d-below;
       right-below = c-below;
       below = h .d-below;

@@ -3,8 +3,9 @@
 use mathlib.Core.Path.{_≡_}
 use mathlib.Core.List.{List}
 use Prim.Native.Nat.{ℕ, _+_, _*_, _≤_, _<_}
-use lib.ListN.{length, getD}
-use Rattle.algebra.specs.Choice.{choose}
+use native.Mathlib.Decide.{ℕ-discrete}
+use lib.ListN.{length, getD, replicate}
+use Rattle.algebra.specs.Choice.{choose, pick}
 use Rattle.algebra.specs.Matrix.{add, negative, product}
 use Rattle.algebra.specs.Quasiinverse.{Marks, IsQuasiinverse}
 use Rattle.modulus.specs.Prime.{IsModulus}
@@ -24,13 +25,22 @@ pub record Eliminable (p m n : ℕ) (a d : List ℕ) (at stride : ℕ) (columns 
   pub d-below : Below p d
   pub fits : at + m ≤ stride
   pub blank : (i j : ℕ) → i < n → j < m → getD d (at + i * stride + j) 0 ≡ 0
-  pub columns-long : length columns ≡ n
+  pub columns-long : n ≤ length columns
   pub rows-long : length rows ≡ m
+
+-- 64 marks, none of them set: in these a half of the rows marks its columns
+unfoldable pub noMarks : List ℕ
+noMarks = replicate 64 0
 
 -- marks that were added to those that stood
 pub record Marked (n : ℕ) (I : Marks) (xs ys : List ℕ) : Type 0 where
   pub same-length : length ys ≡ length xs
   pub each : (c : ℕ) → c < n → getD ys c 0 ≡ choose (I c) 1 (getD xs c 0)
+
+-- at the first n places zs has the marks of xs beside those of ys
+pub record BothMarked (n : ℕ) (xs ys zs : List ℕ) : Type 0 where
+  pub same-length : length zs ≡ length ys
+  pub each : (c : ℕ) → c < n → getD zs c 0 ≡ pick (ℕ-discrete (getD xs c 0) 0) (getD ys c 0) 1
 
 pub record Eliminated (p m n : ℕ) (a d : List ℕ) (at stride : ℕ) (columns rows d′ columns′ rows′ : List ℕ) : Type 0 where
   pub I : Marks

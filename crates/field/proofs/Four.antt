@@ -1,8 +1,8 @@
 -- Four products of numbers below the largest modulus have 64 bits together, and what `next_row` hands over. `Short` and `Quarter`
 -- are opened in laws alone (here and in `Powers`), so that no invariant shows their large numbers.
-use mathlib.Core.Path.{_≡_, _∙_}
+use mathlib.Core.Path.{_≡_, sym, ap, _∙_}
 use mathlib.Core.List.{List}
-use Prim.Native.Nat.{ℕ, _+_, _*_, _%_, _<_, _≤_}
+use Prim.Native.Nat.{ℕ, _+_, _*_, _-_, _%_, _<_, _≤_}
 use native.Mathlib.Nat.{mod-lt, mul-le-mul, zero-mul, add-zero}
 use native.Mathlib.Decide.{decLt}
 use native.Mathlib.Omega.{arith}
@@ -12,9 +12,9 @@ use mir.Syntax.{w64}
 use Rattle.field.specs.View.{Below}
 use Rattle.field.specs.Totals.{total, products}
 use Rattle.field.specs.Halves.{Room}
-use Rattle.field.specs.Four.{Short, Shorts, Quarter, Inside, Taken, RowsInside, productAt}
+use Rattle.field.specs.Four.{Short, Shorts, Quarter, Inside, Leads, PassesOver, Passes, Taken, RowsInside, productAt}
 use Rattle.field.specs.declared.sums.Row.{Row}
-use Rattle.field.proofs.Totals.{total-more}
+use Rattle.field.proofs.Totals.{total-more, total-passed}
 
 pub short-zero : Short 0
 unfolding Short
@@ -63,37 +63,50 @@ pub inside-at : (width j : ℕ) (table : List ℕ) (r : Row) → j < width → I
 inside-at width j table r h i = record { short = i .short; in-table = omega (arith, i .in-table) }
 
 -- a row that is taken lies in the table where all rows do
-pub taken-inside : (by table : List ℕ) (start stride width from : ℕ) (r : Row) → RowsInside (length by) start stride width (length table) → 0 < length by → Taken by start stride from r → Inside width table r
-taken-inside by table start stride width from r inside some k =
+pub taken-inside : (by next table : List ℕ) (start stride width from : ℕ) (r : Row) → RowsInside (length by) start stride width (length table) → 0 < length by → Taken by next start stride from r → Inside width table r
+taken-inside by next table start stride width from r inside some k =
     record { short = k .short; in-table = k .in-table width (length table) inside some }
 
-module _ (by : List ℕ) (start stride from t : ℕ) where
-  -- the rows from `from` up to t add nothing
-  abbrev pub Skipped : Type 0
-  Skipped =
-      (xs : List ℕ) (j : ℕ) → total t (products by xs (start + j) stride) ≡ total from (products by xs (start + j) stride)
+-- the rows from `from` up to t add nothing, where those passed over add nothing
+abbrev pub Skipped : (by next : List ℕ) (start stride from t : ℕ) → Type 0
+Skipped by next start stride from t =
+    (xs : List ℕ) (j : ℕ) → PassesOver (length by) next (products by xs (start + j) stride)
+    → total t (products by xs (start + j) stride) ≡ total from (products by xs (start + j) stride)
 
-  pub skipped-more : getD by t 0 ≡ 0 → Skipped → (xs : List ℕ) (j : ℕ) → total (t + 1) (products by xs (start + j) stride) ≡ total from (products by xs (start + j) stride)
+module _ (by next : List ℕ) (start stride from t : ℕ) where
+  -- from t to where the list leads, only the row of t adds something
+  leap : Leads (length by) next → t < length by → (f : ℕ → ℕ) → PassesOver (length by) next f
+      → total (getD next t 0) f ≡ total t f + f t
+  leap leads inside f over =
+      let later = leads .later t inside in
+      let place : t + 1 + (getD next t 0 - (t + 1)) ≡ getD next t 0 = omega arith in
+      ap (λ n. total n f) (sym place)
+      ∙ total-passed f (t + 1) (getD next t 0 - (t + 1)) (λ u h l. over t u inside (omega arith) (omega arith))
+      ∙ total-more t f
+
+  pub skipped-more : Leads (length by) next → t < length by → getD by t 0 ≡ 0 → Skipped by next start stride from t
+      → Skipped by next start stride from (getD next t 0)
   unfolding products
-  skipped-more z e xs j = total-more t _ ∙ rw (z, zero-mul, add-zero) (e xs j)
+  skipped-more leads inside z e xs j over = leap leads inside _ over ∙ rw (z, zero-mul, add-zero) (e xs j over)
 
   -- the row of t, after rows that add nothing
-  pub taken-row : Shorts by → from ≤ t → t < length by → Skipped → Taken by start stride from (record { times = getD by t 0; at = start + t * stride; next = t + 1 })
+  pub taken-row : Leads (length by) next → Shorts by → from ≤ t → t < length by → Skipped by next start stride from t
+      → Taken by next start stride from (record { times = getD by t 0; at = start + t * stride; next = getD next t 0 })
   unfolding products productAt
-  taken-row short l h e =
+  taken-row leads short l h e =
       record {
         short = short t;
-        later = omega arith;
-        onward = λ k. omega arith;
-        within = omega arith;
+        later = omega (arith, leads .later t h);
+        onward = λ k. omega (arith, leads .later t h);
+        within = leads .within t h;
         in-table = λ width n inside k. inside t h;
         added =
-            λ xs j. let same : start + j + t * stride ≡ start + t * stride + j = omega arith in
-            total-more t _ ∙ rw (e xs j, same);
+            λ xs j over. let same : start + j + t * stride ≡ start + t * stride + j = omega arith in
+            leap leads h _ over ∙ rw (e xs j over, same);
       }
 
   -- no row is left
-  pub taken-none : from ≤ t → t ≡ length by → Skipped → Taken by start stride from (record { times = 0; at = start; next = t })
+  pub taken-none : from ≤ t → t ≡ length by → Skipped by next start stride from t → Taken by next start stride from (record { times = 0; at = start; next = t })
   unfolding productAt
   taken-none l h e =
       record {
@@ -102,5 +115,22 @@ module _ (by : List ℕ) (start stride from t : ℕ) where
         onward = λ k. omega arith;
         within = omega arith;
         in-table = λ width n inside k. omega (arith, inside 0 k);
-        added = λ xs j. e xs j ∙ rw (zero-mul, add-zero);
+        added = λ xs j over. e xs j over ∙ rw (zero-mul, add-zero);
       }
+
+-- the list that passes over no row
+pub each-leads : (k : ℕ) (next : List ℕ) → k ≤ 64 → length next ≡ 64 → ((t : ℕ) → t < 64 → getD next t 0 ≡ t + 1) → Leads k next
+each-leads k next small long each =
+    record {
+      long = omega arith;
+      later = λ t h. omega (arith, each t (omega arith));
+      within = λ t h. omega (arith, each t (omega arith));
+    }
+
+pub each-passes : (k : ℕ) (next : List ℕ) (start stride width : ℕ) (table : List ℕ) → k ≤ 64 → length next ≡ 64
+    → ((t : ℕ) → t < 64 → getD next t 0 ≡ t + 1) → Passes k next start stride width table
+each-passes k next start stride width table small long each =
+    record {
+      leads = each-leads k next small long each;
+      zeros = λ j w t u h l g. absurd (omega (arith, each t (omega arith)));
+    }

@@ -39,6 +39,10 @@ pub reduce-small : (p a : ℕ) → a < p → (reduce p a) .value ≡ a
 unfolding reduce
 reduce-small p a h = mod-eq-of-lt h
 
+-- a number below p whose residue is 0 is 0
+pub reduce-zero : (p a : ℕ) → a < p → reduce p a ≡ reduce p 0 → a ≡ 0
+reduce-zero p a h e = sym (reduce-small p a h) ∙ ap (λ r. r .value) e ∙ reduce-small p 0 (omega arith)
+
 -- a value is below p
 pub value-below : {p : ℕ} → 0 < p → (x : Residue p) → x .value < p
 value-below {p} h x = subst (λ (n : ℕ). n < p) (x .reduced) (mod-lt (x .value) h)

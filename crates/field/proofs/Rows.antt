@@ -2,7 +2,8 @@
 -- `Taken` says of each of the four rows how far the rows are worked off with it.
 use mathlib.Core.Path.{_≡_, ap, _∙_}
 use mathlib.Core.List.{List}
-use Prim.Native.Nat.{ℕ, _+_, _<_, _≤_}
+use Prim.Native.Nat.{ℕ, _+_, _*_, _<_, _≤_}
+use native.Mathlib.Nat.{mul-zero}
 use native.Mathlib.Omega.{arith}
 use lib.ListN.{length, getD}
 use mir.Val.{Fits}
@@ -12,7 +13,7 @@ use Rattle.field.specs.Residue.{reduce, residues, _⊕_, _⊗_}
 use Rattle.field.specs.View.{line, Zeros}
 use Rattle.field.specs.Totals.{total, products}
 use Rattle.field.specs.Halves.{Ready, Added, wholeAt}
-use Rattle.field.specs.Four.{Shorts, Taken, Summed, productAt, fourAt, summedAt}
+use Rattle.field.specs.Four.{Shorts, PassesOver, Passes, Taken, Summed, productAt, fourAt, summedAt}
 use Rattle.field.specs.declared.sums.Row.{Row}
 use Rattle.field.proofs.Totals.{total-zero, reduce-products}
 use Rattle.field.proofs.Residues.{reduce-plus}
@@ -60,13 +61,21 @@ module _ (by table : List ℕ) (start stride width : ℕ) where
       }
 
   -- four rows more
-  module _ (t : ℕ) (a b c d : Row) (short : Shorts table)
-      (ta : Taken by start stride t a) (tb : Taken by start stride (a .next) b)
-      (tc : Taken by start stride (b .next) c) (td : Taken by start stride (c .next) d) where
-    sum-four : (j : ℕ) → sum-at t j + fourAt table a b c d j ≡ sum-at (d .next) j
+  module _ (next : List ℕ) (passes : Passes (length by) next start stride width table) (t : ℕ) (a b c d : Row) (short : Shorts table)
+      (ta : Taken by next start stride t a) (tb : Taken by next start stride (a .next) b)
+      (tc : Taken by next start stride (b .next) c) (td : Taken by next start stride (c .next) d) where
+    -- rows of zeros add nothing
+    over : (j : ℕ) → j < width → PassesOver (length by) next (products by table (start + j) stride)
+    unfolding products
+    over j k s u h l g =
+        let place : start + j + u * stride ≡ start + u * stride + j = omega arith in
+        rw (place, passes .zeros j k s u h l g, mul-zero)
+
+    sum-four : (j : ℕ) → j < width → sum-at t j + fourAt table a b c d j ≡ sum-at (d .next) j
     unfolding fourAt
-    sum-four j =
-        omega (arith, ta .added table j, tb .added table j, tc .added table j, td .added table j)
+    sum-four j k =
+        let o = over j k in
+        omega (arith, ta .added table j o, tb .added table j o, tc .added table j o, td .added table j o)
 
     four-fits : (j : ℕ) → Fits w64 (fourAt table a b c d j)
     unfolding fourAt productAt
@@ -81,16 +90,16 @@ module _ (by table : List ℕ) (start stride width : ℕ) where
           long-lo = s .long-lo ∙ h .long-lo;
           long-hi = s .long-hi ∙ h .long-hi;
           held-at =
-              λ j k. rw (s .low-at j k, s .high-at j k, ← sum-four j)
+              λ j k. rw (s .low-at j k, s .high-at j k, ← sum-four j k)
               (sums-widen (t + 1) (d .next) _ _ _ (omega (arith, ta .onward l, tb .later, tc .later, td .later))
               (sums-more t (getD lo j 0) (getD hi j 0) _ _ (h .held-at j k) (four-fits j)));
         }
 
     -- where no row is left, four rows from the first on are all
-    pub four-all : t ≡ 0 → d .next ≡ length by → (j : ℕ) → fourAt table a b c d j ≡ sum-at (length by) j
-    four-all first last j =
+    pub four-all : t ≡ 0 → d .next ≡ length by → (j : ℕ) → j < width → fourAt table a b c d j ≡ sum-at (length by) j
+    four-all first last j k =
         let none : sum-at t j ≡ 0 = ap (λ n. sum-at n j) first ∙ total-zero _ in
-        omega (arith, sum-four j) ∙ ap (λ n. sum-at n j) last
+        omega (arith, sum-four j k) ∙ ap (λ n. sum-at n j) last
 
   -- what the sums stand for in the end
   pub held-whole : (lo hi : List ℕ) → Held (length by) lo hi → (j : ℕ) → j < width → wholeAt lo hi j ≡ sum-at (length by) j

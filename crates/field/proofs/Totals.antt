@@ -2,8 +2,9 @@
 -- up in ℕ is, reduced once, what the contracts say in the residues.
 use mathlib.Core.Path.{_≡_, refl, sym, ap, fun-ext, _∙_}
 use mathlib.Core.List.{List}
-use Prim.Native.Nat.{ℕ, zero, suc, _+_, _*_}
-use native.Mathlib.Nat.{mul-one, zero-add}
+use Prim.Native.Nat.{ℕ, zero, suc, _+_, _*_, _≤_, _<_}
+use native.Mathlib.Nat.{mul-one, zero-add, add-zero}
+use native.Mathlib.Omega.{arith}
 use native.Mathlib.Numerals.{add-one}
 use lib.ListN.{getD}
 use Rattle.algebra.specs.Matrix.{sum}
@@ -25,6 +26,14 @@ total-suc n f = refl
 -- the same, as a loop counts
 pub total-more : (n : ℕ) (f : ℕ → ℕ) → total (n + 1) f ≡ total n f + f n
 total-more n f = rw add-one (total-suc n f)
+
+-- numbers that are 0 add nothing
+pub total-passed : (f : ℕ → ℕ) (a n : ℕ) → ((u : ℕ) → a ≤ u → u < a + n → f u ≡ 0) → total (a + n) f ≡ total a f
+total-passed f a zero z = ap (λ k. total k f) (add-zero a)
+total-passed f a (suc n) z =
+    let place : a + suc n ≡ suc (a + n) = omega arith in
+    let last : f (a + n) ≡ 0 = z (a + n) (omega arith) (omega arith) in
+    ap (λ k. total k f) place ∙ total-suc (a + n) f ∙ rw (last, add-zero) (total-passed f a n (λ u h l. z u h (omega arith)))
 
 -- the residue of a sum of numbers is the sum of their residues
 pub reduce-total : (p n : ℕ) (f : ℕ → ℕ) → reduce p (total n f) ≡ sum (residues p) n (λ t. reduce p (f t))

@@ -28,6 +28,15 @@ walked-more n g xs ys v w h e =
       left = λ j k. getD-set-other ys n j v 0 (omega arith) ∙ w .left j (omega arith);
     }
 
+-- or one that has g's number already
+pub walked-same : (n : ℕ) (g : ℕ → ℕ) (xs ys : List ℕ) → Walked n g xs ys → getD xs n 0 ≡ g n → Walked (n + 1) g xs ys
+walked-same n g xs ys w e =
+    record {
+      long = w .long;
+      passed = below-more (λ j. getD ys j 0 ≡ g j) n (w .passed) (w .left n (omega arith) ∙ e);
+      left = λ j k. w .left j (omega arith);
+    }
+
 -- where g agrees with before past n, after has g's numbers at every place
 pub walked-all : (n : ℕ) (g : ℕ → ℕ) (xs ys : List ℕ) → Walked n g xs ys → ((j : ℕ) → n ≤ j → getD xs j 0 ≡ g j) → (j : ℕ) → getD ys j 0 ≡ g j
 walked-all n g xs ys w past j = by-place (decLt j n)

@@ -1,5 +1,5 @@
--- Rows of a table that are added four at a time: numbers below 2^31 - 1, of which four products have 64 bits together, what
--- `next_row` hands over, and what is left in the end.
+-- Rows of a table that are added four at a time: numbers below 2^31 - 1, of which four products have 64 bits together, a list
+-- of the rows to look at, what `next_row` hands over, and what is left in the end.
 use mathlib.Core.Path.{_≡_}
 use mathlib.Core.List.{List}
 use Prim.Native.Nat.{ℕ, _+_, _*_, _%_, _^_, _<_, _≤_}
@@ -46,14 +46,30 @@ pub record Inside (width : ℕ) (table : List ℕ) (r : Row) : Type 0 where
   pub short : Short (r .times)
   pub in-table : r .at + width ≤ length table
 
--- the rows of the multipliers `by` from `from` on, up to `next`, add what the row r adds
-pub record Taken (by : List ℕ) (start stride from : ℕ) (r : Row) : Type 0 where
+-- a list that leads from each of k rows to a later one, or to the end
+pub record Leads (k : ℕ) (next : List ℕ) : Type 0 where
+  pub long : k ≤ length next
+  pub later : (t : ℕ) → t < k → t < getD next t 0
+  pub within : (t : ℕ) → t < k → getD next t 0 ≤ k
+
+-- f is 0 at the rows that the list passes over
+abbrev pub PassesOver : (k : ℕ) → List ℕ → (ℕ → ℕ) → Type 0
+PassesOver k next f = (t u : ℕ) → t < k → t < u → u < getD next t 0 → f u ≡ 0
+
+-- the list leads through k rows of `width` numbers that begin at start, start + stride, .., and passes over zeros only
+pub record Passes (k : ℕ) (next : List ℕ) (start stride width : ℕ) (table : List ℕ) : Type 0 where
+  pub leads : Leads k next
+  pub zeros : (j : ℕ) → j < width → PassesOver k next (λ u. getD table (start + u * stride + j) 0)
+
+-- the rows of the multipliers `by` from `from` on, up to the row's `next`, add what the row r adds, if those passed over add
+-- nothing
+pub record Taken (by next : List ℕ) (start stride from : ℕ) (r : Row) : Type 0 where
   pub short : Short (r .times)
   pub later : from ≤ r .next
   pub onward : from < length by → from < r .next
   pub within : r .next ≤ length by
   pub in-table : (width n : ℕ) → RowsInside (length by) start stride width n → 0 < length by → r .at + width ≤ n
-  pub added : (xs : List ℕ) (j : ℕ) → total (r .next) (products by xs (start + j) stride) ≡ total from (products by xs (start + j) stride) + productAt xs r j
+  pub added : (xs : List ℕ) (j : ℕ) → PassesOver (length by) next (products by xs (start + j) stride) → total (r .next) (products by xs (start + j) stride) ≡ total from (products by xs (start + j) stride) + productAt xs r j
 
 -- v's number added to that of xs at place j, modulo p
 unfoldable pub summedAt : (p : ℕ) → (ℕ → ℕ) → List ℕ → ℕ → ℕ

@@ -8,7 +8,7 @@ ghost use Rattle.field.specs.Residue.{reduce, residues, _⊕_, _⊗_};
 ghost use Rattle.field.specs.View.{line, Reaches, Below, Zeros};
 ghost use Rattle.field.specs.Totals.{total, products};
 ghost use Rattle.field.specs.Halves.{whole, Room, Ready, Added, wholeAt};
-ghost use Rattle.field.specs.Four.{Shorts, Starts, RowsInside, Taken, Inside, Quarter, productAt, fourAt, Powers, Summed};
+ghost use Rattle.field.specs.Four.{Shorts, Starts, RowsInside, Leads, Passes, Taken, Inside, Quarter, productAt, fourAt, Powers, Summed};
 
 // The residue of lo + 2^32 × hi, with two divisions: what `lo` has above its low half goes to `hi` first.
 fn reduced(p: u32, lo: u64, hi: u64) -> u32
@@ -51,22 +51,37 @@ struct Row {
     next: usize,
 }
 
-// The first row with a multiplier that is not 0, at `from` or later; where there is none, the row at `start`, times 0.
-fn next_row(by: &[u32], start: usize, stride: usize, from: usize) -> Row
-    requires { ⌜ (from ≤ length (now by)) × Shorts (now by) × Starts (length (now by)) start stride ⌝ }
-    ensures { λ r. ⌜ Taken (now (by .entry)) start stride from r ⌝ }
+// The list that passes over no row: each row is followed by the next.
+pub fn each_row() -> [u32; 64]
+    ensures { λ r. ⌜ (length r ≡ 64) × ((t : ℕ) → t < 64 → getD r t 0 ≡ t + 1) ⌝ }
+{
+    let mut next = crate::rooms::row_room();
+    let mut t: u32 = 0;
+    while t < 64 {
+        next[t as usize] = t + 1;
+        t += 1;
+    }
+    next
+}
+
+// The first row with a multiplier that is not 0, at `from` or later; where there is none, the row at `start`, times 0. From row
+// t the list `next` leads on to row next[t].
+fn next_row(by: &[u32], next: &[u32], start: usize, stride: usize, from: usize) -> Row
+    requires { ⌜ (from ≤ length (now by)) × Shorts (now by) × Starts (length (now by)) start stride × Leads (length (now by)) (now next) ⌝ }
+    ensures { λ r. ⌜ Taken (now (by .entry)) (now (next .entry)) start stride from r ⌝ }
 {
     let mut t = from;
     while t < by.len() {
         let c = by[t];
+        let later = next[t] as usize;
         if c != 0 {
             return Row {
                 times: c,
                 at: start + t * stride,
-                next: t + 1,
+                next: later,
             };
         }
-        t += 1;
+        t = later;
     }
     Row {
         times: 0,
@@ -155,8 +170,16 @@ fn settle(p: u32, lo: &[u64; 64], hi: &[u64; 64], out: &mut [u32])
 }
 
 // Adds to `out` the combination of rows of `table` with the multipliers `by`, four rows at a time, modulo p.
-fn add_all(p: u32, by: &[u32], table: &[u32], start: usize, stride: usize, out: &mut [u32])
-    requires { ⌜ (0 < p) × (p ≤ 2147483647) × (length (now by) ≤ 64) × (length (now out) ≤ 64) × Shorts (now by) × Shorts (now table) × RowsInside (length (now by)) start stride (length (now out)) (length (now table)) ⌝ }
+fn add_all(
+    p: u32,
+    by: &[u32],
+    next: &[u32],
+    table: &[u32],
+    start: usize,
+    stride: usize,
+    out: &mut [u32],
+)
+    requires { ⌜ (0 < p) × (p ≤ 2147483647) × (length (now by) ≤ 64) × (length (now out) ≤ 64) × Shorts (now by) × Shorts (now table) × RowsInside (length (now by)) start stride (length (now out)) (length (now table)) × Passes (length (now by)) (now next) start stride (length (now out)) (now table) ⌝ }
     ensures { λ _. ⌜ Summed p (λ j. total (length (now (by .entry))) (products (now (by .entry)) (now (table .entry)) (start + j) stride)) (now (out .entry)) (now (out .exit)) ⌝ }
 {
     let width = out.len();
@@ -164,10 +187,10 @@ fn add_all(p: u32, by: &[u32], table: &[u32], start: usize, stride: usize, out: 
     let mut hi = no_rows();
     let mut t = 0;
     while t < by.len() {
-        let a = next_row(by, start, stride, t);
-        let b = next_row(by, start, stride, a.next);
-        let c = next_row(by, start, stride, b.next);
-        let d = next_row(by, start, stride, c.next);
+        let a = next_row(by, next, start, stride, t);
+        let b = next_row(by, next, start, stride, a.next);
+        let c = next_row(by, next, start, stride, b.next);
+        let d = next_row(by, next, start, stride, c.next);
         add_rows(width, table, a, b, c, d, &mut lo, &mut hi);
         t = d.next;
     }
@@ -175,20 +198,38 @@ fn add_all(p: u32, by: &[u32], table: &[u32], start: usize, stride: usize, out: 
 }
 
 // Adds to `out` the combination of rows of `table` with the multipliers `by`: row t begins at start + t × stride and is as
-// long as `out`. A row whose multiplier is 0 is skipped; up to four rows need no sums of halves.
-pub fn combine(p: u32, by: &[u32], table: &[u32], start: usize, stride: usize, out: &mut [u32])
-    requires { ⌜ (0 < p) × (p ≤ 2147483647) × (length (now by) ≤ 64) × (length (now out) ≤ 64) × Below p (now by) × Below p (now table) × ((t : ℕ) → t < length (now by) → start + t * stride + length (now out) ≤ length (now table)) ⌝ }
+// long as `out`. From row t the list `next` leads on to row next[t], over rows of zeros. A row whose multiplier is 0 is skipped;
+// up to four rows need no sums of halves.
+pub fn combine_listed(
+    p: u32,
+    by: &[u32],
+    next: &[u32],
+    table: &[u32],
+    start: usize,
+    stride: usize,
+    out: &mut [u32],
+)
+    requires { ⌜ (0 < p) × (p ≤ 2147483647) × (length (now by) ≤ 64) × (length (now out) ≤ 64) × Below p (now by) × Below p (now table) × ((t : ℕ) → t < length (now by) → start + t * stride + length (now out) ≤ length (now table)) × Passes (length (now by)) (now next) start stride (length (now out)) (now table) ⌝ }
     ensures { λ _. ⌜ (length (now (out .exit)) ≡ length (now (out .entry))) × ((j : ℕ) → j < length (now (out .entry)) → getD (now (out .exit)) j 0 ≡ (reduce p (getD (now (out .entry)) j 0) ⊕ sum (residues p) (length (now (by .entry))) (λ t. line p (now (by .entry)) 0 1 t ⊗ line p (now (table .entry)) (start + j) stride t)) .value) ⌝ }
 {
     if by.len() != 0 {
-        let a = next_row(by, start, stride, 0);
-        let b = next_row(by, start, stride, a.next);
-        let c = next_row(by, start, stride, b.next);
-        let d = next_row(by, start, stride, c.next);
+        let a = next_row(by, next, start, stride, 0);
+        let b = next_row(by, next, start, stride, a.next);
+        let c = next_row(by, next, start, stride, b.next);
+        let d = next_row(by, next, start, stride, c.next);
         if d.next == by.len() {
             add_four(p, table, a, b, c, d, out);
             return;
         }
     }
-    add_all(p, by, table, start, stride, out);
+    add_all(p, by, next, table, start, stride, out);
+}
+
+// The same, over all rows.
+pub fn combine(p: u32, by: &[u32], table: &[u32], start: usize, stride: usize, out: &mut [u32])
+    requires { ⌜ (0 < p) × (p ≤ 2147483647) × (length (now by) ≤ 64) × (length (now out) ≤ 64) × Below p (now by) × Below p (now table) × ((t : ℕ) → t < length (now by) → start + t * stride + length (now out) ≤ length (now table)) ⌝ }
+    ensures { λ _. ⌜ (length (now (out .exit)) ≡ length (now (out .entry))) × ((j : ℕ) → j < length (now (out .entry)) → getD (now (out .exit)) j 0 ≡ (reduce p (getD (now (out .entry)) j 0) ⊕ sum (residues p) (length (now (by .entry))) (λ t. line p (now (by .entry)) 0 1 t ⊗ line p (now (table .entry)) (start + j) stride t)) .value) ⌝ }
+{
+    let next = each_row();
+    combine_listed(p, by, &next, table, start, stride, out);
 }

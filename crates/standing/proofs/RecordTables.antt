@@ -9,8 +9,10 @@ use lib.ListN.{length, getD, take, drop, length-drop}
 use lib.Seq.{length-take-le, getD-take, getD-drop}
 use Rattle.algebra.specs.Matrix.{sum, product, apply}
 use Rattle.algebra.proofs.Sums.{sum-same}
+use Rattle.algebra.proofs.Step.{product-row}
 use Rattle.field.specs.Residue.{Residue, reduce, residues, _⊗_}
-use Rattle.field.specs.View.{line, table, Below}
+use Rattle.field.specs.View.{line, table, Below, Blank}
+use Rattle.field.proofs.Field.{residues-ring}
 use Rattle.field.proofs.Views.{table-entry}
 use Rattle.elimination.proofs.StepNegative.{taken-below, dropped-below}
 use Rattle.ledger.specs.Board.{headerLength, rowLength, boardLength}
@@ -68,6 +70,13 @@ module _ (k j : ℕ) (d : List ℕ) (inside : j * k + k ≤ length d) where
         ∙ sum-same (residues p) k (λ t. line p (rowPart k j d) 0 1 t ⊗ line p rows (0 + c) n t)
         (λ t. table p d 0 k n k j t ⊗ table p rows 0 n k n t c)
         (λ t l. ap₂ (λ (a b : Residue p). a ⊗ b) (row-entry t l) (column-entry p n k rows t c l b))
+
+    -- a row of zeros gives zeros
+    pub zero-row-times : 0 < p → Blank (rowPart k j d) → (rows : List ℕ) (c : ℕ)
+        → product (residues p) k (table p d 0 k n k) (table p rows 0 n k n) j c ≡ reduce p 0
+    unfolding line
+    zero-row-times positive blank rows c =
+        product-row (residues p) (residues-ring p positive) k _ _ j (λ t l. sym (row-entry t l) ∙ ap (reduce p) (blank (0 + t * 1))) c
 
     -- the entry j of D v
     values-sum : (board : List ℕ)

@@ -1,5 +1,5 @@
 -- The numbers of a unit row, and that a row of numbers is the unit row exactly if their residues are.
-use mathlib.Core.Path.{_≡_, sym, ap, _∙_}
+use mathlib.Core.Path.{_≡_, refl, sym, ap, _∙_}
 use mathlib.Core.Bool.{Bool, true, false}
 use mathlib.Core.List.{List}
 use Prim.Native.Nat.{ℕ, _<_}
@@ -28,6 +28,13 @@ unit-value p j t h = by-test (eqb j t)
     by-test : (b : Bool) → choose b (reduce p 1) (reduce p 0) .value ≡ choose b 1 0
     by-test true = reduce-small p 1 h
     by-test false = reduce-small p 0 (omega arith)
+
+-- it is not zeros
+pub unit-not-zero : (p j : ℕ) → 1 < p → reduce p 0 ≡ unit (residues p) j j → ⊥
+unit-not-zero p j h e =
+    let v : _≡_ {A = ℕ} 0 1 =
+    sym (reduce-small p 0 (omega arith)) ∙ ap (λ a. a .value) e ∙ unit-value p j j h ∙ unit-here j j refl in
+    absurd (omega arith)
 
 -- e has the values of the first n residues of x
 module _

@@ -81,7 +81,7 @@ module _ (p n k : ℕ) (ok : IsModulus p) (size : FrameSize n) (count : k ≤ n)
         d-below = λ q l. rw (zero-at q (omega (arith, length-take (k * n) d))) positive;
         fits = omega arith;
         blank = λ i j h l. zero-at (0 + i * k + j) (omega (arith, mul-le-mul-right k h));
-        columns-long = length-take-le n columns (omega (arith, size .1, room .columns-long));
+        columns-long = omega (arith, length-take-le n columns (omega (arith, size .1, room .columns-long)));
         rows-long = length-take-le k chosen (omega (arith, size .1, room .chosen-long));
       }
     where

@@ -31,15 +31,19 @@ fn is_unit(e: &[u32], j: usize) -> bool
     true
 }
 
-// Whether row j of D R is the unit row of j.
+// Whether row j of D R is the unit row of j; it is zeros where row j of D is.
 fn settled(p: u32, n: usize, k: usize, j: usize, rows: &[u32], d: &[u32]) -> bool
     requires { ⌜ (1 < p) × (p ≤ 2147483647) × (n ≤ 64) × (k ≤ 64) × (j < n) × (length (now rows) ≡ 4096) × (length (now d) ≡ 4096) × Below p (now rows) × Below p (now d) ⌝ }
     ensures { λ r. ⌜ Tells r (UnitAt p n k j (now (rows .entry)) (now (d .entry))) ⌝ }
 {
-    let mut e = field::rooms::row_room();
     let at = j * k;
     let end = at + k;
-    field::sums::combine(p, &d[at..end], rows, 0, n, &mut e[..n]);
+    let row = &d[at..end];
+    if blocks::all_zero(row) {
+        return false;
+    }
+    let mut e = field::rooms::row_room();
+    field::sums::combine(p, row, rows, 0, n, &mut e[..n]);
     is_unit(&e[..n], j)
 }
 

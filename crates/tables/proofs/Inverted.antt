@@ -88,7 +88,7 @@ cleared-eliminable p m n a d columns rows k r z =
       d-below = λ i l. omega (arith, z i, k .is-modulus .prime .two-or-more);
       fits = omega arith;
       blank = λ i j h l. z (0 + i * m + j);
-      columns-long = r .columns-long;
+      columns-long = omega (arith, r .columns-long);
       rows-long = r .rows-long;
     }
 

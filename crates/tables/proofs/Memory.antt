@@ -14,11 +14,13 @@ use Rattle.algebra.specs.Matrix.{Matrix, sum, unit, product, apply}
 use Rattle.algebra.specs.Quasiinverse.{Marks, count}
 use Rattle.algebra.specs.Kernel.{kernelVector}
 use Rattle.algebra.specs.Solve.{mixOf}
+use Rattle.algebra.proofs.Rings.{zero-times}
 use Rattle.algebra.proofs.Sums as sums
 use Rattle.field.specs.Residue.{residues, reduce, _⊕_, _⊗_, negated}
 use Rattle.field.specs.View.{line, table, Below, Blank}
 use Rattle.field.specs.Written.{tabulate, rowsOf, marksOf}
 use Rattle.field.proofs.Residues.{reduce-small}
+use Rattle.field.proofs.Field.{residues-ring}
 use Rattle.field.proofs.Totals.{total, total-zero, total-suc}
 use Rattle.field.proofs.Views.{table-entry}
 use Rattle.field.proofs.Walk.{Walked}
@@ -117,6 +119,18 @@ dot-of-part p x i k y j width r h e =
     ∙ ap (λ v. v .value)
     (ap (λ q. sum (residues p) q (λ t. line p (take (s + k - s) (drop s x)) 0 1 t ⊗ line p y j width t)) (part-long x s k h)
     ∙ sums.sum-same (residues p) k _ _ (λ t b. ap (λ v. v ⊗ line p y j width t) (part-line p x s k t b)))
+
+-- which is 0 where the part is zeros
+pub zero-of-part : (p : ℕ) (x : List ℕ) (i k : ℕ) (y : List ℕ) (j width : ℕ) → 0 < p → i * k + k ≤ length x
+    → Blank (take (i * k + k - i * k) (drop (i * k) x)) → 0 ≡ (crossed p k x i y j width) .value
+unfolding line
+zero-of-part p x i k y j width positive h blank =
+    dot-of-part p x i k y j width 0 h
+    (sym (reduce-small p 0 positive)
+    ∙ ap (λ v. v .value)
+    (sym
+    (sums.sum-zeros (residues p) (residues-ring p positive) (length (take (i * k + k - i * k) (drop (i * k) x))) _
+    (λ t b. ap (λ v. reduce p v ⊗ line p y j width t) (blank (0 + t * 1)) ∙ zero-times (residues p) (residues-ring p positive) _))))
 
 -- the entry of a product of tables: a row of the one along a column of the other
 pub product-lines : (p m k n : ℕ) (x y : List ℕ) (i j : ℕ) → i < m → j < n

@@ -42,14 +42,18 @@ pub fn first_difference(xs: &[u32], ys: &[u32]) -> usize
     i
 }
 
-// The entry at row i and column j of X Y, where a row of x has k numbers and a row of y `width`.
+// The entry at row i and column j of X Y, where a row of x has k numbers and a row of y `width`. Many rows of D are zeros.
 fn product_entry(p: u32, k: usize, x: &[u32], i: usize, y: &[u32], j: usize, width: usize) -> u32
     requires { ⌜ Crossing p k (now x) i (now y) j width ⌝ }
     ensures { λ r. ⌜ r ≡ (crossed p k (now (x .entry)) i (now (y .entry)) j width) .value ⌝ }
 {
     let start = i * k;
     let end = start + k;
-    field::sums::dot(p, &x[start..end], y, j, width)
+    let row = &x[start..end];
+    if blocks::all_zero(row) {
+        return 0;
+    }
+    field::sums::dot(p, row, y, j, width)
 }
 
 // The entry at row i and column j of 1 - X Y.

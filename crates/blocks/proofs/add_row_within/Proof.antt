@@ -1,37 +1,16 @@
--- `blocks::add_row_within` meets its contract: where the multipliers are all 0 the row is as it was, and else the copy has the
--- multipliers that stood in z.
+-- `blocks::add_row_within` meets its contract: where the mark is 0 the row is as it was, and else the copy has the multipliers
+-- that stood in z.
 use native.Mathlib.Omega.{arith}
 use borrow.Author.Needs.{needs}
 use Rattle.blocks.proofs.Places.{copied-below}
-use Rattle.blocks.proofs.PlaceRows.{is-part, row-fits, row-skipped, factors-front, copied-row, multiplied-left}
+use Rattle.blocks.proofs.PlaceRows.{row-fits, row-skipped, factors-front, copied-row, multiplied-left}
 use Rattle.blocks.proofs.add_row_within.Statement.{statement}
 use Rattle.blocks.proofs.add_row_within.Tie as tie
 
-add-x-end : tie.Need-add-x-end
-add-x-end c = omega (arith, row-fits (c .before .before .pre .left))
-
-mul-all-zero : tie.Need-mul-all-zero
-mul-all-zero c = omega (arith, row-fits (c .before .before .pre .left))
-
-sub-all-zero : tie.Need-sub-all-zero
-sub-all-zero c = search needs
-
-part-all-zero-start : tie.Need-part-all-zero-start
-part-all-zero-start c = search needs
-
-part-all-zero-end : tie.Need-part-all-zero-end
-part-all-zero-end c = omega (arith, row-fits (c .before .before .before .pre .left))
-
-all-zero-requires : tie.Need-all-zero-requires
-all-zero-requires c κs = search needs
-
-same-length : tie.Need-same-length
-same-length c = search needs
-
 returns : tie.Need-returns
 returns c =
-    let s = c .before .before .before .before .before .before in
-    row-skipped (s .pre) (is-part (row-fits (s .pre .left))) (c .before .all-zero .ensures .0 (c .if1 .taken))
+    let s = c .before .before .before .before in
+    row-skipped (s .pre .0) (s .pre .2 (c .if1 .taken))
 
 row-room-requires : tie.Need-row-room-requires
 row-room-requires c κs = search needs
@@ -41,27 +20,29 @@ slice-aggregate-copy c = search needs
 
 copy-requires : tie.Need-copy-requires
 copy-requires c κs =
-    let s = c .before .before .before .before .before .before .before .before .before in
-    (row-fits (s .pre .left), omega (arith, c .before .before .row-room .ensures .0, s .pre .inner))
+    let s = c .before .before .before .before .before .before .before in
+    (row-fits (s .pre .0 .left), omega (arith, c .before .before .row-room .ensures .0, s .pre .0 .inner))
 
 slice-aggregate-add-row : tie.Need-slice-aggregate-add-row
 slice-aggregate-add-row c = search needs
 
 add-row-requires : tie.Need-add-row-requires
 add-row-requires c κs =
-    let s = c .before .before .before .before .before .before .before .before .before .before .before .before .before in
+    let s = c .before .before .before .before .before .before .before .before .before .before .before in
     let room = c .before .before .before .before .before .before .row-room .ensures in
-    let copied = c .before .before .before .copy .ensures in
-    factors-front (omega (arith, room .0, copied .same-length, s .pre .inner))
-    (copied-below (s .pre .positive) (room .1) (row-fits (s .pre .left)) (s .pre .left-below) copied)
-    (s .pre)
+    let copied = c .before .before .before .copy .ensures in (
+      factors-front (omega (arith, room .0, copied .same-length, s .pre .0 .inner))
+          (copied-below (s .pre .0 .positive) (room .1) (row-fits (s .pre .0 .left)) (s .pre .0 .left-below) copied)
+          (s .pre .0),
+      s .pre .1,
+    )
 
-same-length-2 : tie.Need-same-length-2
-same-length-2 c = search needs
+same-length : tie.Need-same-length
+same-length c = search needs
 
 returns-2 : tie.Need-returns-2
 returns-2 c =
-    let s = c .before .before .before .before .before .before .before .before .before .before .before .before .before .before .before .before in
+    let s = c .before .before .before .before .before .before .before .before .before .before .before .before .before .before in
     multiplied-left (s .args .z .now) (s .args .x-at) (s .args .k)
     (copied-row (s .args .p) (s .args .k) (c .before .before .before .before .before .before .copy .ensures))
     (c .before .before .add-row .ensures)
@@ -70,18 +51,11 @@ pub add-row-within-spec : {M : Type 1} → statement M
 add-row-within-spec =
     tie.close
     (tie.spec
-    add-x-end
-    mul-all-zero
-    sub-all-zero
-    part-all-zero-start
-    part-all-zero-end
-    all-zero-requires
-    same-length
     returns
     row-room-requires
     slice-aggregate-copy
     copy-requires
     slice-aggregate-add-row
     add-row-requires
-    same-length-2
+    same-length
     returns-2)

@@ -11,21 +11,23 @@ use Rattle.elimination.proofs.eliminate.negative_product.Statement.{sta
 use Rattle.elimination.proofs.eliminate.negative_product.Tie as tie
 
 add-product-requires : tie.Need-add-product-requires
-add-product-requires c κs = c .before .before .before .before .pre .0
+add-product-requires c κs =
+    let pre = c .before .before .before .before .before .pre in
+    (pre .0, pre .1)
 
 -- the rows of Z lie in z, before and after the product
 size-inside :
     (c : tie.After-slice-known2) →
-    let s = c .before .before .before .before .before .before .before in
+    let s = c .before .before .before .before .before .before .before .before in
     (s .args .m * s .args .n ≤ length (s .args .z .now))
-    × (s .args .m * s .args .n ≤ length (c .before .before .add-product .last .1 .1 .1 .1 .1 .1 .1 .1 .1 .1 .0))
+    × (s .args .m * s .args .n ≤ length (c .before .before .add-product .last .1 .1 .1 .1 .1 .1 .1 .1 .1 .1 .1 .0))
 size-inside c =
-    let s = c .before .before .before .before .before .before .before in
+    let s = c .before .before .before .before .before .before .before .before in
     let h = block-long _ _ _ (s .pre .0 .target) in
     (h, omega (arith, c .before .before .add-product .ensures .kept .same-length))
 
 mul-size : tie.Need-mul-size
-mul-size c = let h = size-inside c in omega (arith, c .before .before .before .before .before .before .before .good)
+mul-size c = let h = size-inside c in omega (arith, c .before .before .before .before .before .before .before .before .good)
 
 slice-relend-prefix-negate : tie.Need-slice-relend-prefix-negate
 slice-relend-prefix-negate c = size-inside c .1
@@ -35,11 +37,11 @@ slice-aggregate-negate c = sym (length-take-le _ _ (size-inside (c .before) .1))
 
 negate-requires : tie.Need-negate-requires
 negate-requires c κs =
-    let s = c .before .before .before .before .before .before .before .before in
+    let s = c .before .before .before .before .before .before .before .before .before in
     let added = c .before .before .before .add-product in (
       s .pre .0 .positive,
       s .pre .0 .in-range,
-      taken-below _ (added .last .1 .1 .1 .1 .1 .1 .1 .1 .1 .1 .0) (s .args .m * s .args .n) (added .ensures .kept .below),
+      taken-below _ (added .last .1 .1 .1 .1 .1 .1 .1 .1 .1 .1 .1 .0) (s .args .m * s .args .n) (added .ensures .kept .below),
     )
 
 same-length : tie.Need-same-length
@@ -47,9 +49,9 @@ same-length c = search needs
 
 returns : tie.Need-returns
 returns c =
-    let s = c .before .before .before .before .before .before .before .before .before .before .before in
+    let s = c .before .before .before .before .before .before .before .before .before .before .before .before in
     let e = c .before .before .negate .ensures in
-    negative-product-done (c .before .before .negate .last .1 .0) (s .pre .0) (s .pre .1)
+    negative-product-done (c .before .before .negate .last .1 .0) (s .pre .0) (s .pre .2)
     (c .before .before .before .before .before .before .add-product .ensures)
     (e .0)
     (e .1)

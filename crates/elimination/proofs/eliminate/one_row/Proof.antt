@@ -5,9 +5,13 @@ use native.Mathlib.Nat.{mul-le-mul, pos-of-ne-zero}
 use native.Mathlib.Omega.{arith}
 use lib.ListN.{length}
 use borrow.Author.Needs.{needs}
+use Rattle.elimination.proofs.ElimMarks.{room-fresh}
 use Rattle.elimination.proofs.RowOne.{nothing-chosen, row-zero, place-inside, one-chosen}
 use Rattle.elimination.proofs.eliminate.one_row.Statement.{statement}
 use Rattle.elimination.proofs.eliminate.one_row.Tie as tie
+
+row-room-requires : tie.Need-row-room-requires
+row-room-requires c κs = search needs
 
 least-nonzero-requires : tie.Need-least-nonzero-requires
 least-nonzero-requires c κs = search needs
@@ -16,8 +20,9 @@ least-nonzero-requires c κs = search needs
 returns : tie.Need-returns
 returns c =
     let s = c .before .before .before .before .before .before in
+    let room = c .before .before .row-room in
     let least = c .before .least-nonzero .ensures in
-    nothing-chosen (s .pre) (row-zero (s .args .n) (s .args .a .now) (λ t h. least .1 t (omega arith)))
+    rw (room-fresh (room .result) (room .ensures)) (nothing-chosen (s .pre) (row-zero (s .args .n) (s .args .a .now) (λ t h. least .1 t (omega arith))))
 
 mul-inverse : tie.Need-mul-inverse
 mul-inverse c = search needs
@@ -59,11 +64,13 @@ mul-d-2 c = let h = place c in omega arith
 slice-write-d : tie.Need-slice-write-d
 slice-write-d c = place c .0
 
-mul-columns : tie.Need-mul-columns
-mul-columns c = search needs
+mul-marks : tie.Need-mul-marks
+mul-marks c = search needs
 
-slice-write-columns : tie.Need-slice-write-columns
-slice-write-columns c = search needs
+array-write-marks : tie.Need-array-write-marks
+array-write-marks c =
+    let s = c .before .before .before .before .before .before .before .before in
+    omega (arith, c .before .before .before .before .row-room .ensures .0, s .pre .a-long, s .pre .n-most)
 
 slice-write-rows : tie.Need-slice-write-rows
 slice-write-rows c = search needs
@@ -74,26 +81,24 @@ same-length c = search needs
 same-length-2 : tie.Need-same-length-2
 same-length-2 c = search needs
 
-same-length-3 : tie.Need-same-length-3
-same-length-3 c = search needs
-
 -- the least number other than 0 stands at v
 returns-2 : tie.Need-returns-2
 returns-2 c =
     let s = c .before .before .before .before .before .before .before .before in
     let least = c .before .before .before .least-nonzero in
-    one-chosen (s .pre) (least .result) (c .inverse .result) (omega (arith, s .pre .a-long)) (least .ensures .1)
+    let room = c .before .before .before .before .row-room in
+    rw (room-fresh (room .result) (room .ensures))
+    (one-chosen (s .pre) (least .result) (c .inverse .result) (omega (arith, s .pre .a-long)) (least .ensures .1)
     (c .inverse .ensures .0)
-    (c .inverse .ensures .1)
+    (c .inverse .ensures .1))
 
 pub one-row-spec : {M : Type 1} → statement M
 one-row-spec =
     tie.close
-    (tie.spec least-nonzero-requires returns mul-inverse shared-slice-read-inverse inverse-requires mul-d add-d mul-d-2 slice-write-d
-    mul-columns
-    slice-write-columns
+    (tie.spec row-room-requires least-nonzero-requires returns mul-inverse shared-slice-read-inverse inverse-requires mul-d add-d mul-d-2 slice-write-d
+    mul-marks
+    array-write-marks
     slice-write-rows
     same-length
     same-length-2
-    same-length-3
     returns-2)
