@@ -8,13 +8,12 @@ use lib.ListN.{length}
 use Rattle.algebra.specs.Matrix.{Matrix, add, negative, product}
 use Rattle.algebra.proofs.Matrices.{product-negative}
 use Rattle.field.specs.Residue.{residues}
-use Rattle.field.specs.View.{table, Below, Blank}
+use Rattle.field.specs.View.{table, Below}
 use Rattle.field.proofs.Field.{residues-ring}
 use Rattle.blocks.specs.Places.{Block, Factors, Kept, Multiplied}
 use Rattle.elimination.specs.Eliminated.{Halves, Joined}
 use Rattle.blocks.proofs.Places.{kept-trans, kept-wider, table-kept}
 use Rattle.elimination.proofs.StepNegative.{rows-block, columns-block}
-use Rattle.field.proofs.Views.{blank-below}
 use Rattle.elimination.proofs.StepReduce.{modulus-positive, quarter-room}
 
 module _ {p m₁ m₂ n : ℕ} {a d : List ℕ} {at stride : ℕ} {t c : List ℕ} (h : Halves p m₁ m₂ n a d at stride t c) where
@@ -25,9 +24,9 @@ module _ {p m₁ m₂ n : ℕ} {a d : List ℕ} {at stride : ℕ} {t c : List �
   small-room : m₁ * m₂ ≤ length c
   small-room = omega (arith, mul-le-mul (h .upper-most) (h .lower-most), h .c-long)
 
-  -- B F into c, which was cleared
-  pub join-first : (c′ : List ℕ) → length c′ ≡ length c → Blank c′ → Factors p m₁ n m₂ a 0 n d (at + m₁) stride c′ 0 m₂
-  join-first c′ long blank =
+  -- B F into c
+  pub join-first : Below p c → Factors p m₁ n m₂ a 0 n d (at + m₁) stride c 0 m₂
+  join-first c-below =
       record {
         positive = modulus-positive h;
         in-range = h .is-modulus .in-range;
@@ -35,10 +34,10 @@ module _ {p m₁ m₂ n : ℕ} {a d : List ℕ} {at stride : ℕ} {t c : List �
         columns = omega (arith, h .lower-most);
         left = rows-block a m₁ n (h .a-long);
         right = lower-block;
-        target = rows-block c′ m₁ m₂ (omega (arith, small-room));
+        target = rows-block c m₁ m₂ small-room;
         left-below = h .a-below;
         right-below = h .d-below;
-        below = blank-below p c′ (modulus-positive h) blank;
+        below = c-below;
       }
 
   -- F + E (-(B F)) for F

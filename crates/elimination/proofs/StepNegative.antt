@@ -1,6 +1,6 @@
--- Blocks that lie in memory as Algorithm Q has them, and the product whose negative is put into a blank block: what
+-- Blocks that lie in memory as Algorithm Q has them, and the product whose negative is put into a block that is cleared first: what
 -- `negative_product` leaves.
-use mathlib.Core.Path.{_≡_, sym, ap, subst, _∙_}
+use mathlib.Core.Path.{_≡_, ap, _∙_}
 use mathlib.Core.List.{List, _++_}
 use Prim.Native.Nat.{ℕ, zero, suc, _+_, _*_, _-_, _≤_, _<_, min}
 use native.Mathlib.Nat.{mul-le-mul-right}
@@ -13,6 +13,7 @@ use Rattle.algebra.proofs.Matrices.{zeros-add}
 use Rattle.field.specs.Residue.{reduce, residues, negated}
 use Rattle.field.specs.View.{table, Below, Blank}
 use Rattle.field.proofs.Field.{residues-ring}
+use Rattle.field.proofs.Views.{blank-below}
 use Rattle.blocks.specs.Places.{Block, Factors, Multiplied}
 use Rattle.blocks.proofs.Places.{front-inside, front-below, table-negative}
 use Rattle.elimination.proofs.ElimTables.{blank-table}
@@ -45,54 +46,89 @@ dropped-below p xs k below i h =
     let l : i < length xs - k = rw (length-drop k xs) at h in
     rw (getD-drop k xs i 0) (below (k + i) (omega arith))
 
--- Z becomes X Y and then, number by number, its negative; `front` is what stands there then
-module _ {p m k n : ℕ} {x : List ℕ} {x-stride : ℕ} {y : List ℕ} {y-start y-stride : ℕ} {z z′ : List ℕ} (front : List ℕ)
+-- what is asked of Z
+module _ {p m k n : ℕ} {x : List ℕ} {x-stride : ℕ} {y : List ℕ} {y-start y-stride : ℕ} {z : List ℕ}
     (f : Factors p m k n x 0 x-stride y y-start y-stride z 0 n)
-    (blank : Blank z)
-    (multiplied : Multiplied p m k n x 0 x-stride y y-start y-stride z z′ 0 n)
-    (long : length front ≡ length (take (m * n) z′))
-    (below : Below p front)
-    (each : (j : ℕ) → j < length (take (m * n) z′) → reduce p (getD front j 0) ≡ negated (reduce p (getD (take (m * n) z′) j 0)))
   where
-    ring : IsCommutativeRing (residues p)
-    ring = residues-ring p (f .positive)
+    pub size-inside : m * n ≤ length z
+    size-inside = block-long z m n (f .target)
 
-    XY : Matrix (residues p)
-    XY = product (residues p) k (table p x 0 x-stride m k) (table p y y-start y-stride k n)
+    -- its rows are cleared
+    module _ (zeros : List ℕ) (zeros-long : length zeros ≡ length (take (m * n) z)) (blank : Blank zeros) where
+      abbrev cleared : List ℕ
+      cleared = zeros ++ drop (m * n) z
 
-    rows-inside : m * n ≤ length z′
-    rows-inside = subst (λ l. m * n ≤ l) (sym (multiplied .kept .same-length)) (block-long z m n (f .target))
+      size : length zeros ≡ m * n
+      size = zeros-long ∙ length-take-le (m * n) z size-inside
 
-    part-long : length (take (m * n) z′) ≡ m * n
-    part-long = length-take-le (m * n) z′ rows-inside
+      pub cleared-long : length cleared ≡ length z
+      cleared-long = length-front z zeros (m * n) zeros-long
 
-    negated-long : length (front ++ drop (m * n) z′) ≡ length z
-    negated-long = length-front z′ front (m * n) long ∙ multiplied .kept .same-length
+      cleared-zero : (q : ℕ) → q < m * n → getD cleared q 0 ≡ 0
+      cleared-zero q h = front-inside z (m * n) zeros size q h ∙ blank q
 
-    negated-below : Below p (front ++ drop (m * n) z′)
-    negated-below = front-below z′ (m * n) front (long ∙ part-long) p (multiplied .kept .below) below rows-inside
+      pub cleared-factors : Factors p m k n x 0 x-stride y y-start y-stride cleared 0 n
+      cleared-factors =
+          record {
+            positive = f .positive;
+            in-range = f .in-range;
+            inner = f .inner;
+            columns = f .columns;
+            left = f .left;
+            right = f .right;
+            target = rows-block cleared m n (omega (arith, cleared-long, size-inside));
+            left-below = f .left-below;
+            right-below = f .right-below;
+            below = front-below z (m * n) zeros size p (f .below) (blank-below p zeros (f .positive) blank) size-inside;
+          }
 
-    is-product : table p z′ 0 n m n ≡ XY
-    unfolding XY
-    is-product =
-        multiplied .result
-        ∙ ap (λ Z. add (residues p) Z XY) (blank-table p z 0 n m n (λ i j h l. blank (0 + i * n + j)))
-        ∙ zeros-add (residues p) ring XY
+      -- Z becomes X Y and then, number by number, its negative; `front` is what stands there then
+      module _ {z′ : List ℕ} (front : List ℕ)
+          (multiplied : Multiplied p m k n x 0 x-stride y y-start y-stride cleared z′ 0 n)
+          (long : length front ≡ length (take (m * n) z′))
+          (below : Below p front)
+          (each : (j : ℕ) → j < length (take (m * n) z′) → reduce p (getD front j 0) ≡ negated (reduce p (getD (take (m * n) z′) j 0)))
+        where
+          ring : IsCommutativeRing (residues p)
+          ring = residues-ring p (f .positive)
 
-    is-negative : table p (front ++ drop (m * n) z′) 0 n m n ≡ negative (residues p) XY
-    is-negative =
-        table-negative p (f .positive) z′ (front ++ drop (m * n) z′) 0 n m n
-        (λ i j h l.
-        let inside : 0 + i * n + j < m * n = omega (arith, row-inside m n i h) in
-        ap (reduce p) (front-inside z′ (m * n) front (long ∙ part-long) (0 + i * n + j) inside)
-        ∙ each (0 + i * n + j) (omega (arith, part-long))
-        ∙ ap (λ r. negated (reduce p r)) (getD-take (m * n) z′ (0 + i * n + j) 0 inside))
-        ∙ ap (negative (residues p)) is-product
+          XY : Matrix (residues p)
+          XY = product (residues p) k (table p x 0 x-stride m k) (table p y y-start y-stride k n)
 
-    pub negative-product-done :
-        (length (front ++ drop (m * n) z′) ≡ length z)
-        × Below p (front ++ drop (m * n) z′)
-        × (table p (front ++ drop (m * n) z′) 0 n m n
-        ≡ negative (residues p) (product (residues p) k (table p x 0 x-stride m k) (table p y y-start y-stride k n)))
-    unfolding XY
-    negative-product-done = (negated-long, negated-below, is-negative)
+          rows-inside : m * n ≤ length z′
+          rows-inside = omega (arith, size-inside, cleared-long, multiplied .kept .same-length)
+
+          part-long : length (take (m * n) z′) ≡ m * n
+          part-long = length-take-le (m * n) z′ rows-inside
+
+          negated-long : length (front ++ drop (m * n) z′) ≡ length z
+          negated-long = length-front z′ front (m * n) long ∙ multiplied .kept .same-length ∙ cleared-long
+
+          negated-below : Below p (front ++ drop (m * n) z′)
+          negated-below = front-below z′ (m * n) front (long ∙ part-long) p (multiplied .kept .below) below rows-inside
+
+          is-product : table p z′ 0 n m n ≡ XY
+          unfolding XY
+          is-product =
+              multiplied .result
+              ∙ ap (λ Z. add (residues p) Z XY)
+              (blank-table p cleared 0 n m n (λ i j h l. cleared-zero (0 + i * n + j) (omega (arith, row-inside m n i h))))
+              ∙ zeros-add (residues p) ring XY
+
+          is-negative : table p (front ++ drop (m * n) z′) 0 n m n ≡ negative (residues p) XY
+          is-negative =
+              table-negative p (f .positive) z′ (front ++ drop (m * n) z′) 0 n m n
+              (λ i j h l.
+              let inside : 0 + i * n + j < m * n = omega (arith, row-inside m n i h) in
+              ap (reduce p) (front-inside z′ (m * n) front (long ∙ part-long) (0 + i * n + j) inside)
+              ∙ each (0 + i * n + j) (omega (arith, part-long))
+              ∙ ap (λ r. negated (reduce p r)) (getD-take (m * n) z′ (0 + i * n + j) 0 inside))
+              ∙ ap (negative (residues p)) is-product
+
+          pub negative-product-done :
+              (length (front ++ drop (m * n) z′) ≡ length z)
+              × Below p (front ++ drop (m * n) z′)
+              × (table p (front ++ drop (m * n) z′) 0 n m n
+              ≡ negative (residues p) (product (residues p) k (table p x 0 x-stride m k) (table p y y-start y-stride k n)))
+          unfolding XY
+          negative-product-done = (negated-long, negated-below, is-negative)

@@ -13,7 +13,7 @@ use blocks::add_product_within;
 use field::rooms::row_room;
 
 // The least position of a number that is not 0, or the length where there is none.
-pub fn least_nonzero(xs: &[u32]) -> usize
+fn least_nonzero(xs: &[u32]) -> usize
     ensures { λ r. ⌜ (r ≤ length (now (xs .entry))) × ((t : ℕ) → t < r → getD (now (xs .entry)) t 0 ≡ 0) × (r < length (now (xs .entry)) → getD (now (xs .entry)) r 0 ≡ 0 → ⊥) ⌝ }
 {
     let len = xs.len();
@@ -29,7 +29,7 @@ pub fn least_nonzero(xs: &[u32]) -> usize
 }
 
 // One row: the select step takes the least usable column v, and D has 1 / a(v) there. Answers the column marks: v is marked.
-pub fn one_row(
+fn one_row(
     p: u32,
     n: usize,
     a: &[u32],
@@ -66,8 +66,7 @@ fn add_marks(n: usize, xs: &[u32], marks: &mut [u32])
     }
 }
 
-// -(X Y) for Z, m rows of n numbers one behind the other, where X has k columns; z holds zeros before. The list leads over rows
-// of Y that are zeros.
+// -(X Y) for Z, m rows of n numbers one behind the other, where X has k columns. The list leads over rows of Y that are zeros.
 fn negative_product(
     p: u32,
     m: usize,
@@ -81,9 +80,11 @@ fn negative_product(
     y_stride: usize,
     z: &mut [u32],
 )
-    requires { ⌜ Factors p m k n (now x) 0 «x_stride» (now y) «y_start» «y_stride» (now z) 0 n × Passes k (now next) «y_start» «y_stride» n (now y) × Blank (now z) ⌝ }
+    requires { ⌜ Factors p m k n (now x) 0 «x_stride» (now y) «y_start» «y_stride» (now z) 0 n × Passes k (now next) «y_start» «y_stride» n (now y) ⌝ }
     ensures { λ _. ⌜ (length (now (z .exit)) ≡ length (now (z .entry))) × Below p (now (z .exit)) × (table p (now (z .exit)) 0 n m n ≡ negative (residues p) (product (residues p) k (table p (now (x .entry)) 0 «x_stride» m k) (table p (now (y .entry)) «y_start» «y_stride» k n))) ⌝ }
 {
+    let size = m * n;
+    blocks::clear(&mut z[..size]);
     add_product(
         p,
         m,
@@ -100,7 +101,6 @@ fn negative_product(
         0,
         n,
     );
-    let size = m * n;
     blocks::negate(p, &mut z[..size]);
 }
 
@@ -148,13 +148,12 @@ fn join_halves(
     at: usize,
     stride: usize,
 )
-    requires { ⌜ Halves p m1 m2 n (now a) (now d) at stride (now t) (now c) × Below p (now t) × Used n m1 (now d) at stride (now upper) × Used n m2 (now d) (at + m1) stride (now marks) ⌝ }
+    requires { ⌜ Halves p m1 m2 n (now a) (now d) at stride (now t) (now c) × Below p (now t) × Below p (now c) × Used n m1 (now d) at stride (now upper) × Used n m2 (now d) (at + m1) stride (now marks) ⌝ }
     ensures { λ _. ⌜ Joined p m1 m2 n (now (a .entry)) (now (t .entry)) (now (d .entry)) (now (d .exit)) at stride × BothMarked n (now (upper .entry)) (now (marks .entry)) (now (marks .exit)) ⌝ }
 {
     let middle = at + m1;
     let mut next = row_room();
     blocks::list_marked(&marks[..n], &mut next);
-    blocks::clear(c);
     negative_product(p, m1, n, m2, a, n, &next, d, middle, stride, c);
     add_product_within(p, n, m1, m2, upper, at, c, 0, m2, d, middle, stride);
     add_marks(n, upper, marks);

@@ -19,7 +19,7 @@ fn put_number(bytes: &mut [u8], at: usize, x: u32)
 }
 
 // The bit map of up to 64 multipliers, as eight bytes: record j owns bit j mod 8 of byte j/8.
-pub fn map_of(multipliers: &[u32]) -> [u8; 8]
+fn map_of(multipliers: &[u32]) -> [u8; 8]
     requires { ⌜ length (now multipliers) ≤ 64 ⌝ }
     ensures { λ r. ⌜ r ≡ tabulate 8 (mapByte (stands (now (multipliers .entry)))) ⌝ }
 {

@@ -27,7 +27,7 @@ pub enum FrameInput {
 }
 
 // Writes the word from `at` on.
-pub fn put_word(out: &mut [u8], at: usize, word: &[u8]) -> usize
+fn put_word(out: &mut [u8], at: usize, word: &[u8]) -> usize
     requires { ⌜ at + length (now word) ≤ length (now out) ⌝ }
     ensures { λ r. ⌜ Put at (now (word .entry)) (now (out .entry)) (now (out .exit)) r ⌝ }
 {
@@ -49,7 +49,7 @@ fn put_digit(out: &mut [u8], at: usize, d: u32) -> usize
 }
 
 // Writes the decimal digits of n from `at` on: those of n / 10, and then the last.
-pub fn put_decimal(out: &mut [u8], at: usize, n: u32) -> usize
+fn put_decimal(out: &mut [u8], at: usize, n: u32) -> usize
     requires { ⌜ at + length (decimal n) ≤ length (now out) ⌝ }
     ensures { λ r. ⌜ Put at (decimal n) (now (out .entry)) (now (out .exit)) r ⌝ }
 {

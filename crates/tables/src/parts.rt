@@ -66,7 +66,7 @@ fn rest_entry(p: u32, k: usize, x: &[u32], i: usize, y: &[u32], j: usize, width:
 }
 
 // Column c of 1 - D A.
-pub fn kernel_vector(p: u32, m: usize, n: usize, a: &[u32], d: &[u32], c: usize, out: &mut [u32])
+fn kernel_vector(p: u32, m: usize, n: usize, a: &[u32], d: &[u32], c: usize, out: &mut [u32])
     requires { ⌜ Tables p m n (now a) (now d) × (c < n) × (length (now out) ≡ n) ⌝ }
     ensures { λ _. ⌜ now (out .exit) ≡ numbers n (kernelVector (residues p) m (table p (now (d .entry)) 0 m n m) (table p (now (a .entry)) 0 n m n) c) ⌝ }
 {

@@ -309,6 +309,7 @@ module _ (t : ℕ) where
       let E = lower .half2 .ensures in (
         h,
         reduced .reduce-rows .ensures .t-below,
+        reduced .reduce-rows .ensures .c-below,
         used-kept (h .fits) (E .kept) (upper-used upper),
         marked-used E (h .d-long) (omega (arith, h .fits)) (h .n-most),
       )

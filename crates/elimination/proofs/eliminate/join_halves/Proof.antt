@@ -19,10 +19,10 @@ row-room-requires : tie.Need-row-room-requires
 row-room-requires c κs = search needs
 
 slice-reshare-prefix-list-marked : tie.Need-slice-reshare-prefix-list-marked
-slice-reshare-prefix-list-marked c = c .before .before .before .before .before .before .before .pre .3 .long
+slice-reshare-prefix-list-marked c = c .before .before .before .before .before .before .before .pre .4 .long
 
 slice-aggregate-list-marked : tie.Need-slice-aggregate-list-marked
-slice-aggregate-list-marked c = sym (length-take-le _ _ (c .before .before .before .before .before .before .before .before .pre .3 .long))
+slice-aggregate-list-marked c = sym (length-take-le _ _ (c .before .before .before .before .before .before .before .before .pre .4 .long))
 
 slice-aggregate-list-marked-2 : tie.Need-slice-aggregate-list-marked-2
 slice-aggregate-list-marked-2 c = sym (c .before .before .row-room .ensures .0)
@@ -31,47 +31,43 @@ list-marked-requires : tie.Need-list-marked-requires
 list-marked-requires c κs =
     let s = c .before .before .before .before .before .before .before .before .before in
     let pre = s .pre in
-    let long = length-take-le (s .args .n) (s .args .marks .now) (pre .3 .long) in
+    let long = length-take-le (s .args .n) (s .args .marks .now) (pre .4 .long) in
     (omega (arith, long, pre .0 .n-most), omega (arith, long, pre .0 .n-most, c .before .before .row-room .ensures .0))
 
-clear-requires : tie.Need-clear-requires
-clear-requires c κs = search needs
-
 slice-aggregate-negative-product : tie.Need-slice-aggregate-negative-product
-slice-aggregate-negative-product c = sym (c .before .before .before .before .before .before .list-marked .ensures .0 ∙ c .before .before .before .before .before .before .before .before .before .row-room .ensures .0)
+slice-aggregate-negative-product c = sym (c .before .before .list-marked .ensures .0 ∙ c .before .before .before .before .before .row-room .ensures .0)
 
 negative-product-requires : tie.Need-negative-product-requires
 negative-product-requires c κs =
-    let pre = c .before .before .before .before .before .before .before .before .before .before .before .before .before .before .before .before .before .before .pre in
-    let e = c .before .before .before .before .before .clear .ensures in
-    (join-first (pre .0) _ (e .0) (e .1), listed-passes (pre .3) (c .before .before .before .before .before .before .before .before .list-marked .ensures .1), e .1)
+    let pre = c .before .before .before .before .before .before .before .before .before .before .before .before .before .before .pre in
+    (join-first (pre .0) (pre .2), listed-passes (pre .4) (c .before .before .before .before .list-marked .ensures .1))
 
 add-product-within-requires : tie.Need-add-product-within-requires
 add-product-within-requires c κs =
     let negative = c .before .before .before .before in
-    let cleared = negative .before .before .before .before .before .before in
-    let pre = cleared .before .before .before .before .before .before .before .before .before .before .before .before .before .pre in
+    let pre = negative .before .before .before .before .before .before .before .before .before .before .before .before .before .before .before .pre in
     let e = negative .negative-product .ensures in
-    let second = join-second (pre .0) _ (e .0 ∙ cleared .clear .ensures .0) (e .1) in
-    (second .0, second .1, second .2, second .3, pre .2)
+    let second = join-second (pre .0) _ (e .0) (e .1) in
+    (second .0, second .1, second .2, second .3, pre .3)
 
 add-marks-requires : tie.Need-add-marks-requires
 add-marks-requires c κs =
-    let pre = c .before .before .before .before .before .before .before .before .before .before .before .before .before .before .before .before .before .before .before .before .before .before .before .before .before .before .before .pre in
-    (pre .2 .long, pre .3 .long)
+    let pre = c .before .before .before .before .before .before .before .before .before .before .before .before .before .before .before .before .before .before .before .before .before .before .before .pre in
+    (pre .3 .long, pre .4 .long)
 
 add-product-within-requires-2 : tie.Need-add-product-within-requires-2
 add-product-within-requires-2 c κs =
     let within = c .before .before .before .before .before .before .before .before in
     let both = c .before .before .before .before .add-marks .ensures in
-    let pre = within .before .before .before .before .before .before .before .before .before .before .before .before .before .before .before .before .before .before .before .before .before .before .before .before .pre in
+    let pre = within .before .before .before .before .before .before .before .before .before .before .before .before .before .before .before .before .before .before .before .before .pre in
     let e = within .add-product-within .ensures in
     let third = join-third (pre .0) (pre .1) _ (e .kept) in (
       third .0,
       third .1,
       third .2,
       third .3,
-      used-product (modulus-positive (pre .0)) (lower-block (pre .0)) e (pre .2) (pre .3) (omega (arith, pre .3 .long, both .same-length)) (both-zero both),
+      used-product (modulus-positive (pre .0)) (lower-block (pre .0)) e (pre .3) (pre .4) (omega (arith, pre .4 .long, both .same-length))
+          (both-zero both),
     )
 
 same-length : tie.Need-same-length
@@ -87,7 +83,7 @@ returns : tie.Need-returns
 returns c =
     let first = c .before .before .before .before .before .before .before .before .before .before .before in
     let negative = c .before .before .before .before .before .before .before .before .before .before .before .before .before .before .before .before in
-    let pre = negative .before .before .before .before .before .before .before .before .before .before .before .before .before .before .before .before .before .before .before .pre in (
+    let pre = negative .before .before .before .before .before .before .before .before .before .before .before .before .before .before .before .pre in (
       joined (pre .0) (negative .negative-product .ensures .2) (first .add-product-within .ensures)
           (c .before .before .add-product-within2 .ensures),
       c .before .before .before .before .before .before .before .add-marks .ensures,
@@ -103,7 +99,6 @@ join-halves-spec =
     slice-aggregate-list-marked
     slice-aggregate-list-marked-2
     list-marked-requires
-    clear-requires
     slice-aggregate-negative-product
     negative-product-requires
     add-product-within-requires

@@ -34,7 +34,6 @@ negative-product-requires c κs =
     let pre = c .before .before .before .before .before .before .before .before .before .before .before .before .before .pre in (
       reduce-first _ (pre .0) (pre .1) (pre .2) (pre .3) (pre .4),
       listed-passes (pre .5) (c .before .before .before .list-marked .ensures .1),
-      pre .3,
     )
 
 mul-size : tie.Need-mul-size
