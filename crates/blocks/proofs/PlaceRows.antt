@@ -178,15 +178,17 @@ module _ {p k n : ℕ} {x : List ℕ} {x-start x-stride : ℕ} {y : List ℕ} {y
 pub copied-row : (p k : ℕ) {xs : List ℕ} {at : ℕ} {zs by : List ℕ} → Copied xs at k zs by → table p by 0 k 1 k ≡ table p xs at k 1 k
 copied-row p k copied = copied-table p k 1 k copied (λ i h. omega (arith, only-row i k h))
 
--- X may be another matrix that has the same product
-pub multiplied-product : {p m k n : ℕ} {x : List ℕ} {x-start x-stride : ℕ} (x′ : List ℕ) (x-start′ x-stride′ : ℕ) {y : List ℕ} {y-start y-stride : ℕ} {z z′ : List ℕ} {z-start z-stride : ℕ} → product (residues p) k (table p x x-start x-stride m k) (table p y y-start y-stride k n) ≡ product (residues p) k (table p x′ x-start′ x-stride′ m k) (table p y y-start y-stride k n) → Multiplied p m k n x x-start x-stride y y-start y-stride z z′ z-start z-stride → Multiplied p m k n x′ x-start′ x-stride′ y y-start y-stride z z′ z-start z-stride
-multiplied-product {p} {m} {n = n} x′ x-start′ x-stride′ {z = z} {z-start = z-start} {z-stride = z-stride} same M =
-    record { kept = M .kept; result = M .result ∙ ap (add (residues p) (table p z z-start z-stride m n)) same }
-
--- so it may be read from another place where it stands too
+-- X may be read from another place where it stands too
 pub multiplied-left : {p m k n : ℕ} {x : List ℕ} {x-start x-stride : ℕ} (x′ : List ℕ) (x-start′ x-stride′ : ℕ) {y : List ℕ} {y-start y-stride : ℕ} {z z′ : List ℕ} {z-start z-stride : ℕ} → table p x x-start x-stride m k ≡ table p x′ x-start′ x-stride′ m k → Multiplied p m k n x x-start x-stride y y-start y-stride z z′ z-start z-stride → Multiplied p m k n x′ x-start′ x-stride′ y y-start y-stride z z′ z-start z-stride
-multiplied-left {p} {k = k} {n = n} x′ x-start′ x-stride′ {y} {y-start} {y-stride} same =
-    multiplied-product x′ x-start′ x-stride′ (ap (λ X. product (residues p) k X (table p y y-start y-stride k n)) same)
+multiplied-left {p} {m} {k} {n} x′ x-start′ x-stride′ {y} {y-start} {y-stride} {z = z} {z-start = z-start} {z-stride = z-stride} same M =
+    record {
+      kept = M .kept;
+      result =
+          M .result
+          ∙ ap
+          (λ X. add (residues p) (table p z z-start z-stride m n) (product (residues p) k X (table p y y-start y-stride k n)))
+          same;
+    }
 
 -- a row of other columns is as it was
 pub row-kept-elsewhere : {p : ℕ} {xs ys : List ℕ} {start stride m n : ℕ} (start′ k i : ℕ) → start + n ≤ stride → start′ + k ≤ stride → ((j l : ℕ) → j < k → l < n → start′ + j ≡ start + l → ⊥) → Kept p xs ys start stride m n → table p ys (start′ + i * stride) k 1 k ≡ table p xs (start′ + i * stride) k 1 k

@@ -1,4 +1,4 @@
--- What the board test leaves for the calls: the board's multiplier rows side by side, and a quasiinverse of them. One
+-- What the board test leaves for the calls: the board's multiplier rows, one behind the other, and a quasiinverse of them. One
 -- quasiinverse serves the test of independence and everything that the call then asks.
 use mathlib.Core.Path.{_≡_}
 use mathlib.Core.Bool.{true}
@@ -10,7 +10,7 @@ use Rattle.field.specs.Residue.{residues}
 use Rattle.field.specs.View.{table, Below}
 use Rattle.ledger.specs.Board.{IsBoard, headerLength, rowLength, modulusWord, sizeWord, countWord}
 
--- the multiplier rows side by side, with room behind them, and a quasiinverse of them
+-- the multiplier rows, one behind the other, with room behind them, and a quasiinverse of them
 pub record Worked (ws rows d : List ℕ) : Type 0 where
   pub rows-long : length rows ≡ 4096
   pub rows-below : Below (modulusWord ws) rows

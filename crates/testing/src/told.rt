@@ -12,6 +12,7 @@ pub fn number_of(result: u32) -> u32 {
     std::num::wrapping_add_u32(200, result)
 }
 
+// The answer that carries a result.
 pub fn done(result: u32) -> Told {
     Told {
         number: number_of(result),
@@ -19,6 +20,7 @@ pub fn done(result: u32) -> Told {
     }
 }
 
+// The answer of a refusal, which carries nothing.
 pub fn refused(kind: Refusal) -> Told {
     Told {
         number: modulus::number_of(kind),
