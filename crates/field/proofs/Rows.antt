@@ -8,12 +8,11 @@ use native.Mathlib.Omega.{arith}
 use lib.ListN.{length, getD}
 use mir.Val.{Fits}
 use mir.Syntax.{w64}
-use Rattle.algebra.specs.Matrix.{sum}
-use Rattle.field.specs.Residue.{reduce, residues, _⊕_, _⊗_}
-use Rattle.field.specs.View.{line, Zeros}
+use Rattle.field.specs.Residue.{reduce, _⊕_}
+use Rattle.field.specs.View.{Zeros}
 use Rattle.field.specs.Totals.{total, products}
 use Rattle.field.specs.Halves.{Ready, Added, wholeAt}
-use Rattle.field.specs.Four.{Shorts, PassesOver, Passes, Taken, Summed, productAt, fourAt, summedAt}
+use Rattle.field.specs.Four.{Shorts, PassesOver, Passes, Taken, Summed, Combined, productAt, fourAt, summedAt}
 use Rattle.field.specs.declared.sums.Row.{Row}
 use Rattle.field.proofs.Totals.{total-zero, reduce-products}
 use Rattle.field.proofs.Residues.{reduce-plus}
@@ -107,10 +106,13 @@ module _ (by table : List ℕ) (start stride width : ℕ) where
   held-whole lo hi h j k = h .held-at j k .same
 
   -- the combination of the rows, in residues
-  pub summed-combined : (p : ℕ) (before after : List ℕ) → Summed p (sum-at (length by)) before after → (j : ℕ) → j < length before → getD after j 0 ≡ (reduce p (getD before j 0) ⊕ sum (residues p) (length by) (λ t. line p by 0 1 t ⊗ line p table (start + j) stride t)) .value
+  pub summed-combined : (p : ℕ) (before after : List ℕ) → Summed p (sum-at (length by)) before after → Combined p by table start stride before after
   unfolding summedAt
-  summed-combined p before after s j k =
-      s .summed-at j k
-      ∙ ap (λ r. r .value)
-      (reduce-plus p (getD before j 0) (sum-at (length by) j)
-      ∙ ap (λ r. reduce p (getD before j 0) ⊕ r) (reduce-products p (length by) by table (start + j) stride))
+  summed-combined p before after s = (
+    s .long,
+    λ j k.
+        s .summed-at j k
+        ∙ ap (λ r. r .value)
+        (reduce-plus p (getD before j 0) (sum-at (length by) j)
+        ∙ ap (λ r. reduce p (getD before j 0) ⊕ r) (reduce-products p (length by) by table (start + j) stride)),
+  )

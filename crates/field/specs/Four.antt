@@ -4,7 +4,9 @@ use mathlib.Core.Path.{_≡_}
 use mathlib.Core.List.{List}
 use Prim.Native.Nat.{ℕ, _+_, _*_, _%_, _^_, _<_, _≤_}
 use lib.ListN.{length, getD}
-use Rattle.field.specs.Residue.{reduce}
+use Rattle.algebra.specs.Matrix.{sum}
+use Rattle.field.specs.Residue.{reduce, residues, _⊕_, _⊗_}
+use Rattle.field.specs.View.{line}
 use Rattle.field.specs.Totals.{total, products}
 use Rattle.field.specs.declared.sums.Row.{Row}
 
@@ -79,3 +81,11 @@ summedAt p v xs j = (reduce p (getD xs j 0 + v j)) .value
 pub record Summed (p : ℕ) (v : ℕ → ℕ) (before after : List ℕ) : Type 0 where
   pub long : length after ≡ length before
   pub summed-at : (j : ℕ) → j < length before → getD after j 0 ≡ summedAt p v before j
+
+-- after is before, a row, plus the combination of rows of the table with the multipliers `by`, in residues
+abbrev pub Combined : (p : ℕ) (by table : List ℕ) (start stride : ℕ) (before after : List ℕ) → Type 0
+Combined p by table start stride before after =
+    (length after ≡ length before)
+    × ((j : ℕ) → j < length before
+    → getD after j 0
+    ≡ (reduce p (getD before j 0) ⊕ sum (residues p) (length by) (λ t. line p by 0 1 t ⊗ line p table (start + j) stride t)) .value)

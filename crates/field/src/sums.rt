@@ -4,11 +4,11 @@ ghost use mathlib.Core.Path.{_≡_};
 ghost use Prim.Native.Nat.{ℕ, _+_, _*_, _<_, _≤_};
 ghost use lib.ListN.{length, getD};
 ghost use Rattle.algebra.specs.Matrix.{sum};
-ghost use Rattle.field.specs.Residue.{reduce, residues, _⊕_, _⊗_};
+ghost use Rattle.field.specs.Residue.{reduce, residues, _⊗_};
 ghost use Rattle.field.specs.View.{line, Reaches, Below, Zeros};
 ghost use Rattle.field.specs.Totals.{total, products};
 ghost use Rattle.field.specs.Halves.{whole, Room, Ready, Added, wholeAt};
-ghost use Rattle.field.specs.Four.{Shorts, Starts, RowsInside, Leads, Passes, Taken, Inside, Quarter, productAt, fourAt, Powers, Summed};
+ghost use Rattle.field.specs.Four.{Shorts, Starts, RowsInside, Leads, Passes, Taken, Inside, Quarter, productAt, fourAt, Powers, Summed, Combined};
 
 // The residue of lo + 2^32 × hi, with two divisions: what `lo` has above its low half goes to `hi` first.
 fn reduced(p: u32, lo: u64, hi: u64) -> u32
@@ -209,8 +209,8 @@ pub fn combine_listed(
     stride: usize,
     out: &mut [u32],
 )
-    requires { ⌜ (0 < p) × (p ≤ 2147483647) × (length (now by) ≤ 64) × (length (now out) ≤ 64) × Below p (now by) × Below p (now table) × ((t : ℕ) → t < length (now by) → start + t * stride + length (now out) ≤ length (now table)) × Passes (length (now by)) (now next) start stride (length (now out)) (now table) ⌝ }
-    ensures { λ _. ⌜ (length (now (out .exit)) ≡ length (now (out .entry))) × ((j : ℕ) → j < length (now (out .entry)) → getD (now (out .exit)) j 0 ≡ (reduce p (getD (now (out .entry)) j 0) ⊕ sum (residues p) (length (now (by .entry))) (λ t. line p (now (by .entry)) 0 1 t ⊗ line p (now (table .entry)) (start + j) stride t)) .value) ⌝ }
+    requires { ⌜ (0 < p) × (p ≤ 2147483647) × (length (now by) ≤ 64) × (length (now out) ≤ 64) × Below p (now by) × Below p (now table) × RowsInside (length (now by)) start stride (length (now out)) (length (now table)) × Passes (length (now by)) (now next) start stride (length (now out)) (now table) ⌝ }
+    ensures { λ _. ⌜ Combined p (now (by .entry)) (now (table .entry)) start stride (now (out .entry)) (now (out .exit)) ⌝ }
 {
     if by.len() != 0 {
         let a = next_row(by, next, start, stride, 0);
@@ -227,8 +227,8 @@ pub fn combine_listed(
 
 // The same, over all rows.
 pub fn combine(p: u32, by: &[u32], table: &[u32], start: usize, stride: usize, out: &mut [u32])
-    requires { ⌜ (0 < p) × (p ≤ 2147483647) × (length (now by) ≤ 64) × (length (now out) ≤ 64) × Below p (now by) × Below p (now table) × ((t : ℕ) → t < length (now by) → start + t * stride + length (now out) ≤ length (now table)) ⌝ }
-    ensures { λ _. ⌜ (length (now (out .exit)) ≡ length (now (out .entry))) × ((j : ℕ) → j < length (now (out .entry)) → getD (now (out .exit)) j 0 ≡ (reduce p (getD (now (out .entry)) j 0) ⊕ sum (residues p) (length (now (by .entry))) (λ t. line p (now (by .entry)) 0 1 t ⊗ line p (now (table .entry)) (start + j) stride t)) .value) ⌝ }
+    requires { ⌜ (0 < p) × (p ≤ 2147483647) × (length (now by) ≤ 64) × (length (now out) ≤ 64) × Below p (now by) × Below p (now table) × RowsInside (length (now by)) start stride (length (now out)) (length (now table)) ⌝ }
+    ensures { λ _. ⌜ Combined p (now (by .entry)) (now (table .entry)) start stride (now (out .entry)) (now (out .exit)) ⌝ }
 {
     let next = each_row();
     combine_listed(p, by, &next, table, start, stride, out);

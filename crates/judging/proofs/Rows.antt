@@ -11,6 +11,7 @@ use Rattle.algebra.specs.Matrix.{sum, mixed}
 use Rattle.algebra.proofs.Sums.{sum-same}
 use Rattle.algebra.proofs.Rings.{zero-plus}
 use Rattle.field.specs.Residue.{Residue, reduce, residues, _⊕_, _⊗_}
+use Rattle.field.specs.Four.{Combined}
 use Rattle.field.specs.View.{line, table, Below, Zeros}
 use Rattle.field.proofs.Residues.{below-of-value}
 use Rattle.field.proofs.Field.{residues-ring}
@@ -40,12 +41,9 @@ column-mixed p m w j by xs l =
 
 -- what `combine` adds to the front of 64 zeros is the row times the table
 pub combined-mixed : (p w : ℕ) (by xs zs part : List ℕ) → 0 < p → w ≤ 64 → Zeros 64 zs
-    → length part ≡ length (take w zs)
-    → ((j : ℕ) → j < length (take w zs)
-    → getD part j 0
-    ≡ (reduce p (getD (take w zs) j 0) ⊕ sum (residues p) (length by) (λ t. line p by 0 1 t ⊗ line p xs (0 + j) w t)) .value)
+    → Combined p by xs 0 w (take w zs) part
     → Mixed p by xs w (part ++ drop w zs)
-combined-mixed p w by xs zs part positive h z long each =
+combined-mixed p w by xs zs part positive h z (long, each) =
     (length-front zs part w long ∙ z .0, front, behind)
   where
     short : length (take w zs) ≡ w

@@ -26,9 +26,8 @@ returns : tie.Need-returns
 returns c =
     let a = c .before .before .before .before .before .before .args in
     let s = c .before .before .before .before .before .before .pre in
-    let e = c .before .combine .ensures in
     combined-mixed (a .p) (a .width) (a .by .now) (a .table .now) _ (c .before .combine .last .1 .1 .1 .1 .1 .0) (s .0) (s .3)
-    (c .before .before .before .row-room .ensures) (e .0) (e .1)
+    (c .before .before .before .row-room .ensures) (c .before .combine .ensures)
 
 pub mix-rows-spec : {M : Type 1} → statement M
 mix-rows-spec =

@@ -62,7 +62,7 @@ returns c =
     let all = four-all (a .by .now) (a .table .now) (a .start) (a .stride) (length (a .out .now)) (a .next .now) (s .pre .7) 0 _ _ _ _ (short-table s)
     (d .before .before .before .next-row .ensures) (d .before .before .next-row2 .ensures) (d .before .next-row3 .ensures)
     (d .next-row4 .ensures) refl (c .before .before .before .before .if2 .taken) in
-    (e .long, summed-combined (a .by .now) (a .table .now) (a .start) (a .stride) (length (a .out .now)) (a .p) _ _ (summed-same (a .p) _ _ _ _ all e))
+    summed-combined (a .by .now) (a .table .now) (a .start) (a .stride) (length (a .out .now)) (a .p) _ _ (summed-same (a .p) _ _ _ _ all e)
 
 add-all-requires : tie.Need-add-all-requires
 add-all-requires c κs =
@@ -76,7 +76,7 @@ returns-2 : tie.Need-returns-2
 returns-2 c =
     let a = c .before .before .before .before .before .before .before .before .before .args in
     let e = c .before .before .add-all .ensures in
-    (e .long, summed-combined (a .by .now) (a .table .now) (a .start) (a .stride) (length (a .out .now)) (a .p) _ _ e)
+    summed-combined (a .by .now) (a .table .now) (a .start) (a .stride) (length (a .out .now)) (a .p) _ _ e
 
 pub combine-listed-spec : {M : Type 1} → statement M
 combine-listed-spec =
