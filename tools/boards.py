@@ -1,5 +1,5 @@
 #!/usr/bin/env python3
-"""Call lists for the test program of the board: crates/board_test/stdin.
+"""Call lists for the test program of the board: crates/test_board/stdin.
 
 A model of its own plays lists of take, withdraw and show calls: a ledger of frames, with Gaussian elimination on lists of
 Python numbers, straight from document 01's section "The board and its ledger". Frames are lost, doubled, summed, falsified

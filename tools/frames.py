@@ -1,5 +1,5 @@
 #!/usr/bin/env python3
-"""Cases for the test program of the frames: crates/frame_test/stdin.
+"""Cases for the test program of the frames: crates/test_frame/stdin.
 
 A reader of its own, straight from document 01's section "Frame bytes", says of each frame what reading answers. Frames are
 written for every n from 1 to 64 and then damaged: cut, extended, with padding bits, with multipliers of 0 and with numbers

@@ -1,10 +1,10 @@
 #!/usr/bin/env python3
-"""The table of the primes that is_modulus divides by: crates/modulus/src/primes.rt.
+"""The table of the primes that is_modulus divides by: crates/checks/src/primes.rt.
 
 The table holds gaps: from 29 to the next prime, from there to the next, and so on, until it is past 46,340, the largest
 number whose square is at most 2,147,483,647. Nine gaps stand in a word, seven bits each, the first lowest; twenty words
 make a part, and a part is one arm of a match, which the compiler turns into a table. The prime that a part starts from is
-the comment above its arm; crates/modulus/specs/Gaps.antt has these numbers too, and the proof checks them. The gaps from 2
+the comment above its arm; crates/checks/specs/Gaps.antt has these numbers too, and the proof checks them. The gaps from 2
 to 29 are a word too, which stands in is_modulus itself, so that small p need no table.
 
   tools/primes.py             (prints the source file)

@@ -1,5 +1,5 @@
 #!/usr/bin/env python3
-"""Cases for the test program of the tables: crates/matrix_test/stdin.
+"""Cases for the test program of the tables: crates/test_matrix/stdin.
 
 An exact solver of its own, by row reduction with pivots chosen column by column, shares no code and no method with the
 library, which recurses on halves of the rows. For each case it works out I, J, D, the kernel and a solution as document 01

@@ -16,3 +16,8 @@ pick (no h) a b = b
 unfoldable pub pickBy : {P A : Type 0} → Dec P → (P → A) → A → A
 pickBy (yes h) f b = f h
 pickBy (no h) f b = b
+
+-- the same of types
+unfoldable pub pickType : {P : Type 0} → Dec P → (P → Type 0) → Type 0 → Type 0
+pickType (yes h) T B = T h
+pickType (no h) T B = B

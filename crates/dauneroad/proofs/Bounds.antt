@@ -9,16 +9,17 @@ use lib.IntN.{ℤ}
 use lib.ListN.{length}
 use Rattle.algebra.proofs.Choice.{pick-elim, pick-by-elim}
 use Rattle.algebra.proofs.Independent.{count-most}
-use Rattle.modulus.specs.Prime.{IsModulus}
-use Rattle.modulus.specs.Decide.{modulus?}
-use Rattle.field.specs.Checks.{below?}
-use Rattle.tables.specs.Checks.{sizes?, long?}
-use Rattle.tables.specs.Chosen.{rank}
-use Rattle.tables.specs.Calls.{Quasiinverted, Kernel, Solved, columnsOf, rankOf, solves?, solution, quasiinverseCall, kernelCall, solveCall}
-use Rattle.frame_bytes.specs.Format.{longest}
-use Rattle.frame_bytes.specs.Checks.{frameSize?}
-use Rattle.frame_bytes.specs.Calls.{Outcome, writeCall}
-use Rattle.frame_bytes.proofs.Round.{longest-frame}
+use Rattle.checks.specs.Prime.{IsModulus}
+use Rattle.checks.specs.Decide.{modulus?}
+use Rattle.words.specs.Decide.{below?}
+use Rattle.checks.specs.Decide.{sizes?, long?}
+use Rattle.matrix.specs.Chosen.{rank}
+use Rattle.matrix.specs.Calls.{Quasiinverted, Kernel, Solved, columnsOf, rankOf, solves?, solution, quasiinverseCall, kernelCall, solveCall}
+use Rattle.frame.specs.Format.{longest}
+use Rattle.checks.specs.Decide.{frameSize?}
+use Rattle.frame.specs.Calls.{writeCall}
+use Rattle.checks.specs.Outcome.{Outcome}
+use Rattle.frame.proofs.Round.{longest-frame}
 use Rattle.ledger.specs.Ledger.{Entry}
 use Rattle.ledger.specs.Steps.{Withdrawn, Shown}
 use Rattle.ledger.specs.Board.{modulusWord, sizeWord, entriesOf, IsBoard}
@@ -130,7 +131,7 @@ write-most p n xs v lent =
     (λ _. omega arith))
     (λ _. omega arith)
   where
-    Small : Outcome → Type 0
+    Small : Outcome (List ℕ) → Type 0
     Small r = r .told .number ≤ 468
 
 -- ---- boards

@@ -4,8 +4,8 @@ use mathlib.Core.List.{List, [], _∷_}
 use Prim.Native.Nat.{ℕ}
 use lib.IntN.{ℤ, natAbs}
 use Rattle.signed.specs.Calls.{signedCall, residueCall}
-use Rattle.tables.specs.Calls.{quasiinverseCall, kernelCall, solveCall}
-use Rattle.frame_bytes.specs.Calls.{readCall, writeCall, sealCall}
+use Rattle.matrix.specs.Calls.{quasiinverseCall, kernelCall, solveCall}
+use Rattle.frame.specs.Calls.{readCall, writeCall, sealCall}
 use Rattle.ledger.specs.Calls.{openCall, takeCall, withdrawCall, showCall}
 
 -- the value that is told, or what stood there

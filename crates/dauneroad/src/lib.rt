@@ -7,9 +7,9 @@ ghost use Rattle.dauneroad.specs.Exports.{answer, openAnswer, takeAnswer
 pub extern "C" fn dauneroad_open(p: u32, n: u32, board: &mut [u32]) -> u32
     ensures { λ r. ⌜ answer r (now (board .exit)) ≡ openAnswer p n (now (board .entry)) ⌝ }
 {
-    match board::open(p, n, board) {
-        board::OpenAnswer::Opened => 0,
-        board::OpenAnswer::Refused(kind) => modulus::number_of(kind),
+    match board_calls::open(p, n, board) {
+        board_calls::OpenAnswer::Opened => 0,
+        board_calls::OpenAnswer::Refused(kind) => checks::number_of(kind),
     }
 }
 
@@ -17,10 +17,10 @@ pub extern "C" fn dauneroad_open(p: u32, n: u32, board: &mut [u32]) -> u32
 pub extern "C" fn dauneroad_take(board: &mut [u32], frame: &[u8], mix: &mut [u32]) -> u32
     ensures { λ r. ⌜ answer r (now (board .exit), now (mix .exit)) ≡ takeAnswer (now (board .entry)) (now (frame .entry)) (now (mix .entry)) ⌝ }
 {
-    match board::take(board, frame, mix) {
-        board::TakeAnswer::New(_) => 0,
-        board::TakeAnswer::Repeat(_) => 100,
-        board::TakeAnswer::Refused(kind) => modulus::number_of(kind),
+    match board_calls::take(board, frame, mix) {
+        board_calls::TakeAnswer::New(_) => 0,
+        board_calls::TakeAnswer::Repeat(_) => 100,
+        board_calls::TakeAnswer::Refused(kind) => checks::number_of(kind),
     }
 }
 
@@ -28,9 +28,9 @@ pub extern "C" fn dauneroad_take(board: &mut [u32], frame: &[u8], mix: &mut [u32
 pub extern "C" fn dauneroad_withdraw(board: &mut [u32], t: u32) -> u32
     ensures { λ r. ⌜ answer r (now (board .exit)) ≡ withdrawAnswer (now (board .entry)) t ⌝ }
 {
-    match board::withdraw(board, t) {
-        board::CountAnswer::Count(k) => 200 + k,
-        board::CountAnswer::Refused(kind) => modulus::number_of(kind),
+    match board_calls::withdraw(board, t) {
+        board_calls::CountAnswer::Count(k) => 200 + k,
+        board_calls::CountAnswer::Refused(kind) => checks::number_of(kind),
     }
 }
 
@@ -38,9 +38,9 @@ pub extern "C" fn dauneroad_withdraw(board: &mut [u32], t: u32) -> u32
 pub extern "C" fn dauneroad_show(board: &[u32], marks: &mut [u32], numbers: &mut [i32]) -> u32
     ensures { λ r. ⌜ answer r (now (marks .exit), now (numbers .exit)) ≡ showAnswer (now (board .entry)) (now (marks .entry)) (now (numbers .entry)) ⌝ }
 {
-    match board::show(board, marks, numbers) {
-        board::CountAnswer::Count(k) => 200 + k,
-        board::CountAnswer::Refused(kind) => modulus::number_of(kind),
+    match board_calls::show(board, marks, numbers) {
+        board_calls::CountAnswer::Count(k) => 200 + k,
+        board_calls::CountAnswer::Refused(kind) => checks::number_of(kind),
     }
 }
 
@@ -54,12 +54,12 @@ pub extern "C" fn dauneroad_read(
 ) -> u32
     ensures { λ r. ⌜ answer r (now (multipliers .exit), now (value .exit)) ≡ readAnswer p n (now (frame .entry)) (now (multipliers .entry)) (now (value .entry)) ⌝ }
 {
-    match frame::read(p, n, frame, multipliers) {
-        frame::ReadAnswer::Value(v) => {
+    match frame_calls::read(p, n, frame, multipliers) {
+        frame_calls::ReadAnswer::Value(v) => {
             *value = v;
             0
         }
-        frame::ReadAnswer::Refused(kind) => modulus::number_of(kind),
+        frame_calls::ReadAnswer::Refused(kind) => checks::number_of(kind),
     }
 }
 
@@ -73,9 +73,9 @@ pub extern "C" fn dauneroad_write(
 ) -> u32
     ensures { λ r. ⌜ answer r (now (bytes .exit)) ≡ writeAnswer p n (now (multipliers .entry)) value (now (bytes .entry)) ⌝ }
 {
-    match frame::write(p, n, multipliers, value, bytes) {
-        frame::WriteAnswer::Length(k) => 200 + k,
-        frame::WriteAnswer::Refused(kind) => modulus::number_of(kind),
+    match frame_calls::write(p, n, multipliers, value, bytes) {
+        frame_calls::WriteAnswer::Length(k) => 200 + k,
+        frame_calls::WriteAnswer::Refused(kind) => checks::number_of(kind),
     }
 }
 
@@ -89,12 +89,12 @@ pub extern "C" fn dauneroad_seal(
 ) -> u32
     ensures { λ r. ⌜ answer r (now (value .exit)) ≡ sealAnswer p n (now (records .entry)) (now (multipliers .entry)) (now (value .entry)) ⌝ }
 {
-    match frame::seal(p, n, records, multipliers) {
-        frame::SealAnswer::Value(v) => {
+    match frame_calls::seal(p, n, records, multipliers) {
+        frame_calls::SealAnswer::Value(v) => {
             *value = v;
             0
         }
-        frame::SealAnswer::Refused(kind) => modulus::number_of(kind),
+        frame_calls::SealAnswer::Refused(kind) => checks::number_of(kind),
     }
 }
 
@@ -107,7 +107,7 @@ pub extern "C" fn dauneroad_signed(p: u32, v: u32, number: &mut i32) -> u32
             *number = z;
             0
         }
-        signed::SignedAnswer::Refused(kind) => modulus::number_of(kind),
+        signed::SignedAnswer::Refused(kind) => checks::number_of(kind),
     }
 }
 
@@ -120,7 +120,7 @@ pub extern "C" fn dauneroad_residue(p: u32, number: i32, residue: &mut u32) -> u
             *residue = v;
             0
         }
-        signed::ResidueAnswer::Refused(kind) => modulus::number_of(kind),
+        signed::ResidueAnswer::Refused(kind) => checks::number_of(kind),
     }
 }
 
@@ -136,9 +136,9 @@ pub extern "C" fn dauneroad_quasiinverse(
 ) -> u32
     ensures { λ r. ⌜ answer r (now (d .exit), now (columns .exit), now (rows .exit)) ≡ quasiinverseAnswer p m n (now (a .entry)) (now (d .entry)) (now (columns .entry)) (now (rows .entry)) ⌝ }
 {
-    match matrix::quasiinverse(p, m, n, a, d, columns, rows) {
-        matrix::TableAnswer::Done(k) => 200 + k,
-        matrix::TableAnswer::Refused(kind) => modulus::number_of(kind),
+    match matrix_calls::quasiinverse(p, m, n, a, d, columns, rows) {
+        matrix_calls::TableAnswer::Done(k) => 200 + k,
+        matrix_calls::TableAnswer::Refused(kind) => checks::number_of(kind),
     }
 }
 
@@ -146,9 +146,9 @@ pub extern "C" fn dauneroad_quasiinverse(
 pub extern "C" fn dauneroad_kernel(p: u32, m: u32, n: u32, a: &[u32], basis: &mut [u32]) -> u32
     ensures { λ r. ⌜ answer r (now (basis .exit)) ≡ kernelAnswer p m n (now (a .entry)) (now (basis .entry)) ⌝ }
 {
-    match matrix::kernel(p, m, n, a, basis) {
-        matrix::TableAnswer::Done(k) => 200 + k,
-        matrix::TableAnswer::Refused(kind) => modulus::number_of(kind),
+    match matrix_calls::kernel(p, m, n, a, basis) {
+        matrix_calls::TableAnswer::Done(k) => 200 + k,
+        matrix_calls::TableAnswer::Refused(kind) => checks::number_of(kind),
     }
 }
 
@@ -164,8 +164,8 @@ pub extern "C" fn dauneroad_solve(
 ) -> u32
     ensures { λ r. ⌜ answer r (now (z .exit), now (u .exit)) ≡ solveAnswer p m n (now (a .entry)) (now (w .entry)) (now (z .entry)) (now (u .entry)) ⌝ }
 {
-    match matrix::solve(p, m, n, a, w, z, u) {
-        matrix::TableAnswer::Done(k) => 200 + k,
-        matrix::TableAnswer::Refused(kind) => modulus::number_of(kind),
+    match matrix_calls::solve(p, m, n, a, w, z, u) {
+        matrix_calls::TableAnswer::Done(k) => 200 + k,
+        matrix_calls::TableAnswer::Refused(kind) => checks::number_of(kind),
     }
 }

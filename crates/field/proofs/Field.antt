@@ -21,7 +21,7 @@ use native.Mathlib.Omega.{arith}
 use native.Mathlib.Decide.{ℕ-discrete, map-dec}
 use Rattle.algebra.specs.Ring.{IsCommutativeRing, IsField}
 use Rattle.algebra.proofs.Rings.{times-zero}
-use Rattle.modulus.specs.Prime.{Prime}
+use Rattle.checks.specs.Prime.{Prime}
 use Rattle.field.specs.Residue.{Residue, reduce, _⊕_, _⊗_, negated, residues}
 use Rattle.field.proofs.Residues.{
   modular,

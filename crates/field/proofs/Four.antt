@@ -9,7 +9,7 @@ use native.Mathlib.Omega.{arith}
 use lib.ListN.{length, getD, List·getD-eq-default}
 use mir.Val.{Fits}
 use mir.Syntax.{w64}
-use Rattle.field.specs.View.{Below}
+use Rattle.words.specs.Words.{Below}
 use Rattle.field.specs.Totals.{total, products}
 use Rattle.field.specs.Halves.{Room}
 use Rattle.field.specs.Four.{Short, Shorts, Quarter, Inside, Leads, PassesOver, Passes, Taken, RowsInside, productAt}

@@ -130,9 +130,3 @@ sums-room-low k lo hi v h s = within-room k lo h (s .low-within)
 
 pub sums-room-high : (k lo hi v : ℕ) → k ≤ 4096 → Sums k lo hi v → Room hi
 sums-room-high k lo hi v h s = within-room k hi h (s .high-within)
-
--- a list of zeros has 0 at every place, and past its end
-pub zeros-at : (n j : ℕ) → _≡_ {A = ℕ} (getD (replicate n 0) j 0) 0
-zeros-at zero j = refl
-zeros-at (suc n) zero = refl
-zeros-at (suc n) (suc j) = zeros-at n j

@@ -4,8 +4,6 @@ pub mod Totals
 pub mod Halves
 pub mod Four
 pub mod Powers
-pub mod Walk
 pub mod Rows
 pub mod Written
 pub mod Views
-pub mod Guards

@@ -9,7 +9,7 @@ use lib.ListN.{length, getD}
 use mir.Val.{Fits}
 use mir.Syntax.{w64}
 use Rattle.field.specs.Residue.{reduce, _⊕_}
-use Rattle.field.specs.View.{Zeros}
+use Rattle.words.specs.Words.{Zeros}
 use Rattle.field.specs.Totals.{total, products}
 use Rattle.field.specs.Halves.{Ready, Added, wholeAt}
 use Rattle.field.specs.Four.{Shorts, PassesOver, Passes, Taken, Summed, Combined, productAt, fourAt, summedAt}

@@ -10,7 +10,8 @@ use borrow.Author.Tests.{lt-ltb, le-ltb}
 use Rattle.algebra.specs.Choice.{choose}
 use Rattle.algebra.specs.Matrix.{Sized}
 use Rattle.field.specs.Residue.{reduce, residues}
-use Rattle.field.specs.View.{table, Below, Blank}
+use Rattle.field.specs.View.{table}
+use Rattle.words.specs.Words.{Below, Blank}
 
 module _ (p : ℕ) (xs : List ℕ) (start stride m n : ℕ) where
   -- the entry at row i and column j

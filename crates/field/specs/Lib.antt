@@ -1,6 +1,5 @@
 pub mod Residue
 pub mod View
-pub mod Checks
 pub mod Written
 pub mod Totals
 pub mod Halves

@@ -21,15 +21,3 @@ table p xs start stride m n i j =
 -- the places start, start + step, .., k of them, lie in a list of length len
 abbrev pub Reaches : (k start step len : ℕ) → Type 0
 Reaches k start step len = (t : ℕ) → t < k → start + t * step < len
-
--- every number of xs is below p
-abbrev pub Below : ℕ → List ℕ → Type 0
-Below p xs = (i : ℕ) → i < length xs → getD xs i 0 < p
-
--- every number of xs is 0, and so is what is read past its end
-abbrev pub Blank : List ℕ → Type 0
-Blank xs = (j : ℕ) → getD xs j 0 ≡ 0
-
--- k zeros
-abbrev pub Zeros : ℕ → List ℕ → Type 0
-Zeros k xs = (length xs ≡ k) × Blank xs

@@ -1,7 +1,7 @@
 // Sum, difference, product and inverse of residues.
 ghost use mathlib.Core.Path.{_≡_};
 ghost use Prim.Native.Nat.{_<_, _≤_};
-ghost use Rattle.modulus.specs.Prime.{IsModulus};
+ghost use Rattle.checks.specs.Prime.{IsModulus};
 ghost use Rattle.field.specs.Residue.{reduce, _⊕_, _⊗_, negated};
 
 pub fn plus(p: u32, a: u32, b: u32) -> u32

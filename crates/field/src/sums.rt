@@ -5,7 +5,8 @@ ghost use Prim.Native.Nat.{ℕ, _+_, _*_, _<_, _≤_};
 ghost use lib.ListN.{length, getD};
 ghost use Rattle.algebra.specs.Matrix.{sum};
 ghost use Rattle.field.specs.Residue.{reduce, residues, _⊗_};
-ghost use Rattle.field.specs.View.{line, Reaches, Below, Zeros};
+ghost use Rattle.field.specs.View.{line, Reaches};
+ghost use Rattle.words.specs.Words.{Below, Zeros};
 ghost use Rattle.field.specs.Totals.{total, products};
 ghost use Rattle.field.specs.Halves.{whole, Room, Ready, Added, wholeAt};
 ghost use Rattle.field.specs.Four.{Shorts, Starts, RowsInside, Leads, Passes, Taken, Inside, Quarter, productAt, fourAt, Powers, Summed, Combined};
@@ -55,7 +56,7 @@ struct Row {
 pub fn each_row() -> [u32; 64]
     ensures { λ r. ⌜ (length r ≡ 64) × ((t : ℕ) → t < 64 → getD r t 0 ≡ t + 1) ⌝ }
 {
-    let mut next = crate::rooms::row_room();
+    let mut next = words::row_room();
     let mut t: u32 = 0;
     while t < 64 {
         next[t as usize] = t + 1;

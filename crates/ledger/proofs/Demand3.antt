@@ -9,9 +9,10 @@ use native.Mathlib.Omega.{arith}
 use lib.ListN.{length, take, length-append}
 use lib.Seq.{take-append-seam}
 use Rattle.algebra.proofs.Choice.{pick-yes, pick-elim}
-use Rattle.modulus.specs.Prime.{IsModulus}
-use Rattle.modulus.specs.Decide.{modulus?}
-use Rattle.frame_bytes.specs.Checks.{FrameSize, frameSize?}
+use Rattle.checks.specs.Prime.{IsModulus}
+use Rattle.checks.specs.Decide.{modulus?}
+use Rattle.checks.specs.Decide.{frameSize?}
+use Rattle.checks.specs.Largest.{FrameSize}
 use Rattle.ledger.specs.Ledger.{Entry}
 use Rattle.ledger.specs.Steps.{Withdrawn, Shown, ledgerWithdraw}
 use Rattle.ledger.specs.Board.{boardLength, modulusWord, sizeWord, layout, entriesOf, IsBoard}

@@ -6,7 +6,7 @@ use mathlib.Core.List.{List, [], _∷_, _++_, map, List·Memᴰ}
 use Prim.Native.Nat.{ℕ, _+_, _-_, _≤_, _<_}
 use lib.IntN.{ℤ, pos}
 use lib.ListN.{length, getD, length-map}
-use Rattle.modulus.specs.Prime.{IsModulus}
+use Rattle.checks.specs.Prime.{IsModulus}
 use Rattle.ledger.specs.Ledger.{Entry}
 use Rattle.ledger.specs.Board.{countWord, layout}
 use Rattle.ledger.specs.Calls.{openCall, showCall}

@@ -8,11 +8,11 @@ use native.Mathlib.Decide.{decLt}
 use native.Mathlib.Omega.{arith}
 use lib.ListN.{length, getD, drop, replicate, length-append, length-replicate, List·getD-append}
 use lib.Seq.{getD-drop, getD-append-add}
-use Rattle.modulus.specs.Prime.{IsModulus}
+use Rattle.checks.specs.Prime.{IsModulus}
 use Rattle.field.specs.Residue.{reduce, residues}
 use Rattle.field.specs.View.{table}
 use Rattle.field.proofs.Views.{table-entry}
-use Rattle.frame_bytes.specs.Checks.{FrameSize}
+use Rattle.checks.specs.Largest.{FrameSize}
 use Rattle.ledger.specs.Ledger.{Entry, noEntry, multiplierRows}
 use Rattle.ledger.specs.Board.{headerLength, rowLength, boardLength, modulusWord, sizeWord, countWord, rowWords, layout, entriesOf, IsBoard}
 use Rattle.ledger.specs.Proper.{Proper}

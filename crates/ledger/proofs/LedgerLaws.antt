@@ -15,16 +15,16 @@ use Rattle.algebra.specs.Matrix.{sum, apply}
 use Rattle.algebra.specs.Ring.{IsField}
 use Rattle.algebra.proofs.Choice.{pick-yes, pick-no, pick-by-same, pick-by-no}
 use Rattle.algebra.proofs.Sums as sums
-use Rattle.modulus.specs.Prime.{IsModulus}
-use Rattle.modulus.specs.declared.Refusal.{Refusal}
-use Rattle.modulus.specs.declared.Refusal.the-variants.{Length, Conflict}
-use Rattle.modulus.specs.Told.{refused}
+use Rattle.checks.specs.Prime.{IsModulus}
+use Rattle.checks.specs.declared.Refusal.{Refusal}
+use Rattle.checks.specs.declared.Refusal.the-variants.{Length, Conflict}
+use Rattle.checks.specs.Told.{refused}
 use Rattle.field.specs.Residue.{Residue, reduce, residues, _⊗_}
 use Rattle.field.specs.Written.{tabulate, numbers}
 use Rattle.field.proofs.Field.{residues-field, residue-equal?}
 use Rattle.field.proofs.Written.{length-tabulate, getD-tabulate, is-tabulate}
 use Rattle.signed.specs.Reading.{reading}
-use Rattle.frame_bytes.specs.Reading.{accepted, rejected, readFrame}
+use Rattle.frame.specs.Reading.{accepted, rejected, readFrame}
 use Rattle.ledger.specs.Ledger.{Entry, entry, Assignment, Combined, MeetsAll, Settled, Agreed, multiplierRows, valueColumn}
 use Rattle.ledger.specs.Decide.{combined?, agreed?}
 use Rattle.ledger.specs.Steps.{
@@ -40,8 +40,8 @@ use Rattle.ledger.specs.Steps.{
   Shown,
   shown,
   tabulateℤ,
-  markOf,
-  numberOf,
+  shownMark,
+  shownNumber,
   ledgerShow,
 }
 use Rattle.ledger.specs.Settle.{Gives}
@@ -148,8 +148,8 @@ module _ (p : ℕ) (ok : IsModulus p) (n : ℕ) (es : List Entry) where
     settled? j = map-dec (agreed-settled j) (settled-agreed j) (agreed? p ok n es j)
 
     shown-settled : (j : ℕ) → Settled p n es j → (x : Assignment p) → MeetsAll p n es x
-        → (markOf p ok n es j ≡ 1) × (numberOf p ok n es j ≡ reading p (x j .value))
-    unfolding markOf numberOf
+        → (shownMark p ok n es j ≡ 1) × (shownNumber p ok n es j ≡ reading p (x j .value))
+    unfolding shownMark shownNumber
     shown-settled j s x met =
         let a : Agreed p n es j = (x j, λ y m. s y x m met) in (
           pick-by-same (agreed? p ok n es j) (λ _. 1) 0 (λ _ _. refl) a,
@@ -157,8 +157,8 @@ module _ (p : ℕ) (ok : IsModulus p) (n : ℕ) (es : List Entry) where
               (λ b c. ap (λ (r : Residue p). reading p (r .value)) (sym (b .1 x met) ∙ c .1 x met)) a,
         )
 
-    shown-unsettled : (j : ℕ) → (Settled p n es j → ⊥) → (markOf p ok n es j ≡ 0) × (numberOf p ok n es j ≡ pos 0)
-    unfolding markOf numberOf
+    shown-unsettled : (j : ℕ) → (Settled p n es j → ⊥) → (shownMark p ok n es j ≡ 0) × (shownNumber p ok n es j ≡ pos 0)
+    unfolding shownMark shownNumber
     shown-unsettled j s = (
       pick-by-no (agreed? p ok n es j) (λ _. 1) 0 (λ a. s (agreed-settled j a)),
       pick-by-no (agreed? p ok n es j) (λ b. reading p (b .0 .value)) (pos 0) (λ a. s (agreed-settled j a)),
@@ -166,21 +166,21 @@ module _ (p : ℕ) (ok : IsModulus p) (n : ℕ) (es : List Entry) where
 
     -- 01: "Record j is marked 1 and its signed reading given exactly if all assignments of residues meeting the ledger's frames
     -- agree at j; otherwise 0 and 0."
-    pub shown-exactly : (j : ℕ) → Gives p n es j (markOf p ok n es j) (numberOf p ok n es j)
+    pub shown-exactly : (j : ℕ) → Gives p n es j (shownMark p ok n es j) (shownNumber p ok n es j)
     shown-exactly j = (shown-settled j, shown-unsettled j)
 
     -- so a record is marked 1 exactly if it is settled
-    pub marked-exactly : (j : ℕ) → (markOf p ok n es j ≡ 1) ↔ Settled p n es j
+    pub marked-exactly : (j : ℕ) → (shownMark p ok n es j ≡ 1) ↔ Settled p n es j
     marked-exactly j = (only (settled? j), λ s. let (x, met) = standing-met in shown-settled j s x met .0)
       where
-        only : Dec (Settled p n es j) → markOf p ok n es j ≡ 1 → Settled p n es j
+        only : Dec (Settled p n es j) → shownMark p ok n es j ≡ 1 → Settled p n es j
         only (yes s) e = s
         only (no s) e = absurd (omega (arith, shown-unsettled j s .0))
 
     -- and this is what a show that is not refused leaves in the memory lent to it, with n minus the count for an answer
     pub show-accepted : (marks : List ℕ) (zs : List ℤ) → length marks ≡ n → length zs ≡ n
         → ledgerShow p ok n es marks zs
-        ≡ shown (countTold (n - length es)) (tabulate n (markOf p ok n es)) (tabulateℤ n (numberOf p ok n es))
+        ≡ shown (countTold (n - length es)) (tabulate n (shownMark p ok n es)) (tabulateℤ n (shownNumber p ok n es))
     unfolding ledgerShow
     show-accepted marks zs h l =
         pick-yes (ℕ-discrete (length marks) n) _ _ h ∙ pick-yes (ℕ-discrete (length zs) n) _ _ l
@@ -189,5 +189,5 @@ module _ (p : ℕ) (ok : IsModulus p) (n : ℕ) (es : List Entry) where
         → Gives p n es j (getD (ledgerShow p ok n es marks zs .marks) j 0) (getD (ledgerShow p ok n es marks zs .numbers) j (pos 0))
     show-exactly marks zs h l j b =
         let e = show-accepted marks zs h l in
-        subst₂ (Gives p n es j) (sym (ap (λ (r : Shown). getD (r .marks) j 0) e ∙ getD-tabulate n (markOf p ok n es) j b))
-        (sym (ap (λ (r : Shown). getD (r .numbers) j (pos 0)) e ∙ getD-tabulateℤ n (numberOf p ok n es) j b)) (shown-exactly j)
+        subst₂ (Gives p n es j) (sym (ap (λ (r : Shown). getD (r .marks) j 0) e ∙ getD-tabulate n (shownMark p ok n es) j b))
+        (sym (ap (λ (r : Shown). getD (r .numbers) j (pos 0)) e ∙ getD-tabulateℤ n (shownNumber p ok n es) j b)) (shown-exactly j)

@@ -16,7 +16,7 @@ use mathlib.Core.List.{
 }
 use Prim.Native.Nat.{ℕ}
 use native.Mathlib.Omega.{arith}
-use Rattle.modulus.specs.Prime.{IsModulus}
+use Rattle.checks.specs.Prime.{IsModulus}
 use Rattle.ledger.specs.Ledger.{Entry, entry}
 use Rattle.ledger.specs.Steps.{Taken, Withdrawn, Shown, ledgerTake, ledgerWithdraw}
 use Rattle.ledger.specs.History.{Call, Reply, After, after, ledgerStep, run, ledgerRun}

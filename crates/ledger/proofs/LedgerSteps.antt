@@ -9,15 +9,15 @@ use lib.IntN.{ℤ}
 use lib.ListN.{length, take}
 use Rattle.algebra.specs.Matrix.{sum}
 use Rattle.algebra.proofs.Choice.{pick-elim, pick-by-elim}
-use Rattle.modulus.specs.declared.Refusal.{Refusal}
-use Rattle.modulus.specs.declared.Refusal.the-variants.{Length, Conflict, Withdrawal}
-use Rattle.modulus.specs.Refusal.{numberOf}
-use Rattle.modulus.specs.Told.{refused}
-use Rattle.modulus.specs.Prime.{IsModulus}
+use Rattle.checks.specs.declared.Refusal.{Refusal}
+use Rattle.checks.specs.declared.Refusal.the-variants.{Length, Conflict, Withdrawal}
+use Rattle.checks.specs.Refusal.{refusalNumber}
+use Rattle.checks.specs.Told.{refused}
+use Rattle.checks.specs.Prime.{IsModulus}
 use Rattle.field.specs.Residue.{reduce, residues, _⊗_}
 use Rattle.field.proofs.Field.{residue-equal?}
-use Rattle.frame_bytes.specs.Format.{mapLength}
-use Rattle.frame_bytes.specs.Reading.{
+use Rattle.frame.specs.Format.{mapLength}
+use Rattle.frame.specs.Reading.{
   Found,
   accepted,
   rejected,
@@ -54,7 +54,7 @@ use Rattle.ledger.specs.Steps.{
 
 -- the refusals of a frame that is taken: 3, those of reading, and 9
 abbrev pub TakeRefusal : Refusal → Type 0
-TakeRefusal k = (3 ≤ numberOf k) × (numberOf k ≤ 9)
+TakeRefusal k = (3 ≤ refusalNumber k) × (refusalNumber k ≤ 9)
 
 -- what is rejected is rejected for one of these
 abbrev Judged : Found → Type 0

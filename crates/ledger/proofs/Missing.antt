@@ -12,12 +12,12 @@ use lib.Dec.{eqb}
 use lib.ListN.{length, getD, replicate, length-take, length-replicate}
 use Rattle.algebra.specs.Choice.{choose}
 use Rattle.algebra.specs.Matrix.{unit, apply}
-use Rattle.modulus.specs.Prime.{IsModulus}
+use Rattle.checks.specs.Prime.{IsModulus}
 use Rattle.field.specs.Residue.{reduce, residues}
 use Rattle.field.proofs.Field.{residues-field}
 use Rattle.field.proofs.Written.{length-tabulate, getD-tabulate}
-use Rattle.frame_bytes.specs.Format.{frameOf}
-use Rattle.frame_bytes.proofs.Round.{written-reads-back}
+use Rattle.frame.specs.Format.{frameOf}
+use Rattle.frame.proofs.Round.{written-reads-back}
 use Rattle.ledger.specs.Ledger.{Entry, entry, Combined, multiplierRows, valueColumn}
 use Rattle.ledger.specs.Steps.{Taken, newTold, Withdrawn, ledgerTake, ledgerWithdraw}
 use Rattle.ledger.specs.History.{Call, Reply, reply, After, after, ledgerStep, run, ledgerRun}

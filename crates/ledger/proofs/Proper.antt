@@ -13,15 +13,15 @@ use lib.ListN.{length, getD, take, length-append, List·getD-append}
 use lib.Seq.{getD-append-seam, length-take-le, getD-take}
 use Rattle.algebra.specs.Matrix.{Matrix}
 use Rattle.algebra.specs.Span.{Independent}
-use Rattle.modulus.specs.Prime.{IsModulus}
-use Rattle.modulus.specs.declared.Refusal.the-variants.{FrameLength, Padding}
+use Rattle.checks.specs.Prime.{IsModulus}
+use Rattle.checks.specs.declared.Refusal.the-variants.{FrameLength, Padding}
 use Rattle.field.specs.Residue.{reduce, residues}
-use Rattle.field.specs.View.{Below}
+use Rattle.words.specs.Words.{Below}
 use Rattle.field.proofs.Field.{residues-field, residues-ring}
-use Rattle.frame_bytes.specs.Format.{mapLength}
-use Rattle.frame_bytes.specs.Reading.{accepted, readFrame, readNumbers, unpadded?, recordBits, frameLength, frameNumbers}
-use Rattle.frame_bytes.proofs.RoundMap.{record-bits-length}
-use Rattle.frame_bytes.proofs.RoundNumbers.{accepted-if, judge-passed, spread-length, spread-below}
+use Rattle.frame.specs.Format.{mapLength}
+use Rattle.frame.specs.Reading.{accepted, readFrame, readNumbers, unpadded?, recordBits, frameLength, frameNumbers}
+use Rattle.frame.proofs.RoundMap.{record-bits-length}
+use Rattle.frame.proofs.RoundNumbers.{accepted-if, judge-passed, spread-length, spread-below}
 use Rattle.ledger.specs.Ledger.{Entry, entry, noEntry, Combined, multiplierRows}
 use Rattle.ledger.specs.Steps.{Taken, Withdrawn}
 use Rattle.ledger.specs.History.{Call, ledgerStep}

@@ -41,8 +41,8 @@ use Rattle.algebra.proofs.Rank.{same-span-same-rank}
 use Rattle.algebra.proofs.Exists.{Solved, solved}
 use Rattle.algebra.proofs.Decide.{cut, cut-inside, cut-sized}
 use Rattle.algebra.proofs.Independent.{all-counted}
-use Rattle.modulus.specs.Told.{refused}
-use Rattle.modulus.specs.Prime.{IsModulus}
+use Rattle.checks.specs.Told.{refused}
+use Rattle.checks.specs.Prime.{IsModulus}
 use Rattle.field.specs.Residue.{reduce, residues}
 use Rattle.field.proofs.Field.{residues-field}
 use Rattle.ledger.specs.Ledger.{Entry, entry, noEntry, Combined, multiplierRows}

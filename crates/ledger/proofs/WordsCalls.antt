@@ -6,11 +6,11 @@ use Prim.Native.Nat.{ℕ}
 use lib.IntN.{ℤ}
 use Rattle.algebra.specs.Choice.{pickBy}
 use Rattle.algebra.proofs.Choice.{pick-by-same, pick-by-no}
-use Rattle.modulus.specs.declared.Refusal.the-variants.{NotBoard}
-use Rattle.modulus.specs.Told.{refused}
-use Rattle.modulus.specs.Prime.{IsModulus}
-use Rattle.modulus.proofs.Guards.{modulus-prop}
-use Rattle.frame_bytes.specs.Checks.{FrameSize}
+use Rattle.checks.specs.declared.Refusal.the-variants.{NotBoard}
+use Rattle.checks.specs.Told.{refused}
+use Rattle.checks.specs.Prime.{IsModulus}
+use Rattle.checks.proofs.Guards.{modulus-prop}
+use Rattle.checks.specs.Largest.{FrameSize}
 use Rattle.ledger.specs.Ledger.{Entry}
 use Rattle.ledger.specs.Steps.{shown, ledgerTake, ledgerWithdraw, ledgerShow}
 use Rattle.ledger.specs.Board.{modulusWord, sizeWord, layout, entriesOf, IsBoard}

@@ -4,10 +4,10 @@ use mathlib.Core.List.{List, [], _∷_, _++_}
 use Prim.Native.Nat.{ℕ, zero, suc, _+_, _*_, _-_, _≤_, _<_}
 use lib.ListN.{length, getD, take, drop, replicate}
 use Rattle.algebra.specs.Span.{Independent}
-use Rattle.modulus.specs.Prime.{IsModulus}
+use Rattle.checks.specs.Prime.{IsModulus}
 use Rattle.field.specs.Residue.{residues}
 use Rattle.field.specs.View.{table}
-use Rattle.frame_bytes.specs.Checks.{FrameSize}
+use Rattle.checks.specs.Largest.{FrameSize}
 use Rattle.ledger.specs.Ledger.{Entry, entry}
 
 -- the words of the header, of a row, and of a board of n records

@@ -6,10 +6,10 @@ use native.Mathlib.Decide.{ℕ-discrete}
 use lib.IntN.{ℤ}
 use lib.ListN.{length}
 use Rattle.algebra.specs.Choice.{pick, pickBy}
-use Rattle.modulus.specs.declared.Refusal.the-variants.{Modulus, Size, Length, NotBoard}
-use Rattle.modulus.specs.Told.{Told, refused}
-use Rattle.modulus.specs.Decide.{modulus?}
-use Rattle.frame_bytes.specs.Checks.{frameSize?}
+use Rattle.checks.specs.declared.Refusal.the-variants.{Modulus, Size, Length, NotBoard}
+use Rattle.checks.specs.Told.{Told, refused}
+use Rattle.checks.specs.Decide.{modulus?}
+use Rattle.checks.specs.Decide.{frameSize?}
 use Rattle.ledger.specs.Steps.{Taken, Shown, shown, ledgerTake, ledgerWithdraw, ledgerShow}
 use Rattle.ledger.specs.Board.{boardLength, modulusWord, sizeWord, layout, entriesOf}
 use Rattle.ledger.specs.Decide.{board?}

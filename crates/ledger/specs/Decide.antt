@@ -9,12 +9,13 @@ use Rattle.algebra.specs.Span.{Independent}
 use Rattle.algebra.proofs.Choice.{all-below?}
 use Rattle.algebra.proofs.Decide.{combination?, independent?}
 use Rattle.algebra.proofs.Settled.{agree?}
-use Rattle.modulus.specs.Prime.{IsModulus}
-use Rattle.modulus.specs.Decide.{modulus?}
+use Rattle.checks.specs.Prime.{IsModulus}
+use Rattle.checks.specs.Decide.{modulus?}
 use Rattle.field.specs.Residue.{reduce, residues}
 use Rattle.field.specs.View.{table}
 use Rattle.field.proofs.Field.{residues-field}
-use Rattle.frame_bytes.specs.Checks.{FrameSize, frameSize?}
+use Rattle.checks.specs.Decide.{frameSize?}
+use Rattle.checks.specs.Largest.{FrameSize}
 use Rattle.ledger.specs.Ledger.{Entry, Combined, Agreed, multiplierRows, valueColumn}
 use Rattle.ledger.specs.Board.{IsBoard, headerLength, rowLength, boardLength, modulusWord, sizeWord, countWord}
 

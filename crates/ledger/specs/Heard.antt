@@ -11,10 +11,10 @@ use Rattle.algebra.specs.Choice.{choose, pick}
 use Rattle.algebra.specs.Matrix.{Matrix}
 use Rattle.algebra.specs.Quasiinverse.{Marks, count}
 use Rattle.algebra.proofs.Decide.{combination?}
-use Rattle.modulus.specs.Prime.{IsModulus}
+use Rattle.checks.specs.Prime.{IsModulus}
 use Rattle.field.specs.Residue.{reduce, residues}
 use Rattle.field.proofs.Field.{residues-field}
-use Rattle.frame_bytes.specs.Reading.{Found, accepted, rejected, readFrame}
+use Rattle.frame.specs.Reading.{Found, accepted, rejected, readFrame}
 use Rattle.ledger.specs.Ledger.{Entry}
 use Rattle.ledger.specs.History.{Call, take, withdraw, show, Reply}
 

@@ -3,8 +3,8 @@
 use mathlib.Core.List.{List, [], _∷_, _++_}
 use Prim.Native.Nat.{ℕ}
 use lib.IntN.{ℤ}
-use Rattle.modulus.specs.Told.{Told}
-use Rattle.modulus.specs.Prime.{IsModulus}
+use Rattle.checks.specs.Told.{Told}
+use Rattle.checks.specs.Prime.{IsModulus}
 use Rattle.ledger.specs.Ledger.{Entry}
 use Rattle.ledger.specs.Steps.{ledgerTake, ledgerWithdraw, ledgerShow}
 use Rattle.ledger.specs.Board.{layout}

@@ -9,7 +9,7 @@ use lib.ListN.{length, replicate}
 use Rattle.algebra.specs.Choice.{choose}
 use Rattle.field.specs.Written.{tabulate}
 use Rattle.signed.specs.Reading.{reading}
-use Rattle.frame_bytes.specs.Format.{frameOf}
+use Rattle.frame.specs.Format.{frameOf}
 use Rattle.ledger.specs.Ledger.{Entry, Assignment, MeetsAll, Settled}
 use Rattle.ledger.specs.History.{Call, take, Reply, After}
 use Rattle.ledger.specs.Heard.{news}

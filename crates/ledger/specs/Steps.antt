@@ -6,14 +6,14 @@ use lib.IntN.{ℤ, pos}
 use lib.ListN.{length, take, replicate}
 use Rattle.algebra.specs.Choice.{pick, pickBy}
 use Rattle.algebra.specs.Matrix.{Vector, sum}
-use Rattle.modulus.specs.declared.Refusal.the-variants.{Length, Conflict, Withdrawal}
-use Rattle.modulus.specs.Told.{Told, refused}
-use Rattle.modulus.specs.Prime.{IsModulus}
+use Rattle.checks.specs.declared.Refusal.the-variants.{Length, Conflict, Withdrawal}
+use Rattle.checks.specs.Told.{Told, refused}
+use Rattle.checks.specs.Prime.{IsModulus}
 use Rattle.field.specs.Residue.{reduce, residues, _⊗_}
 use Rattle.field.specs.Written.{tabulate, numbers}
 use Rattle.field.proofs.Field.{residue-equal?}
 use Rattle.signed.specs.Reading.{reading}
-use Rattle.frame_bytes.specs.Reading.{Found, accepted, rejected, readFrame}
+use Rattle.frame.specs.Reading.{Found, accepted, rejected, readFrame}
 use Rattle.ledger.specs.Ledger.{Entry, entry, valueColumn}
 use Rattle.ledger.specs.Decide.{combined?, agreed?}
 
@@ -98,17 +98,17 @@ tabulateℤ (suc n) f = f 0 ∷ tabulateℤ n (λ k. f (suc k))
 module _ (p : ℕ) (ok : IsModulus p) (n : ℕ) (es : List Entry) where
   -- record j is marked 1 and its signed reading given exactly if all assignments meeting the ledger's frames agree at j;
   -- otherwise 0 and 0
-  unfoldable pub markOf : ℕ → ℕ
-  markOf j = pickBy (agreed? p ok n es j) (λ a. 1) 0
+  unfoldable pub shownMark : ℕ → ℕ
+  shownMark j = pickBy (agreed? p ok n es j) (λ a. 1) 0
 
-  unfoldable pub numberOf : ℕ → ℤ
-  numberOf j = pickBy (agreed? p ok n es j) (λ a. reading p (a .0 .value)) (pos 0)
+  unfoldable pub shownNumber : ℕ → ℤ
+  shownNumber j = pickBy (agreed? p ok n es j) (λ a. reading p (a .0 .value)) (pos 0)
 
   -- checks 3; the answer is n minus the count
   unfoldable pub ledgerShow : List ℕ → List ℤ → Shown
   ledgerShow marks numbers =
       pick (ℕ-discrete (length marks) n)
       (pick (ℕ-discrete (length numbers) n)
-      (shown (countTold (n - length es)) (tabulate n markOf) (tabulateℤ n numberOf))
+      (shown (countTold (n - length es)) (tabulate n shownMark) (tabulateℤ n shownNumber))
       (shown (refused Length) marks numbers))
       (shown (refused Length) marks numbers)

@@ -3,14 +3,15 @@ use mathlib.Core.Path.{_≡_, sym, ap, _∙_, subst}
 use mathlib.Core.List.{List}
 use Prim.Native.Nat.{ℕ, _≤_}
 use native.Mathlib.Omega.{arith}
-use Rattle.modulus.specs.Prime.{IsModulus}
-use Rattle.modulus.specs.Decide.{modulus?}
-use Rattle.frame_bytes.specs.Checks.{FrameSize, frameSize?}
+use Rattle.checks.specs.Prime.{IsModulus}
+use Rattle.checks.specs.Decide.{modulus?}
+use Rattle.checks.specs.Decide.{frameSize?}
+use Rattle.checks.specs.Largest.{FrameSize}
 use Rattle.ledger.specs.Calls.{Opened, opened, openCall}
-use Rattle.board.specs.declared.OpenAnswer.{OpenAnswer}
-use Rattle.board.specs.declared.OpenAnswer.the-variants as opening
-use Rattle.board.specs.Told.{openTold}
-use Rattle.board.proofs.CallOpen.{open-no-modulus, open-no-size}
+use Rattle.board_calls.specs.declared.OpenAnswer.{OpenAnswer}
+use Rattle.board_calls.specs.declared.OpenAnswer.the-variants as opening
+use Rattle.board_calls.specs.Told.{openTold}
+use Rattle.board_calls.proofs.CallOpen.{open-no-modulus, open-no-size}
 
 -- the number that open tells
 abbrev number : Opened → ℕ

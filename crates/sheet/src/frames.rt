@@ -4,15 +4,15 @@ ghost use Prim.Native.Nat.{_≤_};
 ghost use lib.ListN.{length};
 use super::lent;
 use super::lines;
+use checks::Refusal;
 use libc::STDIN_FILENO;
-use modulus::Refusal;
-use sheet_lines::FrameInput;
+use sheet_text::FrameInput;
 
 // A whole frame: the board takes it, and word 2 of the board is the count afterwards.
 fn take(board: &mut [u32], frame: &[u8], mix: &mut [u32])
     requires { ⌜ 3 ≤ length (now board) ⌝ }
 {
-    let answer = board::take(board, frame, mix);
+    let answer = board_calls::take(board, frame, mix);
     lines::answer(answer, board[2]);
 }
 
@@ -21,7 +21,7 @@ fn take_body(board: &mut [u32], frame: &mut [u8], mix: &mut [u32]) -> bool
     requires { ⌜ 3 ≤ length (now board) ⌝ }
 {
     let came = io::read_full(STDIN_FILENO, frame);
-    let FrameInput::Frame(_) = sheet_lines::frame_body(frame.len(), came) else {
+    let FrameInput::Frame(_) = sheet_text::frame_body(frame.len(), came) else {
         lines::refused(Refusal::FrameLength);
         return false;
     };
@@ -35,7 +35,7 @@ fn take_next(board: &mut [u32], bytes: &mut [u8], mix: &mut [u32]) -> bool
 {
     let mut pair = lent::frame_length();
     let came = io::read_full(STDIN_FILENO, &mut pair);
-    match sheet_lines::frame_start(&pair[..came]) {
+    match sheet_text::frame_start(&pair[..came]) {
         FrameInput::End => false,
         FrameInput::Cut => {
             lines::refused(Refusal::FrameLength);

@@ -6,7 +6,7 @@ use super::frames;
 use super::lent;
 use super::lines;
 use super::records;
-use board::OpenAnswer;
+use board_calls::OpenAnswer;
 
 // How many words are lent for n records: those of a board, and where n is above 64, and there is none, three.
 fn board_length(n: u32) -> usize
@@ -23,7 +23,7 @@ fn board_length(n: u32) -> usize
 fn open_in(p: u32, n: u32, board: &mut [u32])
     requires { ⌜ 3 ≤ length (now board) ⌝ }
 {
-    match board::open(p, n, board) {
+    match board_calls::open(p, n, board) {
         OpenAnswer::Opened => {
             frames::take_all(n as usize, board);
             records::show(n as usize, board);

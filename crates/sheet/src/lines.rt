@@ -2,9 +2,9 @@
 ghost use Prim.Native.Nat.{_≤_};
 ghost use lib.ListN.{length};
 use super::lent;
-use board::TakeAnswer;
+use board_calls::TakeAnswer;
+use checks::Refusal;
 use libc::STDOUT_FILENO;
-use modulus::Refusal;
 
 // Writes the line at the front of the buffer.
 fn write(buffer: &[u8], size: usize)
@@ -16,27 +16,27 @@ fn write(buffer: &[u8], size: usize)
 // The line of a frame.
 pub fn answer(answer: TakeAnswer, count: u32) {
     let mut line = lent::line();
-    let size = sheet_lines::answer_line(answer, count, &mut line);
+    let size = sheet_text::answer_line(answer, count, &mut line);
     write(&line, size);
 }
 
 // The line of a refusal: of a cut header, a refused open, a frame that was cut.
 pub fn refused(kind: Refusal) {
     let mut line = lent::line();
-    let size = sheet_lines::refused_line(kind, &mut line);
+    let size = sheet_text::refused_line(kind, &mut line);
     write(&line, size);
 }
 
 // The line of a record.
 pub fn record(position: u32, mark: u32, number: i32) {
     let mut line = lent::line();
-    let size = sheet_lines::record_line(position, mark, number, &mut line);
+    let size = sheet_text::record_line(position, mark, number, &mut line);
     write(&line, size);
 }
 
 // The last line.
 pub fn missing(missing: u32) {
     let mut line = lent::line();
-    let size = sheet_lines::missing_line(missing, &mut line);
+    let size = sheet_text::missing_line(missing, &mut line);
     write(&line, size);
 }

@@ -7,14 +7,14 @@ mod lent;
 mod lines;
 mod records;
 
+use checks::Refusal;
 use libc::STDIN_FILENO;
-use modulus::Refusal;
-use sheet_lines::HeaderAnswer;
+use sheet_text::HeaderAnswer;
 
 fn main() {
     let mut bytes = lent::header();
     let came = io::read_full(STDIN_FILENO, &mut bytes);
-    match sheet_lines::header(&bytes[..came]) {
+    match sheet_text::header(&bytes[..came]) {
         HeaderAnswer::Cut => lines::refused(Refusal::FrameLength),
         HeaderAnswer::Open(p, n) => heat::open(p, n),
     }

@@ -4,7 +4,7 @@ ghost use Prim.Native.Nat.{_≤_};
 ghost use lib.ListN.{length};
 use super::lent;
 use super::lines;
-use board::CountAnswer;
+use board_calls::CountAnswer;
 
 // A line for each record.
 fn print(marks: &[u32], numbers: &[i32])
@@ -21,7 +21,7 @@ fn print(marks: &[u32], numbers: &[i32])
 fn show_in(board: &[u32], marks: &mut [u32], numbers: &mut [i32])
     requires { ⌜ (length (now marks) ≡ length (now numbers)) × (length (now marks) ≤ 64) ⌝ }
 {
-    match board::show(board, marks, numbers) {
+    match board_calls::show(board, marks, numbers) {
         CountAnswer::Count(missing) => {
             print(marks, numbers);
             lines::missing(missing);

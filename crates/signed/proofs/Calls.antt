@@ -7,10 +7,10 @@ use native.Mathlib.Decide.{decLt}
 use native.Mathlib.Omega.{arith}
 use lib.IntN.{ℤ, pos}
 use Rattle.algebra.proofs.Choice.{pick-yes, pick-no}
-use Rattle.modulus.specs.declared.Refusal.the-variants.{Modulus, Number}
-use Rattle.modulus.specs.Told.{refused}
-use Rattle.modulus.specs.Prime.{IsModulus}
-use Rattle.modulus.specs.Decide.{modulus?}
+use Rattle.checks.specs.declared.Refusal.the-variants.{Modulus, Number}
+use Rattle.checks.specs.Told.{refused}
+use Rattle.checks.specs.Prime.{IsModulus}
+use Rattle.checks.specs.Decide.{modulus?}
 use Rattle.signed.specs.Reading.{reading, residueOf, IsRecord}
 use Rattle.signed.specs.Decide.{record?}
 use Rattle.signed.specs.Calls.{signedCall, residueCall}

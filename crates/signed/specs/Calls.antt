@@ -4,9 +4,9 @@ use native.Mathlib.Decide.{decLt}
 use mathlib.Core.List.{[], _∷_}
 use lib.IntN.{ℤ, pos}
 use Rattle.algebra.specs.Choice.{pick}
-use Rattle.modulus.specs.declared.Refusal.the-variants.{Modulus, Number}
-use Rattle.modulus.specs.Told.{Told, refused}
-use Rattle.modulus.specs.Decide.{modulus?}
+use Rattle.checks.specs.declared.Refusal.the-variants.{Modulus, Number}
+use Rattle.checks.specs.Told.{Told, refused}
+use Rattle.checks.specs.Decide.{modulus?}
 use Rattle.signed.specs.Reading.{reading, residueOf}
 use Rattle.signed.specs.Decide.{record?}
 

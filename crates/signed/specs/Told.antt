@@ -1,7 +1,7 @@
 -- What the answers of signed and residue tell: 0 and the number, or the refusal.
 use mathlib.Core.List.{[], _∷_}
 use lib.IntN.{pos}
-use Rattle.modulus.specs.Told.{Told, refused}
+use Rattle.checks.specs.Told.{Told, refused}
 use Rattle.signed.specs.declared.SignedAnswer.{SignedAnswer}
 use Rattle.signed.specs.declared.SignedAnswer.the-variants as signed
 use Rattle.signed.specs.declared.ResidueAnswer.{ResidueAnswer}

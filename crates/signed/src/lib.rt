@@ -7,7 +7,7 @@ ghost use Rattle.signed.specs.Reading.{lowEnd, readFrom, residueOf, InRa
 ghost use Rattle.signed.specs.Decide.{inRange?};
 ghost use Rattle.signed.specs.Told.{signedTold, residueTold};
 ghost use Rattle.signed.specs.Calls.{signedCall, residueCall};
-use modulus::Refusal;
+use checks::Refusal;
 
 pub enum SignedAnswer {
     Record(i32),
@@ -66,7 +66,7 @@ pub fn residue_from(p: u32, low: u32, record: i32) -> u32
 pub fn signed(p: u32, v: u32) -> SignedAnswer
     ensures { λ r. ⌜ signedTold r ≡ signedCall p v ⌝ }
 {
-    if !modulus::is_modulus(p) {
+    if !checks::is_modulus(p) {
         return SignedAnswer::Refused(Refusal::Modulus);
     }
     if p <= v {
@@ -79,7 +79,7 @@ pub fn signed(p: u32, v: u32) -> SignedAnswer
 pub fn residue(p: u32, record: i32) -> ResidueAnswer
     ensures { λ r. ⌜ residueTold r ≡ residueCall p «record» ⌝ }
 {
-    if !modulus::is_modulus(p) {
+    if !checks::is_modulus(p) {
         return ResidueAnswer::Refused(Refusal::Modulus);
     }
     let low = low_end(p);

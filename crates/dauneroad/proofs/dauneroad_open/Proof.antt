@@ -1,9 +1,9 @@
 -- `dauneroad_open` meets its contract: it tells the number of the answer below it, and the board is as that left it.
 use mathlib.Core.Path.{_≡_, ap}
 use borrow.Author.Needs.{needs}
-use Rattle.board.specs.declared.OpenAnswer.{OpenAnswer}
-use Rattle.board.specs.declared.OpenAnswer.the-variants.{Opened, Refused}
-use Rattle.board.specs.Told.{openTold}
+use Rattle.board_calls.specs.declared.OpenAnswer.{OpenAnswer}
+use Rattle.board_calls.specs.declared.OpenAnswer.the-variants.{Opened, Refused}
+use Rattle.board_calls.specs.Told.{openTold}
 use Rattle.dauneroad.specs.Exports.{answer, openAnswer}
 use Rattle.dauneroad.proofs.dauneroad_open.Statement.{statement}
 use Rattle.dauneroad.proofs.dauneroad_open.Tie as tie

@@ -3,9 +3,9 @@
 use mathlib.Core.Path.{_≡_, ap}
 use native.Mathlib.Omega.{arith}
 use borrow.Author.Needs.{needs}
-use Rattle.tables.specs.declared.TableAnswer.{TableAnswer}
-use Rattle.tables.specs.declared.TableAnswer.the-variants.{Done, Refused}
-use Rattle.tables.specs.Told.{tableTold}
+use Rattle.matrix.specs.declared.TableAnswer.{TableAnswer}
+use Rattle.matrix.specs.declared.TableAnswer.the-variants.{Done, Refused}
+use Rattle.matrix.specs.Told.{tableTold}
 use Rattle.dauneroad.specs.Exports.{answer, quasiinverseAnswer}
 use Rattle.dauneroad.proofs.Bounds.{quasiinverse-most}
 use Rattle.dauneroad.proofs.dauneroad_quasiinverse.Statement.{statement}

@@ -2,9 +2,9 @@
 -- the value of a frame that is read is handed on.
 use mathlib.Core.Path.{_≡_, ap}
 use borrow.Author.Needs.{needs}
-use Rattle.frame_bytes.specs.declared.ReadAnswer.{ReadAnswer}
-use Rattle.frame_bytes.specs.declared.ReadAnswer.the-variants.{Value, Refused}
-use Rattle.frame_bytes.specs.Told.{readTold}
+use Rattle.frame.specs.declared.ReadAnswer.{ReadAnswer}
+use Rattle.frame.specs.declared.ReadAnswer.the-variants.{Value, Refused}
+use Rattle.frame.specs.Told.{readTold}
 use Rattle.dauneroad.specs.Exports.{numberOr, answer, readAnswer}
 use Rattle.dauneroad.proofs.dauneroad_read.Statement.{statement}
 use Rattle.dauneroad.proofs.dauneroad_read.Tie as tie

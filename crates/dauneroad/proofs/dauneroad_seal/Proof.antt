@@ -2,9 +2,9 @@
 -- handed on.
 use mathlib.Core.Path.{_≡_, ap}
 use borrow.Author.Needs.{needs}
-use Rattle.frame_bytes.specs.declared.SealAnswer.{SealAnswer}
-use Rattle.frame_bytes.specs.declared.SealAnswer.the-variants.{Value, Refused}
-use Rattle.frame_bytes.specs.Told.{sealTold}
+use Rattle.frame.specs.declared.SealAnswer.{SealAnswer}
+use Rattle.frame.specs.declared.SealAnswer.the-variants.{Value, Refused}
+use Rattle.frame.specs.Told.{sealTold}
 use Rattle.dauneroad.specs.Exports.{numberOr, answer, sealAnswer}
 use Rattle.dauneroad.proofs.dauneroad_seal.Statement.{statement}
 use Rattle.dauneroad.proofs.dauneroad_seal.Tie as tie

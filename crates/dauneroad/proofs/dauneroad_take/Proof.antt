@@ -2,9 +2,9 @@
 -- the mix are as that left them.
 use mathlib.Core.Path.{_≡_, ap}
 use borrow.Author.Needs.{needs}
-use Rattle.judging.specs.declared.TakeAnswer.{TakeAnswer}
-use Rattle.judging.specs.declared.TakeAnswer.the-variants.{New, Repeat, Refused}
-use Rattle.judging.specs.Told.{takeTold}
+use Rattle.board_solve.specs.declared.TakeAnswer.{TakeAnswer}
+use Rattle.board_solve.specs.declared.TakeAnswer.the-variants.{New, Repeat, Refused}
+use Rattle.board_solve.specs.Told.{takeTold}
 use Rattle.dauneroad.specs.Exports.{answer, takeAnswer}
 use Rattle.dauneroad.proofs.dauneroad_take.Statement.{statement}
 use Rattle.dauneroad.proofs.dauneroad_take.Tie as tie

@@ -2,9 +2,9 @@
 use mathlib.Core.Path.{_≡_, ap}
 use native.Mathlib.Omega.{arith}
 use borrow.Author.Needs.{needs}
-use Rattle.board.specs.declared.CountAnswer.{CountAnswer}
-use Rattle.board.specs.declared.CountAnswer.the-variants.{Count, Refused}
-use Rattle.board.specs.Told.{answerTold}
+use Rattle.board_calls.specs.declared.CountAnswer.{CountAnswer}
+use Rattle.board_calls.specs.declared.CountAnswer.the-variants.{Count, Refused}
+use Rattle.board_calls.specs.Told.{answerTold}
 use Rattle.dauneroad.specs.Exports.{answer, withdrawAnswer}
 use Rattle.dauneroad.proofs.Bounds.{withdraw-most}
 use Rattle.dauneroad.proofs.dauneroad_withdraw.Statement.{statement}

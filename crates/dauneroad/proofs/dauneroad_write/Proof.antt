@@ -2,9 +2,9 @@
 use mathlib.Core.Path.{_≡_, ap}
 use native.Mathlib.Omega.{arith}
 use borrow.Author.Needs.{needs}
-use Rattle.frame_bytes.specs.declared.WriteAnswer.{WriteAnswer}
-use Rattle.frame_bytes.specs.declared.WriteAnswer.the-variants.{Length, Refused}
-use Rattle.frame_bytes.specs.Told.{writeTold}
+use Rattle.frame.specs.declared.WriteAnswer.{WriteAnswer}
+use Rattle.frame.specs.declared.WriteAnswer.the-variants.{Length, Refused}
+use Rattle.frame.specs.Told.{writeTold}
 use Rattle.dauneroad.specs.Exports.{answer, writeAnswer}
 use Rattle.dauneroad.proofs.Bounds.{write-most}
 use Rattle.dauneroad.proofs.dauneroad_write.Statement.{statement}

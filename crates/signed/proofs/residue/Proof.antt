@@ -10,8 +10,8 @@ use mir.Syntax.{w32}
 use mir.ValLaws.{toZ-ofZ}
 use Rattle.algebra.specs.Choice.{pick}
 use Rattle.algebra.proofs.Choice.{pick-true, pick-false}
-use Rattle.modulus.specs.Prime.{IsModulus}
-use Rattle.modulus.proofs.Guards.{no-modulus, is-modulus}
+use Rattle.checks.specs.Prime.{IsModulus}
+use Rattle.checks.proofs.Guards.{no-modulus, is-modulus}
 use Rattle.signed.specs.Reading.{lowEnd, InRange}
 use Rattle.signed.specs.Decide.{inRange?}
 use Rattle.signed.proofs.Readings.{low-end-below, record-in-range}

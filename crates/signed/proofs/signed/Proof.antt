@@ -7,8 +7,8 @@ use borrow.Author.Needs.{needs}
 use mir.Syntax.{w32}
 use mir.Val.{SFits}
 use mir.ValLaws.{toZ-ofZ}
-use Rattle.modulus.specs.Prime.{IsModulus}
-use Rattle.modulus.proofs.Guards.{no-modulus, is-modulus}
+use Rattle.checks.specs.Prime.{IsModulus}
+use Rattle.checks.proofs.Guards.{no-modulus, is-modulus}
 use Rattle.signed.proofs.Readings.{low-end-below, reading-from-low}
 use Rattle.signed.proofs.Calls.{signed-no-modulus, signed-no-residue, signed-done}
 use Rattle.signed.proofs.signed.Statement.{statement}

@@ -8,7 +8,7 @@ use Rattle.field.specs.Residue.{reduce}
 use Rattle.field.specs.Four.{fourAt, summedAt}
 use Rattle.field.proofs.Halves.{word-fits, mod-fits}
 use Rattle.field.proofs.Four.{inside-at}
-use Rattle.field.proofs.Walk.{Walked, walked-none, walked-more}
+use Rattle.words.proofs.Walk.{Walked, walked-none, walked-more}
 use Rattle.field.proofs.sums.add_four.Statement.{statement}
 use Rattle.field.proofs.sums.add_four.Tie as tie
 

@@ -8,7 +8,7 @@ use Rattle.field.specs.Halves.{low, high}
 use Rattle.field.specs.Four.{fourAt}
 use Rattle.field.proofs.Halves.{low-fits, high-fits}
 use Rattle.field.proofs.Four.{inside-at}
-use Rattle.field.proofs.Walk.{Walked, walked-none, walked-more}
+use Rattle.words.proofs.Walk.{Walked, walked-none, walked-more}
 use Rattle.field.proofs.sums.add_rows.Statement.{statement}
 use Rattle.field.proofs.sums.add_rows.Tie as tie
 

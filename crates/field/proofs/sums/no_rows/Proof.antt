@@ -1,6 +1,6 @@
 -- `field::sums::no_rows` meets its contract.
 use mathlib.Core.Path.{refl}
-use Rattle.field.proofs.Halves.{zeros-at}
+use Rattle.words.proofs.Zeros.{zeros-at}
 use Rattle.field.proofs.sums.no_rows.Statement.{statement}
 use Rattle.field.proofs.sums.no_rows.Tie as tie
 

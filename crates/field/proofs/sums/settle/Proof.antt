@@ -8,7 +8,7 @@ use Rattle.field.specs.Halves.{wholeAt}
 use Rattle.field.specs.Four.{Powers, summedAt}
 use Rattle.field.proofs.Halves.{word-fits, whole-low}
 use Rattle.field.proofs.Four.{mod-short, quarter-product, one-fits}
-use Rattle.field.proofs.Walk.{Walked, walked-none, walked-more}
+use Rattle.words.proofs.Walk.{Walked, walked-none, walked-more}
 use Rattle.field.proofs.sums.settle.Statement.{statement}
 use Rattle.field.proofs.sums.settle.Tie as tie
 

@@ -4,8 +4,8 @@ use Prim.Native.Nat.{_≤_}
 use native.Mathlib.Omega.{arith}
 use lib.Seq.{length-take-le}
 use borrow.Author.Needs.{needs}
-use Rattle.sheet_lines.specs.declared.FrameInput.{FrameInput}
-use Rattle.sheet_lines.specs.Input.{lengthIn}
+use Rattle.sheet_text.specs.declared.FrameInput.{FrameInput}
+use Rattle.sheet_text.specs.Input.{lengthIn}
 use Rattle.sheet.proofs.frames.take_next.Statement.{statement}
 use Rattle.sheet.proofs.frames.take_next.Tie as tie
 

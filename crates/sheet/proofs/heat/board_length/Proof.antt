@@ -2,7 +2,7 @@
 use mathlib.Core.Path.{refl}
 use native.Mathlib.Omega.{arith}
 use borrow.Author.Needs.{needs}
-use Rattle.standing.proofs.TestSizes.{rows-most}
+use Rattle.board_words.proofs.TestSizes.{rows-most}
 use Rattle.sheet.proofs.heat.board_length.Statement.{statement}
 use Rattle.sheet.proofs.heat.board_length.Tie as tie
 

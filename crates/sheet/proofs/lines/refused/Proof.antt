@@ -1,6 +1,6 @@
 -- `sheet::lines::refused` is safe: what was printed into the buffer lies within it.
 use borrow.Author.Needs.{needs}
-use Rattle.sheet_lines.proofs.Written.{printed-within}
+use Rattle.sheet_text.proofs.Written.{printed-within}
 use Rattle.sheet.proofs.lines.refused.Statement.{statement}
 use Rattle.sheet.proofs.lines.refused.Tie as tie
 

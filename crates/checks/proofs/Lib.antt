@@ -1,0 +1,5 @@
+pub mod InOrder
+pub mod Refusals
+pub mod Trial
+pub mod Walk
+pub mod Guards

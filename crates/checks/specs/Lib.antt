@@ -1,0 +1,9 @@
+pub mod Refusal
+pub mod Told
+pub mod Outcome
+pub mod InOrder
+pub mod Prime
+pub mod Largest
+pub mod Decide
+pub mod Sizes
+pub mod Gaps

@@ -1,0 +1,33 @@
+-- 01, "What is handed back on refusal": the number returned for each kind, the one place where it stands.
+use Prim.Native.Nat.{ℕ, _≤_, _<_}
+use Rattle.checks.specs.declared.Refusal.{Refusal}
+use Rattle.checks.specs.declared.Refusal.the-variants.{
+  Modulus,
+  Size,
+  Length,
+  Number,
+  Insoluble,
+  FrameLength,
+  Padding,
+  ZeroMultiplier,
+  Conflict,
+  Withdrawal,
+  NotBoard,
+}
+
+abbrev pub refusalNumber : Refusal → ℕ
+refusalNumber Modulus = 1
+refusalNumber Size = 2
+refusalNumber Length = 3
+refusalNumber Number = 4
+refusalNumber Insoluble = 5
+refusalNumber FrameLength = 6
+refusalNumber Padding = 7
+refusalNumber ZeroMultiplier = 8
+refusalNumber Conflict = 9
+refusalNumber Withdrawal = 10
+refusalNumber NotBoard = 11
+
+-- a number that is told for a refusal: from 1, and below 100, where the numbers of other answers begin
+abbrev pub IsRefusal : ℕ → Type 0
+IsRefusal k = (1 ≤ k) × (k < 100)

@@ -1,0 +1,133 @@
+// The refusal kinds, the test of the modulus, and what several calls check alike: the modulus, then the size.
+ghost use mathlib.Core.Path.{_≡_};
+ghost use Rattle.algebra.specs.Answers.{Tells};
+ghost use Rattle.checks.specs.Refusal.{refusalNumber};
+ghost use Rattle.checks.specs.Prime.{IsModulus};
+ghost use Rattle.checks.specs.Sizes.{tableSizes, frameSizes, Judges};
+
+mod primes;
+
+// The most rows, columns or records.
+pub const LARGEST: u32 = 64;
+
+// Why a call refuses: the kinds 1 to 11 of document 01's table.
+pub enum Refusal {
+    // 1: p is no prime in range
+    Modulus,
+    // 2: m or n above 64; n of 0 for frames and open
+    Size,
+    // 3: a lent slice's length is not the one named
+    Length,
+    // 4: a number not below p, or a record out of range
+    Number,
+    // 5: no solution
+    Insoluble,
+    // 6: frame length
+    FrameLength,
+    // 7: bit at n or above
+    Padding,
+    // 8: multiplier 0 under a standing bit
+    ZeroMultiplier,
+    // 9: the frame contradicts the standing ones
+    Conflict,
+    // 10: t above the count
+    Withdrawal,
+    // 11: the words are no board
+    NotBoard,
+}
+
+// The number that document 01 gives the kind.
+pub fn number_of(kind: Refusal) -> u32
+    ensures { λ r. ⌜ r ≡ refusalNumber kind ⌝ }
+{
+    match kind {
+        Refusal::Modulus => 1,
+        Refusal::Size => 2,
+        Refusal::Length => 3,
+        Refusal::Number => 4,
+        Refusal::Insoluble => 5,
+        Refusal::FrameLength => 6,
+        Refusal::Padding => 7,
+        Refusal::ZeroMultiplier => 8,
+        Refusal::Conflict => 9,
+        Refusal::Withdrawal => 10,
+        Refusal::NotBoard => 11,
+    }
+}
+
+// Whether p is a prime from 2 to 2,147,483,647, by trial division by the primes q whose square is at most p: those up to
+// 46,340 for the largest p. words is a part of the table of primes, of which i words are taken; w has the gaps that are
+// left of the last one, at first those from 2 to 29.
+pub fn is_modulus(p: u32) -> bool
+    ensures { λ r. ⌜ Tells r (IsModulus p) ⌝ }
+{
+    if p < 2 {
+        return false;
+    }
+    if 2147483647 < p {
+        return false;
+    }
+    let mut words = [0u64; 20];
+    let mut part: usize = 0;
+    let mut i: usize = 20;
+    let mut w: u64 = 0x0608082020808101;
+    let mut q: u32 = 2;
+    while q < 46341 {
+        if p / q < q {
+            return true;
+        }
+        if p % q == 0 {
+            return false;
+        }
+        if w == 0 {
+            if i == 20 {
+                words = primes::gaps(part);
+                part += 1;
+                i = 0;
+            }
+            w = words[i];
+            i += 1;
+        }
+        q += (w % 128) as u32;
+        w /= 128;
+    }
+    true
+}
+
+// What going through checks in order tells: all hold, or the kind of the first that fails.
+pub enum Verdict {
+    Passed,
+    Refused(Refusal),
+}
+
+// 1 and 2 of the calls on tables: the modulus, then m and n at most 64.
+pub fn table_sizes(p: u32, m: u32, n: u32) -> Verdict
+    ensures { λ r. ⌜ Judges (tableSizes p m n) r ⌝ }
+{
+    if !is_modulus(p) {
+        return Verdict::Refused(Refusal::Modulus);
+    }
+    if LARGEST < m {
+        return Verdict::Refused(Refusal::Size);
+    }
+    if LARGEST < n {
+        return Verdict::Refused(Refusal::Size);
+    }
+    Verdict::Passed
+}
+
+// 1 and 2 of the calls on frames, and of open: the modulus, then n from 1 to 64.
+pub fn frame_sizes(p: u32, n: u32) -> Verdict
+    ensures { λ r. ⌜ Judges (frameSizes p n) r ⌝ }
+{
+    if !is_modulus(p) {
+        return Verdict::Refused(Refusal::Modulus);
+    }
+    if n < 1 {
+        return Verdict::Refused(Refusal::Size);
+    }
+    if LARGEST < n {
+        return Verdict::Refused(Refusal::Size);
+    }
+    Verdict::Passed
+}

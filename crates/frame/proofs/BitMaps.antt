@@ -1,0 +1,107 @@
+-- The map of eight bytes and the bytes that it was built from: the same bits where the bytes reach and none past them. So
+-- none stands at n or above exactly if the bytes are unpadded, and then all standing bits are those of the records.
+use mathlib.Core.Path.{_≡_, refl, sym, ap, _∙_}
+use mathlib.Core.Bool.{true, false}
+use mathlib.Core.List.{List, _++_}
+use Prim.Native.Nat.{ℕ, zero, suc, _+_, _*_, _-_, _/_, _≤_, _<_}
+use native.Mathlib.Nat.{add-zero, zero-add, zero-div}
+use native.Mathlib.Decide.{decLt}
+use native.Mathlib.Numerals.{add-one}
+use native.Mathlib.Omega.{arith}
+use lib.ListN.{length, getD, set, take, replicate, List·getD-append}
+use lib.Seq.{length-take-le, take-suc, append-snoc, set-at, getD-append-add, getD-take}
+use Rattle.frame.specs.Format.{mapLength}
+use Rattle.frame.specs.Reading.{bitAt, standing, recordBits, Unpadded}
+use Rattle.frame.specs.Bitmap.{mapFrom, standingFrom}
+use Rattle.frame.proofs.Bits.{count, count-record-bits, count-small, count-runs, count-clear, stands-counts, clear-of-count, bits-agree}
+
+-- ---- building the map
+
+pub map-none : (bytes : List ℕ) → replicate 8 0 ≡ mapFrom 0 bytes
+unfolding mapFrom
+map-none bytes = refl
+
+-- one byte more
+pub map-more : (bytes : List ℕ) (b : ℕ) → b < 8 → b < length bytes → set (mapFrom b bytes) b (getD bytes b 0) ≡ mapFrom (b + 1) bytes
+unfolding mapFrom
+map-more bytes b h l =
+    let left : 8 - b ≡ suc (8 - (b + 1)) = omega arith in
+    let e : length (take b bytes) ≡ b = length-take-le b bytes (omega arith) in
+    rw (left, set-at (take b bytes) 0 (replicate (8 - (b + 1)) 0) (getD bytes b 0) b e, add-one, take-suc bytes b 0 l)
+    (sym (append-snoc (take b bytes) (getD bytes b 0) (replicate (8 - suc b) 0)))
+
+-- ---- what stands in it
+
+zeros-at : (n i : ℕ) → _≡_ {A = ℕ} (getD (replicate n 0) i 0) 0
+zeros-at zero i = refl
+zeros-at (suc n) zero = refl
+zeros-at (suc n) (suc i) = zeros-at n i
+
+module _ (len : ℕ) (bytes : List ℕ) (fits : len ≤ length bytes) where
+  map-at : (i : ℕ) → i < len → getD (mapFrom len bytes) i 0 ≡ getD bytes i 0
+  unfolding mapFrom
+  map-at i h =
+      let l : i < length (take len bytes) = rw (length-take-le len bytes fits) h in
+      List·getD-append (take len bytes) (replicate (8 - len) 0) 0 i l ∙ getD-take len bytes i 0 h
+
+  map-past : (i : ℕ) → len ≤ i → getD (mapFrom len bytes) i 0 ≡ 0
+  unfolding mapFrom
+  map-past i h =
+      let place : i ≡ length (take len bytes) + (i - len) = omega (arith, length-take-le len bytes fits) in
+      ap (λ (k : ℕ). getD (take len bytes ++ replicate (8 - len) 0) k 0) place
+      ∙ getD-append-add (take len bytes) (replicate (8 - len) 0) (i - len) 0
+      ∙ zeros-at (8 - len) (i - len)
+
+  bit-of-map : (j : ℕ) → j < 8 * len → bitAt (mapFrom len bytes) j ≡ bitAt bytes j
+  unfolding bitAt
+  bit-of-map j h = rw (map-at (j / 8) (omega arith))
+
+  bit-past-map : (j : ℕ) → 8 * len ≤ j → bitAt (mapFrom len bytes) j ≡ false
+  unfolding bitAt
+  bit-past-map j h = rw (map-past (j / 8) (omega arith), zero-div)
+
+-- ---- its standing bits
+
+pub standing-small : (map : List ℕ) → standingFrom 0 map ≤ 64
+unfolding standingFrom count
+standing-small map = count-small map 0 64
+
+-- none stands at n or above: none is counted there, and one that stands is
+pub none-from : (n : ℕ) (map : List ℕ) → ((j : ℕ) → j < 64 → n ≤ j → bitAt map j ≡ false) → standingFrom n map ≡ 0
+unfolding standingFrom count
+none-from n map clear = count-clear map n (64 - n) (λ j h l. clear j (omega arith) h)
+
+pub one-from : (n : ℕ) (map : List ℕ) (j : ℕ) → j < 64 → n ≤ j → bitAt map j ≡ true → standingFrom n map ≡ 0 → ⊥
+unfolding standingFrom count
+one-from n map j h l = stands-counts map n (64 - n) j l (omega arith)
+
+-- where none stands at n or above, the standing bits of the map are those of the first n
+pub standing-first : (n : ℕ) (map : List ℕ) → n ≤ 64 → standingFrom n map ≡ 0 → standingFrom 0 map ≡ standing (recordBits n map)
+unfolding standingFrom count
+standing-first n map small none =
+    let all : 64 ≡ n + (64 - n) = omega arith in
+    ap (count map 0) all ∙ count-runs map 0 n (64 - n) ∙ rw (zero-add n, none, add-zero, count-record-bits)
+
+-- ---- the map of the front of a frame of n records
+
+module _ (n : ℕ) (bytes : List ℕ) (fits : mapLength n ≤ length bytes) where
+  -- the records' bits are in the map as they are in the bytes
+  pub map-record-bits : recordBits n (mapFrom (mapLength n) bytes) ≡ recordBits n bytes
+  unfolding recordBits mapLength
+  map-record-bits =
+      bits-agree (mapFrom (mapLength n) bytes) bytes 0 n
+      (λ i _ h. bit-of-map (mapLength n) bytes fits i (omega arith))
+
+  -- none stands at n or above exactly if the bytes are unpadded
+  pub none-unpadded : n ≤ 64 → standingFrom n (mapFrom (mapLength n) bytes) ≡ 0 → Unpadded n bytes
+  unfolding mapLength standingFrom count
+  none-unpadded small none j h l =
+      sym (bit-of-map (mapLength n) bytes fits j h)
+      ∙ clear-of-count (mapFrom (mapLength n) bytes) n (64 - n) j none l (omega arith)
+
+  pub unpadded-none : Unpadded n bytes → standingFrom n (mapFrom (mapLength n) bytes) ≡ 0
+  unpadded-none clear = none-from n (mapFrom (mapLength n) bytes) (λ j _ l. by-place j l (decLt j (8 * mapLength n)))
+    where
+      by-place : (j : ℕ) → n ≤ j → Dec (j < 8 * mapLength n) → bitAt (mapFrom (mapLength n) bytes) j ≡ false
+      by-place j l (yes k) = bit-of-map (mapLength n) bytes fits j k ∙ clear j k l
+      by-place j l (no k) = bit-past-map (mapLength n) bytes fits j (omega arith)

@@ -1,0 +1,219 @@
+-- Frames go round: what is written reads as what it was written from, and a frame that is read is the one that is written for
+-- what was read. So the frames that reading accepts are exactly those that some multipliers and a value write. Last, how long
+-- a frame is. The map, the numbers and the bytes have their laws in RoundMap, RoundNumbers and Bytes.
+use mathlib.Core.Path.{_≡_, _∙_}
+use mathlib.Core.Logic.{_↔_}
+use mathlib.Core.List.{List, [], _∷_, _++_, append-assoc}
+use Prim.Native.Nat.{ℕ, _+_, _*_, _^_, _<_, _≤_}
+use native.Mathlib.Decide.{decLe, ℕ-discrete}
+use native.Mathlib.Omega.{arith}
+use lib.ListN.{length, getD, take, drop, length-append, length-drop, take-append-drop}
+use lib.Seq.{drop-at, drop-drop}
+use Rattle.algebra.proofs.Choice.{pick-yes}
+use Rattle.checks.specs.declared.Refusal.the-variants.{FrameLength, Padding}
+use Rattle.words.specs.Words.{Below}
+use Rattle.frame.specs.Format.{width, mapLength, longest, bytesOf, stands, mapBytes, valueBytes, frameOf}
+use Rattle.frame.specs.Reading.{standing, spread, accepted, Unpadded, unpadded?, recordBits, frameLength, frameNumbers, frameValue, readNumbers, readFrame}
+use Rattle.frame.proofs.Bytes.{
+  bytes-length,
+  number-of-bytes,
+  bytes-of-number,
+  below-drop,
+  one-value,
+  value-bytes-length,
+  numbers-length,
+  numbers-of-values,
+  values-of-numbers,
+}
+use Rattle.frame.proofs.RoundMap.{map-length, bits-of-map, map-unpadded, map-of-bits, record-bits-length}
+use Rattle.frame.proofs.RoundNumbers.{
+  kept,
+  Positive,
+  packed-kept,
+  standing-kept,
+  stands-length,
+  spread-kept,
+  kept-below,
+  kept-positive,
+  kept-length,
+  kept-all,
+  spread-length,
+  spread-below,
+  spread-stands,
+  accepted-if,
+  Passed,
+  judge-passed,
+  judge-accepts,
+}
+
+-- ---- a frame of one value, in three parts
+
+-- a number below 2,147,483,648 fits its bytes
+number-fits : (p x : ℕ) → p ≤ 2147483647 → x < p → x < 256 ^ width
+unfolding width
+number-fits p x h l = omega arith
+
+-- the bit map, the multipliers that are not 0, the value
+pub frame-parts :
+    (n : ℕ) (xs : List ℕ) (v : ℕ) → frameOf n xs (v ∷ []) ≡ mapBytes n (stands xs) ++ (valueBytes (kept xs) ++ bytesOf width v)
+unfolding frameOf
+frame-parts n xs v = rw (one-value v, packed-kept) (append-assoc (mapBytes n (stands xs)) (valueBytes (kept xs)) (bytesOf width v))
+
+pub frame-length :
+    (n : ℕ) (xs : List ℕ) (v : ℕ) → length (frameOf n xs (v ∷ [])) ≡ mapLength n + width * length (kept xs) + width
+frame-length n xs v =
+    rw (frame-parts, length-append, length-append, map-length, value-bytes-length, bytes-length width v) (omega arith)
+
+-- ---- written frames are read
+
+-- a frame whose map and length are right is judged by its numbers
+read-judged :
+    (p n : ℕ) (bytes : List ℕ) → mapLength n ≤ length bytes → Unpadded n bytes → length bytes ≡ frameLength n bytes
+    → readFrame p n bytes ≡ readNumbers p n bytes
+unfolding readFrame
+read-judged p n bytes h u e =
+    pick-yes (decLe (mapLength n) (length bytes)) _ _ h
+    ∙ pick-yes (unpadded? n bytes) _ _ u
+    ∙ pick-yes (ℕ-discrete (length bytes) (frameLength n bytes)) _ _ e
+
+module _ (n : ℕ) (xs : List ℕ) (v : ℕ) (long : length xs ≡ n) where
+  written-bits : recordBits n (frameOf n xs (v ∷ [])) ≡ stands xs
+  written-bits = rw frame-parts (bits-of-map n (stands xs) _ (stands-length xs ∙ long))
+
+  written-unpadded : Unpadded n (frameOf n xs (v ∷ []))
+  written-unpadded = rw frame-parts (map-unpadded n (stands xs) _ (stands-length xs ∙ long))
+
+  written-length : length (frameOf n xs (v ∷ [])) ≡ frameLength n (frameOf n xs (v ∷ []))
+  unfolding frameLength
+  written-length = rw (written-bits, standing-kept) (frame-length n xs v)
+
+  -- the numbers that are read are those kept, and the value
+  written-numbers : Below (256 ^ width) xs → frameNumbers n (frameOf n xs (v ∷ [])) ≡ kept xs
+  unfolding frameNumbers
+  written-numbers fit =
+      rw (written-bits, standing-kept, frame-parts, drop-at (mapBytes n (stands xs)) _ (mapLength n) (map-length n (stands xs)))
+      (numbers-of-values (kept xs) (bytesOf width v) (kept-below (256 ^ width) xs fit))
+
+  written-value : v < 256 ^ width → frameValue n (frameOf n xs (v ∷ [])) ≡ v
+  unfolding frameValue
+  written-value fit =
+      let front = mapBytes n (stands xs) ++ valueBytes (kept xs) in
+      let long : length front ≡ mapLength n + width * length (kept xs) =
+      length-append (mapBytes n (stands xs)) (valueBytes (kept xs)) ∙ rw (map-length, value-bytes-length) in
+      let joined = append-assoc (mapBytes n (stands xs)) (valueBytes (kept xs)) (bytesOf width v) in
+      let dropped = drop-at front (bytesOf width v) (mapLength n + width * length (kept xs)) long in
+      rw (written-bits, standing-kept, frame-parts, ← joined, dropped) (number-of-bytes width v fit)
+
+-- what is written for multipliers and a value below p reads as these multipliers and this value
+pub written-reads-back :
+    (p n : ℕ) (xs : List ℕ) (v : ℕ) → p ≤ 2147483647 → length xs ≡ n → Below p xs → v < p
+    → readFrame p n (frameOf n xs (v ∷ [])) ≡ accepted xs v
+unfolding readNumbers
+written-reads-back p n xs v range long below value =
+    let numbers = written-numbers n xs v long (λ i h. number-fits p (getD xs i 0) range (below i h)) in
+    let last = written-value n xs v long (number-fits p v range value) in
+    read-judged p n (frameOf n xs (v ∷ [])) (omega (arith, frame-length n xs v)) (written-unpadded n xs v long) (written-length n xs v long)
+    ∙ rw (numbers, last, written-bits n xs v long, spread-kept)
+    (judge-accepts p (kept xs) xs v (kept-positive xs) (kept-below p xs below) value)
+
+-- ---- frames that are read are written
+
+-- the bytes are what n multipliers and a value, all below p, write
+pub record Writes (p n : ℕ) (xs : List ℕ) (v : ℕ) (bytes : List ℕ) : Type 0 where
+  pub long : length xs ≡ n
+  pub below : Below p xs
+  pub value-below : v < p
+  pub bytes-are : frameOf n xs (v ∷ []) ≡ bytes
+
+-- what an accepted frame has passed
+record Sound (p n : ℕ) (bytes xs : List ℕ) (v : ℕ) : Type 0 where
+  map-fits : mapLength n ≤ length bytes
+  unpadded : Unpadded n bytes
+  right-length : length bytes ≡ frameLength n bytes
+  passed : Passed p (frameNumbers n bytes) (spread (recordBits n bytes) (frameNumbers n bytes)) (frameValue n bytes) xs v
+
+accepted-sound : (p n : ℕ) (bytes xs : List ℕ) (v : ℕ) → readFrame p n bytes ≡ accepted xs v → Sound p n bytes xs v
+unfolding readFrame readNumbers
+accepted-sound p n bytes xs v e =
+    let (h, e1) = accepted-if (decLe (mapLength n) (length bytes)) _ FrameLength xs v e in
+    let (u, e2) = accepted-if (unpadded? n bytes) _ Padding xs v e1 in
+    let (l, e3) = accepted-if (ℕ-discrete (length bytes) (frameLength n bytes)) _ FrameLength xs v e2 in
+    record { map-fits = h; unpadded = u; right-length = l; passed = judge-passed p _ _ _ xs v e3 }
+
+-- the last bytes of a frame of the right length are those of its value
+value-bytes :
+    (n : ℕ) (bytes : List ℕ) → Below 256 bytes → length bytes ≡ frameLength n bytes
+    → bytesOf width (frameValue n bytes) ≡ drop (mapLength n + width * standing (recordBits n bytes)) bytes
+unfolding frameLength frameValue
+value-bytes n bytes small e =
+    let at = mapLength n + width * standing (recordBits n bytes) in
+    let w : length (drop at bytes) ≡ width = omega (arith, length-drop at bytes) in
+    rw w at (bytes-of-number (drop at bytes) (below-drop 256 at bytes small))
+
+-- and the bytes between are those of its numbers
+number-bytes :
+    (n : ℕ) (bytes : List ℕ) → Below 256 bytes → length bytes ≡ frameLength n bytes
+    → valueBytes (frameNumbers n bytes) ≡ take (width * standing (recordBits n bytes)) (drop (mapLength n) bytes)
+unfolding frameLength frameNumbers
+number-bytes n bytes small e =
+    values-of-numbers (standing (recordBits n bytes)) (drop (mapLength n) bytes) (below-drop 256 (mapLength n) bytes small)
+    (omega (arith, length-drop (mapLength n) bytes))
+
+counted : (n : ℕ) (bytes : List ℕ) → length (frameNumbers n bytes) ≡ standing (recordBits n bytes)
+unfolding frameNumbers
+counted n bytes = numbers-length (standing (recordBits n bytes)) (drop (mapLength n) bytes)
+
+-- a frame that reads as multipliers and a value is what they write
+pub accepted-rewrites :
+    (p n : ℕ) (bytes xs : List ℕ) (v : ℕ) → Below 256 bytes → readFrame p n bytes ≡ accepted xs v → Writes p n xs v bytes
+accepted-rewrites p n bytes xs v small e =
+    let s = accepted-sound p n bytes xs v e in
+    let t = s .passed in
+    let bits = recordBits n bytes in
+    let ns = frameNumbers n bytes in
+    let count : length ns ≡ standing bits = counted n bytes in
+    let again = spread-stands bits ns count (t .positive) in
+    let m = mapLength n in
+    let k = width * standing bits in
+    let l = s .right-length in
+    let map = map-of-bits n bytes small (s .map-fits) (s .unpadded) in
+    let whole : take m bytes ++ (take k (drop m bytes) ++ drop (m + k) bytes) ≡ bytes =
+    rw (← (drop-drop k m bytes), take-append-drop k (drop m bytes)) (take-append-drop m bytes) in
+    record {
+      long = rw (← (t .multipliers)) (spread-length bits ns ∙ record-bits-length n bytes);
+      below = rw (← (t .multipliers)) (spread-below p bits ns (omega (arith, t .value-below)) (t .below));
+      value-below = rw (← (t .value)) (t .value-below);
+      bytes-are =
+          frame-parts n xs v
+          ∙ rw (← (t .multipliers), ← (t .value), again .0, again .1, map, number-bytes n bytes small l, value-bytes n bytes small l) whole;
+    }
+
+-- reading accepts exactly what is written, and finds exactly what it is written from
+pub accepted-as :
+    (p n : ℕ) (bytes xs : List ℕ) (v : ℕ) → p ≤ 2147483647 → Below 256 bytes → (readFrame p n bytes ≡ accepted xs v) ↔ Writes p n xs v bytes
+accepted-as p n bytes xs v range small = (
+  accepted-rewrites p n bytes xs v small,
+  λ w. rw (← (w .bytes-are)) (written-reads-back p n xs v range (w .long) (w .below) (w .value-below)),
+)
+
+-- a frame is accepted exactly if it is what some multipliers and a value write
+pub accepted-exactly :
+    (p n : ℕ) (bytes : List ℕ) → p ≤ 2147483647 → Below 256 bytes
+    → ((xs : List ℕ) × (v : ℕ) × (readFrame p n bytes ≡ accepted xs v)) ↔ ((xs : List ℕ) × (v : ℕ) × Writes p n xs v bytes)
+accepted-exactly p n bytes range small = (
+  λ a. (a .0, a .1, accepted-as p n bytes (a .0) (a .1) range small .0 (a .2)),
+  λ w. (w .0, w .1, accepted-as p n bytes (w .0) (w .1) range small .1 (w .2)),
+)
+
+-- ---- how long a frame is
+
+-- the longest frame has 268 bytes
+pub longest-frame : (n : ℕ) (xs : List ℕ) (v : ℕ) → length xs ≡ n → n ≤ 64 → length (frameOf n xs (v ∷ [])) ≤ longest
+unfolding longest width mapLength
+longest-frame n xs v long h = omega (arith, frame-length n xs v, kept-length xs)
+
+-- 64 multipliers that are not 0 reach it
+pub longest-reached :
+    (xs : List ℕ) (v : ℕ) → length xs ≡ 64 → Positive xs → length (frameOf 64 xs (v ∷ [])) ≡ longest
+unfolding longest width mapLength
+longest-reached xs v long h = rw (frame-length, kept-all xs h, long)

@@ -1,0 +1,182 @@
+-- The numbers of a frame: which multipliers are written, that they are spread over the standing bits again, and when reading
+-- accepts them. Decisions are never opened; an accepted choice says that its decision held.
+use mathlib.Core.Path.{_≡_, refl, sym, ap, _∙_}
+use mathlib.Core.Bool.{Bool, true, false}
+use mathlib.Core.List.{List, [], _∷_}
+use Prim.Native.Nat.{ℕ, zero, suc, _<_, _≤_}
+use native.Mathlib.Nat.{not-suc-le-zero}
+use native.Mathlib.Decide.{decLt, ℕ-discrete}
+use native.Mathlib.Omega.{arith}
+use lib.Dec.{eqb·suc-zero}
+use lib.ListN.{length, getD}
+use Rattle.algebra.specs.Choice.{pick}
+use Rattle.algebra.proofs.Choice.{pick-yes, pick-no, pick-elim}
+use Rattle.checks.specs.declared.Refusal.{Refusal}
+use Rattle.checks.specs.declared.Refusal.the-variants.{Number, ZeroMultiplier}
+use Rattle.words.specs.Words.{Below}
+use Rattle.frame.specs.Format.{stands, packed, valueBytes}
+use Rattle.frame.specs.Reading.{standing, spread, Found, accepted, rejected, judgeValue, judge}
+use Rattle.frame.proofs.Bytes.{values-none, values-more, below-head, below-tail, below-cons}
+
+-- ---- the multipliers that are written
+
+-- the multipliers that are not 0
+pub kept : List ℕ → List ℕ
+kept [] = []
+kept (zero ∷ xs) = kept xs
+kept (suc x ∷ xs) = suc x ∷ kept xs
+
+-- no number is 0
+abbrev pub Positive : List ℕ → Type 0
+Positive xs = (i : ℕ) → i < length xs → 0 < getD xs i 0
+
+-- the bytes of the multipliers under standing bits are those of the numbers kept
+pub packed-kept : (xs : List ℕ) → packed xs ≡ valueBytes (kept xs)
+unfolding packed kept
+packed-kept [] = sym values-none
+packed-kept (zero ∷ xs) = packed-kept xs
+packed-kept (suc x ∷ xs) = rw (eqb·suc-zero x, packed-kept xs, values-more)
+
+pub standing-kept : (xs : List ℕ) → standing (stands xs) ≡ length (kept xs)
+unfolding stands standing kept
+standing-kept [] = refl
+standing-kept (zero ∷ xs) = rw (standing-kept xs) (omega arith)
+standing-kept (suc x ∷ xs) = rw (eqb·suc-zero x, standing-kept xs) (omega arith)
+
+pub stands-length : (xs : List ℕ) → length (stands xs) ≡ length xs
+unfolding stands
+stands-length [] = refl
+stands-length (x ∷ xs) = ap suc (stands-length xs)
+
+-- spread over the standing bits, the numbers kept are the multipliers again
+pub spread-kept : (xs : List ℕ) → spread (stands xs) (kept xs) ≡ xs
+unfolding stands kept spread
+spread-kept [] = refl
+spread-kept (zero ∷ xs) = ap (λ (ys : List ℕ). 0 ∷ ys) (spread-kept xs)
+spread-kept (suc x ∷ xs) = rw (eqb·suc-zero x) (ap (λ (ys : List ℕ). suc x ∷ ys) (spread-kept xs))
+
+pub kept-below : (p : ℕ) (xs : List ℕ) → Below p xs → Below p (kept xs)
+unfolding kept
+kept-below p [] h = h
+kept-below p (zero ∷ xs) h = kept-below p xs (below-tail p 0 xs h)
+kept-below p (suc x ∷ xs) h =
+    below-cons p (suc x) (kept xs) (below-head p (suc x) xs h) (kept-below p xs (below-tail p (suc x) xs h))
+
+pub kept-positive : (xs : List ℕ) → Positive (kept xs)
+unfolding kept
+kept-positive [] i h = absurd (not-suc-le-zero h)
+kept-positive (zero ∷ xs) i h = kept-positive xs i h
+kept-positive (suc x ∷ xs) zero h = omega arith
+kept-positive (suc x ∷ xs) (suc i) h = kept-positive xs i (omega arith)
+
+pub kept-length : (xs : List ℕ) → length (kept xs) ≤ length xs
+unfolding kept
+kept-length [] = omega arith
+kept-length (zero ∷ xs) = omega (arith, kept-length xs)
+kept-length (suc x ∷ xs) = omega (arith, kept-length xs)
+
+-- if none is 0, all are kept
+pub kept-all : (xs : List ℕ) → Positive xs → kept xs ≡ xs
+unfolding kept
+kept-all [] h = refl
+kept-all (zero ∷ xs) h = absurd (omega (arith, h 0 (omega arith)))
+kept-all (suc x ∷ xs) h = ap (λ (ys : List ℕ). suc x ∷ ys) (kept-all xs (λ i l. h (suc i) (omega arith)))
+
+-- ---- numbers spread over bits
+
+pub spread-length : (bits : List Bool) (ns : List ℕ) → length (spread bits ns) ≡ length bits
+unfolding spread
+spread-length [] ns = refl
+spread-length (true ∷ bits) [] = ap suc (spread-length bits [])
+spread-length (true ∷ bits) (x ∷ ns) = ap suc (spread-length bits ns)
+spread-length (false ∷ bits) ns = ap suc (spread-length bits ns)
+
+pub spread-below : (p : ℕ) (bits : List Bool) (ns : List ℕ) → 0 < p → Below p ns → Below p (spread bits ns)
+unfolding spread
+spread-below p [] ns z h = λ i l. absurd (not-suc-le-zero l)
+spread-below p (true ∷ bits) [] z h = below-cons p 0 (spread bits []) z (spread-below p bits [] z h)
+spread-below p (true ∷ bits) (x ∷ ns) z h =
+    below-cons p x (spread bits ns) (below-head p x ns h) (spread-below p bits ns z (below-tail p x ns h))
+spread-below p (false ∷ bits) ns z h = below-cons p 0 (spread bits ns) z (spread-below p bits ns z h)
+
+-- numbers that are not 0, one for each standing bit, stand where the bits do, and all of them are kept
+pub spread-stands :
+    (bits : List Bool) (ns : List ℕ) → length ns ≡ standing bits → Positive ns
+    → (stands (spread bits ns) ≡ bits) × (kept (spread bits ns) ≡ ns)
+unfolding spread stands kept standing
+spread-stands [] [] e h = (refl, refl)
+spread-stands [] (x ∷ ns) e h = absurd (omega arith)
+spread-stands (true ∷ bits) [] e h = absurd (omega arith)
+spread-stands (true ∷ bits) (zero ∷ ns) e h = absurd (omega (arith, h 0 (omega arith)))
+spread-stands (true ∷ bits) (suc x ∷ ns) e h =
+    let rest = spread-stands bits ns (omega arith) (λ i l. h (suc i) (omega arith)) in
+    rw (eqb·suc-zero x)
+    (ap (λ (bs : List Bool). true ∷ bs) (rest .0), ap (λ (ys : List ℕ). suc x ∷ ys) (rest .1))
+spread-stands (false ∷ bits) ns e h =
+    let rest = spread-stands bits ns (omega arith) h in
+    (ap (λ (bs : List Bool). false ∷ bs) (rest .0), rest .1)
+
+-- ---- what is accepted
+
+never-accepted : {A : Type 0} (k : Refusal) (xs : List ℕ) (v : ℕ) → rejected k ≡ accepted xs v → A
+never-accepted k xs v e = absurd (let z : _≡_ {A = ℕ} 0 1 = cc in omega arith)
+
+-- what is rejected unless P and yet accepted holds P, and is accepted under it
+pub accepted-if :
+    {P : Type 0} (d : Dec P) (f : Found) (k : Refusal) (xs : List ℕ) (v : ℕ) → pick d f (rejected k) ≡ accepted xs v
+    → P × (f ≡ accepted xs v)
+accepted-if {P} d f k xs v =
+    pick-elim (λ g. g ≡ accepted xs v → P × (f ≡ accepted xs v)) d f (rejected k) (λ h e. (h, e)) (λ _ e. never-accepted k xs v e)
+
+-- and the same of what is rejected if P
+pub accepted-unless :
+    {P : Type 0} (d : Dec P) (f : Found) (k : Refusal) (xs : List ℕ) (v : ℕ) → pick d (rejected k) f ≡ accepted xs v
+    → (P → ⊥) × (f ≡ accepted xs v)
+accepted-unless {P} d f k xs v =
+    pick-elim (λ g. g ≡ accepted xs v → (P → ⊥) × (f ≡ accepted xs v)) d (rejected k) f (λ _ e. never-accepted k xs v e) (λ n e. (n, e))
+
+-- what an accepted judgement says of the numbers that were judged
+pub record Passed (p : ℕ) (ns xs : List ℕ) (v : ℕ) (ys : List ℕ) (w : ℕ) : Type 0 where
+  pub positive : Positive ns
+  pub below : Below p ns
+  pub value-below : v < p
+  pub multipliers : xs ≡ ys
+  pub value : v ≡ w
+
+pub judge-passed :
+    (p : ℕ) (ns xs : List ℕ) (v : ℕ) (ys : List ℕ) (w : ℕ) → judge p ns xs v ≡ accepted ys w → Passed p ns xs v ys w
+unfolding judge judgeValue
+judge-passed p [] xs v ys w e =
+    let (h, s) = accepted-if (decLt v p) (accepted xs v) Number ys w e in
+    record {
+      positive = λ i l. absurd (not-suc-le-zero l);
+      below = λ i l. absurd (not-suc-le-zero l);
+      value-below = h;
+      multipliers = cc;
+      value = cc;
+    }
+judge-passed p (x ∷ ns) xs v ys w e =
+    let (nz, e1) = accepted-unless (ℕ-discrete x 0) _ ZeroMultiplier ys w e in
+    let (lt, e2) = accepted-if (decLt x p) (judge p ns xs v) Number ys w e1 in
+    let rest = judge-passed p ns xs v ys w e2 in
+    record {
+      positive = positive-cons x ns (omega arith) (rest .positive);
+      below = below-cons p x ns lt (rest .below);
+      value-below = rest .value-below;
+      multipliers = rest .multipliers;
+      value = rest .value;
+    }
+  where
+    positive-cons : (x : ℕ) (xs : List ℕ) → 0 < x → Positive xs → Positive (x ∷ xs)
+    positive-cons x xs h t zero l = h
+    positive-cons x xs h t (suc i) l = t i (omega arith)
+
+-- numbers from 1 to p - 1 and a value below p are accepted
+pub judge-accepts :
+    (p : ℕ) (ns xs : List ℕ) (v : ℕ) → Positive ns → Below p ns → v < p → judge p ns xs v ≡ accepted xs v
+unfolding judge judgeValue
+judge-accepts p [] xs v h b l = pick-yes (decLt v p) _ _ l
+judge-accepts p (x ∷ ns) xs v h b l =
+    pick-no (ℕ-discrete x 0) _ _ (λ e. omega (arith, h 0 (omega arith)))
+    ∙ pick-yes (decLt x p) _ _ (below-head p x ns b)
+    ∙ judge-accepts p ns xs v (λ i k. h (suc i) (omega arith)) (below-tail p x ns b) l

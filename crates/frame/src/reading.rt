@@ -1,0 +1,110 @@
+// Reading a frame: the bit map, then the numbers, one read at its place, all judged in byte order, and the multipliers filled in.
+ghost use mathlib.Core.Path.{_≡_};
+ghost use mathlib.Core.List.{List};
+ghost use Prim.Native.Nat.{ℕ, _+_, _*_, _≤_, _<_};
+ghost use lib.ListN.{length};
+ghost use Rattle.frame.specs.Format.{width};
+ghost use Rattle.frame.specs.Reading.{recordBits, standing, readFrame};
+ghost use Rattle.frame.specs.Stages.{numberAt, judgeFrom, multipliersFrom, found};
+ghost use Rattle.frame.specs.Told.{readTold};
+ghost use Rattle.frame.specs.Calls.{readOutcome};
+ghost use Rattle.checks.specs.Outcome.{outcome};
+use super::ReadAnswer;
+use super::bitmap;
+use checks::Refusal;
+
+// The number whose four bytes stand at the place, most significant first.
+fn number_at(bytes: &[u8], at: usize) -> u32
+    requires { ⌜ at + width ≤ length (now bytes) ⌝ }
+    ensures { λ r. ⌜ r ≡ numberAt (now (bytes .entry)) at ⌝ }
+{
+    let a = bytes[at] as u32;
+    let b = bytes[at + 1] as u32;
+    let c = bytes[at + 2] as u32;
+    let d = bytes[at + 3] as u32;
+    ((a * 256 + b) * 256 + c) * 256 + d
+}
+
+// Judges the multipliers that stand from the place on, and the value behind them: the value, or why the first bad one is refused.
+fn judged(p: u32, bytes: &[u8], start: usize, count: usize) -> ReadAnswer
+    requires { ⌜ length (now bytes) ≡ start + width * count + width ⌝ }
+    ensures { λ r. ⌜ ((xs : List ℕ) → found xs r ≡ judgeFrom p (now (bytes .entry)) start count xs) ⌝ }
+{
+    let mut at = start;
+    let mut left = count;
+    while 0 < left {
+        let x = number_at(bytes, at);
+        if x == 0 {
+            return ReadAnswer::Refused(Refusal::ZeroMultiplier);
+        }
+        if p <= x {
+            return ReadAnswer::Refused(Refusal::Number);
+        }
+        at += 4;
+        left -= 1;
+    }
+    let value = number_at(bytes, at);
+    if p <= value {
+        return ReadAnswer::Refused(Refusal::Number);
+    }
+    ReadAnswer::Value(value)
+}
+
+// Writes the multipliers: the next number from the place on where the bit stands, and 0 where it does not.
+fn fill(map: [u8; 8], bytes: &[u8], start: usize, multipliers: &mut [u32])
+    requires { ⌜ (length (now multipliers) ≤ 64) × (start + width * standing (recordBits (length (now multipliers)) map) ≤ length (now bytes)) ⌝ }
+    ensures { λ _. ⌜ now (multipliers .exit) ≡ multipliersFrom map (now (bytes .entry)) start 0 (length (now (multipliers .entry))) ⌝ }
+{
+    let mut at = start;
+    let mut j = 0;
+    while j < multipliers.len() {
+        if bitmap::stands(map, j) {
+            multipliers[j] = number_at(bytes, at);
+            at += 4;
+        } else {
+            multipliers[j] = 0;
+        }
+        j += 1;
+    }
+}
+
+// Reads the numbers from the place on: only where all of them are good are the multipliers written.
+pub fn read_numbers(
+    p: u32,
+    map: [u8; 8],
+    bytes: &[u8],
+    start: usize,
+    count: usize,
+    multipliers: &mut [u32],
+) -> ReadAnswer
+    requires { ⌜ (length (now multipliers) ≤ 64) × (count ≡ standing (recordBits (length (now multipliers)) map)) × (length (now bytes) ≡ start + width * count + width) ⌝ }
+    ensures { λ r. ⌜ outcome (readTold r) (now (multipliers .exit)) ≡ readOutcome (now (multipliers .entry)) (judgeFrom p (now (bytes .entry)) start count (multipliersFrom map (now (bytes .entry)) start 0 (length (now (multipliers .entry))))) ⌝ }
+{
+    match judged(p, bytes, start, count) {
+        ReadAnswer::Value(value) => {
+            fill(map, bytes, start, multipliers);
+            ReadAnswer::Value(value)
+        }
+        ReadAnswer::Refused(kind) => ReadAnswer::Refused(kind),
+    }
+}
+
+// Reads a frame whose modulus and sizes are known to be right: for the board, which has checked them.
+pub fn read_frame(p: u32, n: usize, bytes: &[u8], multipliers: &mut [u32]) -> ReadAnswer
+    requires { ⌜ (0 < p) × (1 ≤ n) × (n ≤ 64) × (length (now multipliers) ≡ n) ⌝ }
+    ensures { λ r. ⌜ outcome (readTold r) (now (multipliers .exit)) ≡ readOutcome (now (multipliers .entry)) (readFrame p n (now (bytes .entry))) ⌝ }
+{
+    let len = (n + 7) / 8;
+    if bytes.len() < len {
+        return ReadAnswer::Refused(Refusal::FrameLength);
+    }
+    let map = bitmap::from_bytes(bytes, len);
+    if !bitmap::unpadded(map, n) {
+        return ReadAnswer::Refused(Refusal::Padding);
+    }
+    let count = bitmap::standing(map);
+    if bytes.len() != len + 4 * count + 4 {
+        return ReadAnswer::Refused(Refusal::FrameLength);
+    }
+    read_numbers(p, map, bytes, len, count, multipliers)
+}

@@ -1,0 +1,43 @@
+-- The first place where a test is true: which place it is, and that there is one unless the test is false everywhere.
+use mathlib.Core.Path.{_≡_, refl, sym, ap, _∙_}
+use mathlib.Core.Bool.{Bool, true, false}
+use mathlib.Core.Logic.{_⊎_, inl, inr, ⊎-elim}
+use Prim.Native.Nat.{ℕ, zero, suc, _+_, _≤_, _<_}
+use native.Mathlib.Nat.{eq-or-lt-of-le}
+use native.Mathlib.Omega.{arith}
+use Rattle.algebra.specs.Choice.{choose, pick}
+use Rattle.algebra.proofs.Choice.{pick-yes, pick-no}
+use Rattle.algebra.proofs.Counts.{true-not-false}
+use Rattle.matrix.specs.Calls.{firstFrom}
+
+-- the test passes at its first place, or nowhere
+pub first-or-none : (f : ℕ → Bool) (t k : ℕ)
+    → ((f (firstFrom f t k) ≡ true) × (firstFrom f t k < t + k)) ⊎ ((i : ℕ) → t ≤ i → i < t + k → f i ≡ false)
+unfolding firstFrom
+first-or-none f t zero = inr (λ i h l. absurd (omega arith))
+first-or-none f t (suc k) = go (f t) refl (first-or-none f (suc t) k)
+  where
+    go : (b : Bool) → f t ≡ b
+        → ((f (firstFrom f (suc t) k) ≡ true) × (firstFrom f (suc t) k < suc t + k)) ⊎ ((i : ℕ) → suc t ≤ i → i < suc t + k → f i ≡ false)
+        → ((f (choose b t (firstFrom f (suc t) k)) ≡ true) × (choose b t (firstFrom f (suc t) k) < t + suc k)) ⊎ ((i : ℕ) → t ≤ i → i < t + suc k → f i ≡ false)
+    go true e r = inl (e, omega arith)
+    go false e (inl (g, l)) = inl (g, omega arith)
+    go false e (inr g) = inr (λ i h l. ⊎-elim (λ d. ap f (sym d) ∙ e) (λ d. g i d (omega arith)) (eq-or-lt-of-le h))
+
+-- the place where it passes, having failed before
+pub first-is : (f : ℕ → Bool) (t k r : ℕ) → t ≤ r → r < t + k → ((i : ℕ) → i < r → f i ≡ false) → f r ≡ true → firstFrom f t k ≡ r
+unfolding firstFrom
+first-is f t zero r h l before here = absurd (omega arith)
+first-is f t (suc k) r h l before here =
+    ⊎-elim
+    (λ d. ap (λ b. choose b t (firstFrom f (suc t) k)) (ap f d ∙ here) ∙ d)
+    (λ d. ap (λ b. choose b t (firstFrom f (suc t) k)) (before t d) ∙ first-is f (suc t) k r d (omega arith) before here)
+    (eq-or-lt-of-le h)
+
+-- what a test for the contrary tells
+pub picked-false : {P : Type 0} (d : Dec P) → pick d false true ≡ false → P
+picked-false (yes h) e = h
+picked-false (no h) e = absurd (true-not-false (pick-no (no h) false true h) e)
+
+pub picked-true : {P : Type 0} (d : Dec P) → pick d false true ≡ true → P → ⊥
+picked-true d e h = true-not-false e (pick-yes d false true h)

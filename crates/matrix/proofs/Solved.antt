@@ -1,0 +1,119 @@
+-- How the numbers that the code compares decide a system: where A(Dw) and w agree at every place they are equal, and the
+-- first place where they differ is 01's row y.
+use mathlib.Core.Path.{_≡_, sym, ap, _∙_, fun-ext, subst}
+use mathlib.Core.Bool.{true, false}
+use mathlib.Core.List.{List}
+use Prim.Native.Nat.{ℕ, _≤_, _<_}
+use native.Mathlib.Omega.{arith}
+use lib.ListN.{length, getD, replicate}
+use Rattle.algebra.specs.Matrix.{Vector, Matrix, apply}
+use Rattle.algebra.specs.Span.{Solves}
+use Rattle.algebra.specs.Solve.{mixOf}
+use Rattle.algebra.proofs.Applied.{apply-same}
+use Rattle.algebra.proofs.Choice.{pick-yes, pick-no}
+use Rattle.checks.specs.declared.Refusal.the-variants.{Insoluble}
+use Rattle.checks.specs.Told.{refused}
+use Rattle.checks.specs.Prime.{IsModulus}
+use Rattle.field.specs.Residue.{residues, reduce}
+use Rattle.field.specs.View.{table}
+use Rattle.words.specs.Words.{Below}
+use Rattle.field.specs.Written.{numbers}
+use Rattle.field.proofs.Residues.{reduce-small, reduce-value}
+use Rattle.field.proofs.Field.{residue-equal?}
+use Rattle.field.proofs.Written.{length-tabulate, getD-tabulate}
+use Rattle.matrix.specs.Told.{done}
+use Rattle.matrix.specs.Calls.{tableOf, rankOf, inverseOf, solvedAs, wanted, candidate, solves?, firstRow, solution}
+use Rattle.matrix.specs.Parts.{vectorOf}
+use Rattle.words.specs.Words.{FirstDifference}
+use Rattle.matrix.proofs.First.{first-is}
+
+-- what is written and read again is the vector, as far as it was written
+pub vector-read : (p n : ℕ) (v : Vector (residues p)) (t : ℕ) → t < n → vectorOf p (numbers n v) t ≡ v t
+unfolding vectorOf
+vector-read p n v t l = ap (reduce p) (getD-tabulate n (λ k. (v k) .value) t l) ∙ reduce-value (v t)
+
+-- so a matrix is applied to it as to the vector
+pub apply-read : (p n : ℕ) (X : Matrix (residues p)) (v : Vector (residues p)) → apply (residues p) n X (vectorOf p (numbers n v)) ≡ apply (residues p) n X v
+apply-read p n X v = fun-ext (apply-same (residues p) n X (vectorOf p (numbers n v)) v (vector-read p n v))
+
+module _ (p : ℕ) (ok : IsModulus p) (m n : ℕ) (a w z : List ℕ) where
+  pub solution-found : Solves (residues p) m n (tableOf p m n a) (candidate p ok m n a w) (wanted p ok m n a w)
+      → solution p ok m n a w z ≡ solvedAs (done (rankOf p ok m n a)) (numbers n (candidate p ok m n a w)) (replicate m 0)
+  unfolding solution
+  solution-found h = pick-yes (solves? p ok m n a w) _ _ h
+
+  pub solution-none : (Solves (residues p) m n (tableOf p m n a) (candidate p ok m n a w) (wanted p ok m n a w) → ⊥)
+      → solution p ok m n a w z
+      ≡ solvedAs (refused Insoluble) z (numbers m (mixOf (residues p) n (tableOf p m n a) (inverseOf p ok m n a) (firstRow p ok m n a w)))
+  unfolding solution
+  solution-none h = pick-no (solves? p ok m n a w) _ _ h
+
+  -- A(Dw)
+  abbrev image : Vector (residues p)
+  image = apply (residues p) n (tableOf p m n a) (candidate p ok m n a w)
+
+  module _ (long : length w ≡ m) (below : Below p w) where
+    same-number : (i : ℕ) → i < m → image i ≡ wanted p ok m n a w i → getD (numbers m image) i 0 ≡ getD w i 0
+    same-number i l e =
+        getD-tabulate m _ i l ∙ ap (λ r. r .value) e ∙ reduce-small p (getD w i 0) (below i (omega arith))
+
+    same-residue : (i : ℕ) → i < m → getD (numbers m image) i 0 ≡ getD w i 0 → image i ≡ wanted p ok m n a w i
+    same-residue i l e = sym (reduce-value (image i)) ∙ ap (reduce p) (sym (getD-tabulate m _ i l) ∙ e)
+
+    module _ (y : ℕ) (first : FirstDifference (numbers m image) w y) where
+      -- no place differs: the system is solved
+      pub nowhere : m ≤ y → solution p ok m n a w z ≡ solvedAs (done (rankOf p ok m n a)) (numbers n (candidate p ok m n a w)) (replicate m 0)
+      nowhere h = solution-found (λ i l. same-residue i l (first .before i (omega arith)))
+
+      -- y is a place that differs: it is the first row, and the system is refused
+      differs : y < m → image y ≡ wanted p ok m n a w y → ⊥
+      differs h e = first .differs (omega (arith, length-tabulate m (λ i. (image i) .value))) (same-number y h e)
+
+      pub first-row : y < m → firstRow p ok m n a w ≡ y
+      unfolding firstRow
+      first-row h =
+          first-is _ 0 m y (omega arith) (omega arith)
+          (λ i l. pick-yes (residue-equal? (image i) (wanted p ok m n a w i)) false true (same-residue i (omega arith) (first .before i l)))
+          (pick-no (residue-equal? (image y) (wanted p ok m n a w y)) false true (differs h))
+
+      pub somewhere : y < m → solution p ok m n a w z
+          ≡ solvedAs (refused Insoluble) z (numbers m (mixOf (residues p) n (tableOf p m n a) (inverseOf p ok m n a) y))
+      somewhere h =
+          solution-none (λ s. differs h (s y h))
+          ∙ ap (λ k. solvedAs (refused Insoluble) z (numbers m (mixOf (residues p) n (tableOf p m n a) (inverseOf p ok m n a) k))) (first-row h)
+
+-- what the code has in memory: D in d, Dw in x, A(Dw) in its image, and y where that and w first differ
+pub record Compared (p : ℕ) (m n : ℕ) (a d w x image : List ℕ) (y : ℕ) : Type 0 where
+  pub w-long : length w ≡ m
+  pub w-below : Below p w
+  pub x-is : x ≡ numbers n (apply (residues p) m (table p d 0 m n m) (vectorOf p w))
+  pub image-is : image ≡ numbers m (apply (residues p) n (tableOf p m n a) (vectorOf p x))
+  pub first : FirstDifference image w y
+
+module _ (p : ℕ) (ok : IsModulus p) (m n : ℕ) (a d w z x image : List ℕ) (y : ℕ)
+    (is-D : table p d 0 m n m ≡ inverseOf p ok m n a) (h : Compared p m n a d w x image y) where
+  candidate-written : x ≡ numbers n (candidate p ok m n a w)
+  unfolding vectorOf
+  candidate-written = h .x-is ∙ ap (λ X. numbers n (apply (residues p) m X (wanted p ok m n a w))) is-D
+
+  image-written : image ≡ numbers m (apply (residues p) n (tableOf p m n a) (candidate p ok m n a w))
+  image-written =
+      h .image-is
+      ∙ ap (λ l. numbers m (apply (residues p) n (tableOf p m n a) (vectorOf p l))) candidate-written
+      ∙ ap (numbers m) (apply-read p n (tableOf p m n a) (candidate p ok m n a w))
+
+  first-there : FirstDifference (numbers m (apply (residues p) n (tableOf p m n a) (candidate p ok m n a w))) w y
+  first-there = subst (λ l. FirstDifference l w y) image-written (h .first)
+
+  -- the two answers
+  pub solved-by : (r : ℕ) (z′ u′ : List ℕ) → m ≤ y → r ≡ rankOf p ok m n a → z′ ≡ x → u′ ≡ replicate m 0
+      → solvedAs (done r) z′ u′ ≡ solution p ok m n a w z
+  solved-by r z′ u′ l rank same zeros =
+      (λ i. solvedAs (done (rank i)) ((same ∙ candidate-written) i) (zeros i))
+      ∙ sym (nowhere p ok m n a w z (h .w-long) (h .w-below) y first-there l)
+
+  pub refused-by : (u′ : List ℕ) → y < m → u′ ≡ numbers m (mixOf (residues p) n (tableOf p m n a) (table p d 0 m n m) y)
+      → solvedAs (refused Insoluble) z u′ ≡ solution p ok m n a w z
+  refused-by u′ l e =
+      ap (solvedAs (refused Insoluble) z) (e ∙ ap (λ X. numbers m (mixOf (residues p) n (tableOf p m n a) X y)) is-D)
+      ∙ sym (somewhere p ok m n a w z (h .w-long) (h .w-below) y first-there l)

@@ -1,0 +1,184 @@
+-- Document 01's sentences on the table A in memory, its I, J, r and D, its kernel and its systems, each quoted: for every
+-- prime in range, all sizes and every list of numbers.
+use mathlib.Core.Path.{_≡_, refl, sym, _∙_}
+use mathlib.Core.Bool.{true, false}
+use mathlib.Core.List.{List}
+use mathlib.Core.Logic.{_↔_, ⊎-elim}
+use Prim.Native.Nat.{ℕ, _<_}
+use native.Mathlib.Omega.{arith}
+use Rattle.algebra.specs.Ring.{IsCommutativeRing}
+use Rattle.algebra.specs.Matrix.{Vector, Matrix, sum, unit, product, apply, mixed, transpose}
+use Rattle.algebra.specs.Span.{Combines, IsCombination, RowDepends, ColumnDepends, InKernel, Solves}
+use Rattle.algebra.specs.Quasiinverse.{Marks, count, IsInverseOn, IsQuasiinverse}
+use Rattle.algebra.specs.Kernel.{kernelVector, combined}
+use Rattle.algebra.specs.Solve.{mixOf}
+use Rattle.algebra.proofs.Rings as rings
+use Rattle.algebra.proofs.Applied as applied
+use Rattle.algebra.proofs.Marks.{is-false}
+use Rattle.algebra.proofs.Chosen.{column-depends, column-free, row-depends, row-free}
+use Rattle.algebra.proofs.Unique.{inverse-on, inverse-unique, reflects}
+use Rattle.algebra.proofs.Rank.{rows-spanned, same-span-same-rank}
+use Rattle.algebra.proofs.Kernel.{kernel-vector-in, kernel-vector-own, kernel-spanned, kernel-spanned-once}
+use Rattle.algebra.proofs.Solve.{solved, mix-kills, mix-shows}
+use Rattle.checks.specs.Prime.{IsModulus}
+use Rattle.field.specs.Residue.{residues, _⊗_}
+use Rattle.field.proofs.Field.{residue-equal?}
+use Rattle.matrix.specs.Calls.{tableOf, field, columnsOf, rowMarksOf, rankOf, inverseOf, wanted, candidate, firstRow}
+use Rattle.matrix.proofs.First.{first-or-none, picked-true, picked-false}
+use Rattle.matrix.proofs.Inverted.{quasiinverse-of, rank-is}
+
+module _ (p : ℕ) (ok : IsModulus p) (m n : ℕ) (a : List ℕ) where
+  -- the table and what 01 names of it
+  abbrev A : Matrix (residues p)
+  A = tableOf p m n a
+
+  abbrev D : Matrix (residues p)
+  D = inverseOf p ok m n a
+
+  abbrev I : Marks
+  I = columnsOf p ok m n a
+
+  abbrev J : Marks
+  J = rowMarksOf p ok m n a
+
+  Q : IsQuasiinverse (residues p) m n A D I J
+  Q = quasiinverse-of p ok m n a
+
+  L : IsCommutativeRing (residues p)
+  L = field p ok m n a .ring
+
+  -- ---- quasiinverse
+
+  -- "So ADA = A"
+  pub absorbs-table : product (residues p) n A (product (residues p) m D A) ≡ A
+  absorbs-table = Q .absorbs
+
+  -- "and DAD = D"
+  pub reflects-table : product (residues p) m D (product (residues p) n A D) ≡ D
+  reflects-table = reflects (residues p) L Q
+
+  -- "I is the set of columns that are no combination of the columns before them"
+  pub chosen-columns-free : (c : ℕ) → I c ≡ true → (c < n) × (ColumnDepends (residues p) m A c → ⊥)
+  chosen-columns-free c e = (Q .columns c e, column-free (residues p) L (field p ok m n a .one-not-zero) Q c e)
+
+  pub chosen-columns-depend : (c : ℕ) → c < n → I c ≡ false → ColumnDepends (residues p) m A c
+  chosen-columns-depend c l e = column-depends (residues p) L Q c l e
+
+  -- "J the same for rows"
+  pub chosen-rows-free : (y : ℕ) → J y ≡ true → (y < m) × (RowDepends (residues p) n A y → ⊥)
+  chosen-rows-free y e = (Q .rows y e, row-free (residues p) L (field p ok m n a .one-not-zero) Q y e)
+
+  pub chosen-rows-depend : (y : ℕ) → y < m → J y ≡ false → RowDepends (residues p) n A y
+  chosen-rows-depend y l e = row-depends (residues p) L Q y l e
+
+  -- "(A zero column or row is never in its set.)"
+  pub zero-column-outside : (c : ℕ) → ((i : ℕ) → i < m → A i c ≡ residues p .zero) → I c ≡ false
+  unfolding transpose
+  zero-column-outside c z =
+      is-false (I c)
+      (λ e.
+      chosen-columns-free c e .1 (
+        (λ t. residues p .zero),
+        (λ i l. z i l ∙ sym (applied.zeros-mixed (residues p) L c (λ t. residues p .zero) (transpose (residues p) A) i (λ t k. refl))),
+      ))
+
+  pub zero-row-outside : (y : ℕ) → ((j : ℕ) → j < n → A y j ≡ residues p .zero) → J y ≡ false
+  zero-row-outside y z =
+      is-false (J y)
+      (λ e.
+      chosen-rows-free y e .1 (
+        (λ t. residues p .zero),
+        (λ j l. z j l ∙ sym (applied.zeros-mixed (residues p) L y (λ t. residues p .zero) A j (λ t k. refl))),
+      ))
+
+  -- "I and J have r members each, the rank"
+  pub rank-columns : count n I ≡ rankOf p ok m n a
+  rank-columns = rank-is p ok m n a Q
+
+  pub rank-rows : count m J ≡ rankOf p ok m n a
+  rank-rows = sym (Q .equally-many) ∙ rank-columns
+
+  -- "D, of n rows and m columns, is the inverse of A restricted to J and I, and 0 outside I and J"
+  pub inverse-table : IsInverseOn (residues p) m n A D I J
+  inverse-table = inverse-on (residues p) L Q
+
+  -- and nothing else is
+  pub inverse-only : (X : Matrix (residues p)) → IsInverseOn (residues p) m n A X I J → X ≡ D
+  inverse-only X h = inverse-unique (residues p) L (Q .columns) (Q .rows) h inverse-table
+
+  -- every row is a combination of the rows in J
+  pub rows-of-J-span : (y : ℕ) → y < m
+      → (u : Vector (residues p)) × ((t : ℕ) → J t ≡ false → u t ≡ residues p .zero) × Combines (residues p) m n A u (A y)
+  rows-of-J-span y l = rows-spanned (residues p) L Q y l
+
+  -- ---- kernel
+
+  -- "For each column c outside I, rising, one vector: column c of 1 - DA", which A sends to zero
+  pub kernel-vector-sent : (c : ℕ) → c < n → InKernel (residues p) m n A (kernelVector (residues p) m D A c)
+  kernel-vector-sent c l = kernel-vector-in (residues p) L Q c l
+
+  -- "It has 1 at c and 0 at the other columns outside I"
+  pub kernel-vector-outside : (c j : ℕ) → I j ≡ false → kernelVector (residues p) m D A c j ≡ unit (residues p) j c
+  kernel-vector-outside c j e = kernel-vector-own (residues p) L Q c j e
+
+  -- each vector that A sends to zero is a combination of the kernel vectors
+  pub kernel-one-combination : (x : Vector (residues p)) → InKernel (residues p) m n A x
+      → (y : Vector (residues p)) × ((j : ℕ) → j < n → x j ≡ combined (residues p) n I D A m y j)
+  kernel-one-combination x h = (x, kernel-spanned (residues p) L Q x h)
+
+  -- and of no other multipliers
+  pub kernel-only-one : (x y z : Vector (residues p))
+      → ((j : ℕ) → j < n → x j ≡ combined (residues p) n I D A m y j)
+      → ((j : ℕ) → j < n → x j ≡ combined (residues p) n I D A m z j)
+      → (c : ℕ) → c < n → I c ≡ false → y c ≡ z c
+  kernel-only-one x y z f g c l e =
+      kernel-spanned-once (residues p) L Q x y f c l e ∙ sym (kernel-spanned-once (residues p) L Q x z g c l e)
+
+  -- ---- solve
+
+  module _ (w : List ℕ) where
+    -- the system A x = w has a solution exactly "If A(Dw) = w"
+    pub solvable-exactly :
+        ((x : Vector (residues p)) × Solves (residues p) m n A x (wanted p ok m n a w))
+        ↔ Solves (residues p) m n A (candidate p ok m n a w) (wanted p ok m n a w)
+    solvable-exactly = (
+      (λ (x, h). solved (residues p) L Q x (wanted p ok m n a w) h),
+      (λ h. (candidate p ok m n a w, h)),
+    )
+
+    -- "the unit row of y minus (row y of A) times D, for the first row y where A(Dw) and w differ"
+    abbrev u : Vector (residues p)
+    u = mixOf (residues p) n A D (firstRow p ok m n a w)
+
+    -- where there is none, y is a row at which they differ
+    first-row-differs : (Solves (residues p) m n A (candidate p ok m n a w) (wanted p ok m n a w) → ⊥)
+        → (firstRow p ok m n a w < m)
+        × (apply (residues p) n A (candidate p ok m n a w) (firstRow p ok m n a w) ≡ wanted p ok m n a w (firstRow p ok m n a w) → ⊥)
+    unfolding firstRow
+    first-row-differs f =
+        ⊎-elim
+        (λ (e, l). (omega arith, picked-true (residue-equal? _ _) e))
+        (λ g. absurd (f (λ i l. picked-false (residue-equal? _ _) (g i (omega arith) (omega arith)))))
+        (first-or-none _ 0 m)
+
+    -- "Then uA = 0, and u times w is not 0": refused exactly where there is no solution, and the mix shows it
+    pub refused-exactly : (((x : Vector (residues p)) × Solves (residues p) m n A x (wanted p ok m n a w)) → ⊥)
+        → ((j : ℕ) → j < n → mixed (residues p) m u A j ≡ residues p .zero)
+        × (sum (residues p) m (λ t. u t ⊗ wanted p ok m n a w t) ≡ residues p .zero → ⊥)
+    refused-exactly none =
+        let (l, differs) = first-row-differs (λ h. none (solvable-exactly .1 h)) in
+        let y = firstRow p ok m n a w in (
+          mix-kills (residues p) L Q y l,
+          λ z. differs (sym (rings.difference-zero (residues p) L _ _ (sym (mix-shows (residues p) L Q (wanted p ok m n a w) y l) ∙ z))),
+        )
+
+-- "The ledger's rank .. in whatever order they came": rows that are combinations of each other's have the same rank
+pub rank-of-rows : (p : ℕ) (ok : IsModulus p) (m k n : ℕ) (a b : List ℕ)
+    → ((y : ℕ) → y < m → IsCombination (residues p) k n (tableOf p k n b) (tableOf p m n a y))
+    → ((y : ℕ) → y < k → IsCombination (residues p) m n (tableOf p m n a) (tableOf p k n b y))
+    → rankOf p ok m n a ≡ rankOf p ok k n b
+rank-of-rows p ok m k n a b f g =
+    sym (rank-rows p ok m n a)
+    ∙ same-span-same-rank (residues p) (field p ok m n a .ring) (field p ok m n a .one-not-zero)
+    (quasiinverse-of p ok m n a) (quasiinverse-of p ok k n b) f g
+    ∙ rank-rows p ok k n b

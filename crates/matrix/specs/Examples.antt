@@ -1,0 +1,117 @@
+-- 01, "Examples": the starred examples of tables, in the document's order, and what it is for one to hold of the definitions of
+-- the calls.
+use mathlib.Core.Path.{_≡_}
+use mathlib.Core.List.{List, [], _∷_, _++_, flatten, List·Memᴰ}
+use Prim.Native.Nat.{ℕ, _*_}
+use lib.ListN.{length, replicate}
+use Rattle.checks.specs.declared.Refusal.the-variants.{Insoluble}
+use Rattle.checks.specs.Told.{refused}
+use Rattle.matrix.specs.Told.{done}
+use Rattle.matrix.specs.Calls.{quasiinverted, quasiinverseCall, kernelled, kernelCall, Solved, solvedAs, solveCall}
+use Rattle.matrix.specs.Parts.{Room}
+
+-- "gives z = ..", or "gives 5, u = .."
+pub data Outcome : Type 0 where
+  solvedBy : List ℕ → Outcome
+  refusedBy : List ℕ → Outcome
+
+-- a right side w, and what becomes of it
+pub record SystemExample : Type 0 where
+  pub w : List ℕ
+  pub outcome : Outcome
+
+-- a table of m rows and n columns modulo p, its D row by row, the marks of I and J, the rank, the kernel's vectors, and systems
+pub record TableExample : Type 0 where
+  pub p : ℕ
+  pub m : ℕ
+  pub n : ℕ
+  pub a : List ℕ
+  pub d : List ℕ
+  pub columns : List ℕ
+  pub rows : List ℕ
+  pub rank : ℕ
+  pub vectors : List (List ℕ)
+  pub systems : List SystemExample
+
+unfoldable pub tableExamples : List TableExample
+tableExamples =
+    record {
+      p = 7;
+      m = 2;
+      n = 3;
+      a = 1 ∷ 2 ∷ 0 ∷ 0 ∷ 1 ∷ 3 ∷ [];
+      d = 1 ∷ 5 ∷ 0 ∷ 1 ∷ 0 ∷ 0 ∷ [];
+      columns = 1 ∷ 1 ∷ 0 ∷ [];
+      rows = 1 ∷ 1 ∷ [];
+      rank = 2;
+      vectors = (6 ∷ 4 ∷ 1 ∷ []) ∷ [];
+      systems = [];
+    }
+    ∷ record {
+      p = 5;
+      m = 2;
+      n = 2;
+      a = 0 ∷ 1 ∷ 1 ∷ 1 ∷ [];
+      d = 4 ∷ 1 ∷ 1 ∷ 0 ∷ [];
+      columns = 1 ∷ 1 ∷ [];
+      rows = 1 ∷ 1 ∷ [];
+      rank = 2;
+      vectors = [];
+      systems = [];
+    }
+    ∷ record {
+      p = 5;
+      m = 2;
+      n = 2;
+      a = 1 ∷ 2 ∷ 2 ∷ 4 ∷ [];
+      d = 1 ∷ 0 ∷ 0 ∷ 0 ∷ [];
+      columns = 1 ∷ 0 ∷ [];
+      rows = 1 ∷ 0 ∷ [];
+      rank = 1;
+      vectors = (3 ∷ 1 ∷ []) ∷ [];
+      systems =
+          record { w = 1 ∷ 2 ∷ []; outcome = solvedBy (1 ∷ 0 ∷ []) }
+          ∷ record { w = 1 ∷ 3 ∷ []; outcome = refusedBy (3 ∷ 1 ∷ []) }
+          ∷ [];
+    }
+    ∷ record {
+      p = 5;
+      m = 1;
+      n = 2;
+      a = 0 ∷ 3 ∷ [];
+      d = 0 ∷ 2 ∷ [];
+      columns = 0 ∷ 1 ∷ [];
+      rows = 1 ∷ [];
+      rank = 1;
+      vectors = (1 ∷ 0 ∷ []) ∷ [];
+      systems = [];
+    }
+    ∷ record {
+      p = 2;
+      m = 1;
+      n = 1;
+      a = 0 ∷ [];
+      d = 0 ∷ [];
+      columns = 0 ∷ [];
+      rows = 0 ∷ [];
+      rank = 0;
+      vectors = (1 ∷ []) ∷ [];
+      systems = [];
+    }
+    ∷ []
+
+-- what solve answers and leaves: z and a mix of zeros with the rank r, or 5 with the lent z and the mix u
+abbrev pub solvedSo : (m r : ℕ) → Outcome → List ℕ → Solved
+solvedSo m r (solvedBy z) lent = solvedAs (done r) z (replicate m 0)
+solvedSo m r (refusedBy u) lent = solvedAs (refused Insoluble) lent u
+
+-- the calls answer and leave what the example says, whatever memory of the right lengths they are lent
+pub record Holds (e : TableExample) : Type 0 where
+  pub inverts : (d columns rows : List ℕ) → Room (e .m) (e .n) d columns rows
+      → quasiinverseCall (e .p) (e .m) (e .n) (e .a) d columns rows ≡ quasiinverted (done (e .rank)) (e .d) (e .columns) (e .rows)
+  pub spans : (basis : List ℕ) → length basis ≡ e .n * e .n
+      → kernelCall (e .p) (e .m) (e .n) (e .a) basis
+      ≡ kernelled (done (length (e .vectors))) (flatten (e .vectors) ++ replicate (e .n * e .rank) 0)
+  pub solves : (s : SystemExample) → List·Memᴰ s (e .systems)
+      → (z u : List ℕ) → length z ≡ e .n → length u ≡ e .m
+      → solveCall (e .p) (e .m) (e .n) (e .a) (s .w) z u ≡ solvedSo (e .m) (e .rank) (s .outcome) z

@@ -1,0 +1,87 @@
+-- What the parts of the calls ask and leave: leaves' contracts over tables in memory, not document 01's.
+use mathlib.Core.Path.{_≡_}
+use mathlib.Core.Bool.{not}
+use mathlib.Core.List.{List, _++_}
+use Prim.Native.Nat.{ℕ, _+_, _*_, _-_, _≤_, _<_}
+use lib.ListN.{length, getD, replicate}
+use lib.Dec.{eqb}
+use Rattle.algebra.specs.Matrix.{Vector, sum}
+use Rattle.algebra.specs.Quasiinverse.{Marks, count}
+use Rattle.checks.specs.Prime.{IsModulus}
+use Rattle.field.specs.Residue.{Residue, residues, reduce, _⊗_}
+use Rattle.field.specs.View.{line, table, Reaches}
+use Rattle.words.specs.Words.{Below}
+use Rattle.field.specs.Written.{rowsOf, marksOf}
+use Rattle.matrix.specs.Calls.{columnsOf, rowMarksOf, rankOf, inverseOf, vectorsFrom, basisOf}
+
+-- a table of m rows and n columns that has passed the checks
+pub record Checked (p m n : ℕ) (a : List ℕ) : Type 0 where
+  pub is-modulus : IsModulus p
+  pub m-most : m ≤ 64
+  pub n-most : n ≤ 64
+  pub a-long : length a ≡ m * n
+  pub a-below : Below p a
+
+-- memory for D, the column marks and the row marks
+pub record Room (m n : ℕ) (d columns rows : List ℕ) : Type 0 where
+  pub d-long : length d ≡ n * m
+  pub columns-long : length columns ≡ n
+  pub rows-long : length rows ≡ m
+
+-- d, columns and rows hold the table's D, I and J
+pub record Inverted (p : ℕ) (ok : IsModulus p) (m n : ℕ) (a d columns rows : List ℕ) : Type 0 where
+  pub is-D : table p d 0 m n m ≡ inverseOf p ok m n a
+  pub d-written : d ≡ rowsOf n m (inverseOf p ok m n a)
+  pub columns-written : columns ≡ marksOf n (columnsOf p ok m n a)
+  pub rows-written : rows ≡ marksOf m (rowMarksOf p ok m n a)
+
+-- a table a of m rows and n columns, and D's memory d, n rows and m columns
+pub record Tables (p m n : ℕ) (a d : List ℕ) : Type 0 where
+  pub is-modulus : IsModulus p
+  pub m-most : m ≤ 64
+  pub n-most : n ≤ 64
+  pub a-long : length a ≡ m * n
+  pub d-long : length d ≡ n * m
+
+-- row i of x, k numbers long, lies in x, and k numbers of column j of y, whose rows are `width` long, in y
+pub record Crossing (p k : ℕ) (x : List ℕ) (i : ℕ) (y : List ℕ) (j width : ℕ) : Type 0 where
+  pub is-modulus : IsModulus p
+  pub short : k ≤ 64
+  pub row : i * k + k ≤ length x
+  pub column : Reaches k j width (length y)
+
+-- the sum of their products
+unfoldable pub crossed : (p k : ℕ) (x : List ℕ) (i : ℕ) (y : List ℕ) (j width : ℕ) → Residue p
+crossed p k x i y j width = sum (residues p) k (λ t. line p x (i * k) 1 t ⊗ line p y j width t)
+
+-- the positions whose number is not 0
+unfoldable pub marked : List ℕ → Marks
+marked xs c = not (eqb (getD xs c 0) 0)
+
+-- the numbers of a list as a vector
+unfoldable pub vectorOf : (p : ℕ) → List ℕ → Vector (residues p)
+vectorOf p xs i = reduce p (getD xs i 0)
+
+-- r vectors of the columns that are not marked, vector after vector, and 0 after them
+pub record KernelVectors (p m n : ℕ) (a d columns basis : List ℕ) (r : ℕ) : Type 0 where
+  pub filled :
+      basis
+      ≡ vectorsFrom m n (marked columns) (table p d 0 m n m) (table p a 0 n m n) 0 n ++ replicate (n * count n (marked columns)) 0
+  pub many : r + count n (marked columns) ≡ n
+
+-- the basis of the table's kernel, with r vectors
+pub record Kernelled (p : ℕ) (ok : IsModulus p) (m n : ℕ) (a basis : List ℕ) (r : ℕ) : Type 0 where
+  pub filled : basis ≡ basisOf p ok m n a
+  pub many : r ≡ n - rankOf p ok m n a
+
+-- the right side w of a system, and the memory of z and u
+pub record System (p m n : ℕ) (w z u : List ℕ) : Type 0 where
+  pub w-long : length w ≡ m
+  pub w-below : Below p w
+  pub z-long : length z ≡ n
+  pub u-long : length u ≡ m
+
+-- d holds the table's D, and r is its rank
+pub record Solver (p : ℕ) (ok : IsModulus p) (m n : ℕ) (a d : List ℕ) (r : ℕ) : Type 0 where
+  pub is-D : table p d 0 m n m ≡ inverseOf p ok m n a
+  pub is-rank : r ≡ rankOf p ok m n a

@@ -1,0 +1,125 @@
+// Tables: quasiinverse, kernel and solution. Each call checks, in this order, 1, p; 2, the sizes; 3, the lengths; 4, the
+// numbers; and leaves all lent memory as it was where it refuses by these.
+ghost use mathlib.Core.Path.{_≡_};
+ghost use Rattle.matrix.specs.Told.{tableTold};
+ghost use Rattle.matrix.specs.Calls.{quasiinverted, quasiinverseCall, kernelled, kernelCall, solvedAs, solveCall};
+use checks::Refusal;
+pub use matrix::TableAnswer;
+use matrix::parts;
+use words::all_below;
+
+pub mod work;
+
+// The quasiinverse D of the table a, m rows and n columns, the marks of its columns I and of its rows J, and the rank.
+pub fn quasiinverse(
+    p: u32,
+    m: u32,
+    n: u32,
+    a: &[u32],
+    d: &mut [u32],
+    columns: &mut [u32],
+    rows: &mut [u32],
+) -> TableAnswer
+    ensures { λ r. ⌜ quasiinverted (tableTold r) (now (d .exit)) (now (columns .exit)) (now (rows .exit)) ≡ quasiinverseCall p m n (now (a .entry)) (now (d .entry)) (now (columns .entry)) (now (rows .entry)) ⌝ }
+{
+    if !checks::is_modulus(p) {
+        return TableAnswer::Refused(Refusal::Modulus);
+    }
+    if 64 < m {
+        return TableAnswer::Refused(Refusal::Size);
+    }
+    if 64 < n {
+        return TableAnswer::Refused(Refusal::Size);
+    }
+    let height = m as usize;
+    let width = n as usize;
+    if a.len() != height * width {
+        return TableAnswer::Refused(Refusal::Length);
+    }
+    if d.len() != width * height {
+        return TableAnswer::Refused(Refusal::Length);
+    }
+    if columns.len() != width {
+        return TableAnswer::Refused(Refusal::Length);
+    }
+    if rows.len() != height {
+        return TableAnswer::Refused(Refusal::Length);
+    }
+    if !all_below(p, a) {
+        return TableAnswer::Refused(Refusal::Number);
+    }
+    parts::invert(p, height, width, a, d, columns, rows);
+    TableAnswer::Done(parts::count_marks(columns))
+}
+
+// The kernel of the table: one vector for each column outside I, vector after vector at the front of the basis, the rest 0, and
+// how many they are.
+pub fn kernel(p: u32, m: u32, n: u32, a: &[u32], basis: &mut [u32]) -> TableAnswer
+    ensures { λ r. ⌜ kernelled (tableTold r) (now (basis .exit)) ≡ kernelCall p m n (now (a .entry)) (now (basis .entry)) ⌝ }
+{
+    if !checks::is_modulus(p) {
+        return TableAnswer::Refused(Refusal::Modulus);
+    }
+    if 64 < m {
+        return TableAnswer::Refused(Refusal::Size);
+    }
+    if 64 < n {
+        return TableAnswer::Refused(Refusal::Size);
+    }
+    let height = m as usize;
+    let width = n as usize;
+    if a.len() != height * width {
+        return TableAnswer::Refused(Refusal::Length);
+    }
+    if basis.len() != width * width {
+        return TableAnswer::Refused(Refusal::Length);
+    }
+    if !all_below(p, a) {
+        return TableAnswer::Refused(Refusal::Number);
+    }
+    TableAnswer::Done(work::kernel_of(p, height, width, a, basis))
+}
+
+// A solution z of A x = w, with the mix u 0 and the rank; or 5, with z as it was and a mix u that shows that there is none.
+pub fn solve(
+    p: u32,
+    m: u32,
+    n: u32,
+    a: &[u32],
+    w: &[u32],
+    z: &mut [u32],
+    u: &mut [u32],
+) -> TableAnswer
+    ensures { λ r. ⌜ solvedAs (tableTold r) (now (z .exit)) (now (u .exit)) ≡ solveCall p m n (now (a .entry)) (now (w .entry)) (now (z .entry)) (now (u .entry)) ⌝ }
+{
+    if !checks::is_modulus(p) {
+        return TableAnswer::Refused(Refusal::Modulus);
+    }
+    if 64 < m {
+        return TableAnswer::Refused(Refusal::Size);
+    }
+    if 64 < n {
+        return TableAnswer::Refused(Refusal::Size);
+    }
+    let height = m as usize;
+    let width = n as usize;
+    if a.len() != height * width {
+        return TableAnswer::Refused(Refusal::Length);
+    }
+    if w.len() != height {
+        return TableAnswer::Refused(Refusal::Length);
+    }
+    if z.len() != width {
+        return TableAnswer::Refused(Refusal::Length);
+    }
+    if u.len() != height {
+        return TableAnswer::Refused(Refusal::Length);
+    }
+    if !all_below(p, a) {
+        return TableAnswer::Refused(Refusal::Number);
+    }
+    if !all_below(p, w) {
+        return TableAnswer::Refused(Refusal::Number);
+    }
+    work::solve_of(p, height, width, a, w, z, u)
+}

@@ -1,0 +1,167 @@
+-- Blocks of numbers in memory. The table of a part; tables of lists that agree; what `Kept` gives: it composes, widens, and leaves tables elsewhere as they were; and entries and sizes
+-- of sums, negatives and products of tables.
+use mathlib.Core.Path.{_≡_, refl, sym, ap, _∙_}
+use mathlib.Core.List.{List, _++_}
+use Prim.Native.Nat.{ℕ, _+_, _*_, _-_, _≤_, _<_}
+use native.Mathlib.Nat.{mul-le-mul-right}
+use native.Mathlib.Decide.{decLt}
+use native.Mathlib.Omega.{arith}
+use lib.ListN.{length, getD, take, drop, length-append, length-drop, List·getD-append}
+use lib.Seq.{length-take-le, take-all, getD-append-add, getD-take, getD-drop}
+use Rattle.algebra.specs.Ring.{IsCommutativeRing}
+use Rattle.algebra.specs.Matrix.{Matrix, Sized, sum, add, negative, product}
+use Rattle.algebra.proofs.Rings.{minus-zero}
+use Rattle.algebra.proofs.Sums.{sum-same}
+use Rattle.algebra.proofs.Matrices.{entries}
+use Rattle.algebra.proofs.Step.{product-row, product-column}
+use Rattle.field.specs.Residue.{reduce, residues, _⊕_, _⊗_, negated}
+use Rattle.field.specs.View.{line, table}
+use Rattle.words.specs.Words.{Below, Blank}
+use Rattle.field.proofs.Field.{residues-ring}
+use Rattle.field.proofs.Views.{table-entry, table-sized}
+use Rattle.matrix_mul.specs.Places.{Kept}
+use Rattle.words.specs.Words.{Copied}
+
+-- matrices of m rows and n columns are equal if their entries there are
+pub tables-equal : (p m n : ℕ) (X Y : Matrix (residues p)) → Sized (residues p) m n X → Sized (residues p) m n Y → ((i j : ℕ) → i < m → j < n → X i j ≡ Y i j) → X ≡ Y
+tables-equal p m n X Y x y same = entries (residues p) X Y (λ i j. by-place i j (decLt i m) (decLt j n))
+  where
+    by-place : (i j : ℕ) → Dec (i < m) → Dec (j < n) → X i j ≡ Y i j
+    by-place i j (yes h) (yes l) = same i j h l
+    by-place i j (no h) d = x .rows-end i j (omega arith) ∙ sym (y .rows-end i j (omega arith))
+    by-place i j (yes h) (no l) = x .columns-end i j (omega arith) ∙ sym (y .columns-end i j (omega arith))
+
+-- lists that agree at the places of two blocks have equal tables there
+pub table-same : (p : ℕ) (xs : List ℕ) (start stride : ℕ) (ys : List ℕ) (start′ stride′ m n : ℕ) → ((i j : ℕ) → i < m → j < n → getD xs (start + i * stride + j) 0 ≡ getD ys (start′ + i * stride′ + j) 0) → table p xs start stride m n ≡ table p ys start′ stride′ m n
+table-same p xs start stride ys start′ stride′ m n same =
+    tables-equal p m n (table p xs start stride m n) (table p ys start′ stride′ m n)
+    (table-sized p xs start stride m n)
+    (table-sized p ys start′ stride′ m n)
+    (λ i j h l.
+    table-entry p xs start stride m n i j h l
+    ∙ ap (reduce p) (same i j h l)
+    ∙ sym (table-entry p ys start′ stride′ m n i j h l))
+
+-- the table of a part from the front is the table of the whole
+pub front-table : (p : ℕ) (xs : List ℕ) (k start stride m n : ℕ) → ((i : ℕ) → i < m → start + i * stride + n ≤ k) → table p (take k xs) start stride m n ≡ table p xs start stride m n
+front-table p xs k start stride m n inside =
+    table-same p (take k xs) start stride xs start stride m n
+    (λ i j h l. getD-take k xs (start + i * stride + j) 0 (omega (arith, inside i h)))
+
+-- the table at the front of what was copied
+pub copied-table : (p : ℕ) {xs : List ℕ} {start size : ℕ} {zs zs′ : List ℕ} (stride m n : ℕ) → Copied xs start size zs zs′ → ((i : ℕ) → i < m → i * stride + n ≤ size) → table p zs′ 0 stride m n ≡ table p xs start stride m n
+copied-table p {xs} {start} {size} {zs} {zs′} stride m n copied inside =
+    table-same p zs′ 0 stride xs start stride m n
+    (λ i j h l.
+    let e : start + (0 + i * stride + j) ≡ start + i * stride + j = omega arith in
+    copied .front (0 + i * stride + j) (omega (arith, inside i h)) ∙ ap (λ q. getD xs q 0) e)
+
+-- what was copied over zeros is below p
+pub copied-below : {p : ℕ} {xs : List ℕ} {start size : ℕ} {zs zs′ : List ℕ} → 0 < p → Blank zs → start + size ≤ length xs → Below p xs → Copied xs start size zs zs′ → Below p zs′
+copied-below {p} {xs} {start} {size} {zs} {zs′} positive blank fits below copied i h = by-place (decLt i size)
+  where
+    by-place : Dec (i < size) → getD zs′ i 0 < p
+    by-place (yes l) = rw (copied .front i l) (below (start + i) (omega arith))
+    by-place (no l) = rw (copied .rest i (omega arith), blank i) positive
+
+-- columns a and b of rows that lie stride apart are at one place only where row and column are the same
+pub same-place : (stride i k a b : ℕ) → a < stride → b < stride → a + i * stride ≡ b + k * stride → (i ≡ k) × (a ≡ b)
+same-place stride i k a b h l e = by-order (decLt i k) (decLt k i)
+  where
+    by-order : Dec (i < k) → Dec (k < i) → (i ≡ k) × (a ≡ b)
+    by-order (yes g) d = absurd (omega (arith, mul-le-mul-right stride g))
+    by-order (no g) (yes d) = absurd (omega (arith, mul-le-mul-right stride d))
+    by-order (no g) (no d) = let same : i ≡ k = omega arith in (same, omega (arith, ap (λ n. n * stride) same))
+
+-- nothing has changed
+pub kept-none : (p : ℕ) (xs : List ℕ) (start stride m n : ℕ) → Below p xs → Kept p xs xs start stride m n
+kept-none p xs start stride m n b = record { same-length = refl; elsewhere = λ q out. refl; below = b }
+
+module _ {p : ℕ} {xs ys : List ℕ} where
+  -- two calls that write the same block, one after the other
+  pub kept-trans : {zs : List ℕ} {start stride m n : ℕ} → Kept p xs ys start stride m n → Kept p ys zs start stride m n → Kept p xs zs start stride m n
+  kept-trans k l =
+      record {
+        same-length = l .same-length ∙ k .same-length;
+        elsewhere = λ q out. l .elsewhere q out ∙ k .elsewhere q out;
+        below = l .below;
+      }
+
+  -- what keeps all but a block keeps all but a block around it: the same rows or more, the same columns or more
+  pub kept-wider : {start stride m n : ℕ} (start′ m′ n′ : ℕ) → m ≤ m′ → start′ ≤ start → start + n ≤ start′ + n′ → Kept p xs ys start stride m n → Kept p xs ys start′ stride m′ n′
+  kept-wider {start} {stride} start′ m′ n′ rows left right k =
+      record {
+        same-length = k .same-length;
+        elsewhere = λ q out. k .elsewhere q (λ i j h l e. out i (start - start′ + j) (omega arith) (omega arith) (omega arith));
+        below = k .below;
+      }
+
+  -- a place in other columns is elsewhere
+  pub kept-at : {start stride m n : ℕ} → Kept p xs ys start stride m n → start + n ≤ stride → (i c : ℕ) → c < stride → ((j : ℕ) → j < n → c ≡ start + j → ⊥) → getD ys (c + i * stride) 0 ≡ getD xs (c + i * stride) 0
+  kept-at {start} {stride} k fits i c h other =
+      k .elsewhere (c + i * stride)
+      (λ r j g l e. other j l (same-place stride i r c (start + j) h (omega arith) (omega arith) .1))
+
+  -- a table in other columns is as it was
+  pub table-kept : {start stride m n : ℕ} (start′ m′ n′ : ℕ) → start + n ≤ stride → start′ + n′ ≤ stride → ((j l : ℕ) → j < n′ → l < n → start′ + j ≡ start + l → ⊥) → Kept p xs ys start stride m n → table p ys start′ stride m′ n′ ≡ table p xs start′ stride m′ n′
+  table-kept {start} {stride} start′ m′ n′ fits fits′ other k =
+      table-same p ys start′ stride xs start′ stride m′ n′
+      (λ i j h l.
+      let e : start′ + i * stride + j ≡ start′ + j + i * stride = omega arith in
+      rw e (kept-at k fits i (start′ + j) (omega arith) (λ t g. other j t l g)))
+
+-- sums, negatives and products of matrices of fitting sizes are zero outside theirs
+module _ (p : ℕ) (positive : 0 < p) where
+  ring : IsCommutativeRing (residues p)
+  ring = residues-ring p positive
+
+  pub add-sized : (m n : ℕ) (X Y : Matrix (residues p)) → Sized (residues p) m n X → Sized (residues p) m n Y → Sized (residues p) m n (add (residues p) X Y)
+  unfolding add
+  add-sized m n X Y x y =
+      record {
+        rows-end = λ i j h. (λ t. x .rows-end i j h t ⊕ y .rows-end i j h t) ∙ ring .plus-zero (reduce p 0);
+        columns-end = λ i j h. (λ t. x .columns-end i j h t ⊕ y .columns-end i j h t) ∙ ring .plus-zero (reduce p 0);
+      }
+
+  pub negative-sized : (m n : ℕ) (X : Matrix (residues p)) → Sized (residues p) m n X → Sized (residues p) m n (negative (residues p) X)
+  unfolding negative
+  negative-sized m n X x =
+      record {
+        rows-end = λ i j h. ap negated (x .rows-end i j h) ∙ minus-zero (residues p) ring;
+        columns-end = λ i j h. ap negated (x .columns-end i j h) ∙ minus-zero (residues p) ring;
+      }
+
+  pub product-sized : (m k n : ℕ) (X Y : Matrix (residues p)) → Sized (residues p) m k X → Sized (residues p) k n Y → Sized (residues p) m n (product (residues p) k X Y)
+  product-sized m k n X Y x y =
+      record {
+        rows-end = λ i j h. product-row (residues p) ring k X Y i (λ t l. x .rows-end i t h) j;
+        columns-end = λ i j h. product-column (residues p) ring k X Y j (λ t l. y .columns-end t j h) i;
+      }
+
+  -- a table of negatives
+  pub table-negative : (xs ys : List ℕ) (start stride m n : ℕ) → ((i j : ℕ) → i < m → j < n → reduce p (getD ys (start + i * stride + j) 0) ≡ negated (reduce p (getD xs (start + i * stride + j) 0))) → table p ys start stride m n ≡ negative (residues p) (table p xs start stride m n)
+  unfolding negative
+  table-negative xs ys start stride m n each =
+      tables-equal p m n (table p ys start stride m n) (negative (residues p) (table p xs start stride m n))
+      (table-sized p ys start stride m n)
+      (negative-sized m n (table p xs start stride m n) (table-sized p xs start stride m n))
+      (λ i j h l.
+      table-entry p ys start stride m n i j h l
+      ∙ each i j h l
+      ∙ ap negated (sym (table-entry p xs start stride m n i j h l)))
+
+-- an entry of a product of tables is the sum of the products of the numbers of a row, given as a list, and a column
+pub row-product : (p : ℕ) (x : List ℕ) (x-start x-stride : ℕ) (y : List ℕ) (y-start y-stride m k n : ℕ) (by : List ℕ) (i : ℕ) → i < m → ((t : ℕ) → t < k → getD by t 0 ≡ getD x (x-start + i * x-stride + t) 0) → (j : ℕ) → j < n → sum (residues p) k (λ t. line p by 0 1 t ⊗ line p y (y-start + j) y-stride t) ≡ product (residues p) k (table p x x-start x-stride m k) (table p y y-start y-stride k n) i j
+unfolding line product
+row-product p x x-start x-stride y y-start y-stride m k n by i h row j l =
+    sum-same (residues p) k _ _
+    (λ t b.
+    let place : 0 + t * 1 ≡ t = omega arith in
+    let place′ : y-start + j + t * y-stride ≡ y-start + t * y-stride + j = omega arith in
+    let first : reduce p (getD by (0 + t * 1) 0) ≡ table p x x-start x-stride m k i t =
+    ap (λ q. reduce p (getD by q 0)) place
+    ∙ ap (reduce p) (row t b)
+    ∙ sym (table-entry p x x-start x-stride m k i t h b) in
+    let second : reduce p (getD y (y-start + j + t * y-stride) 0) ≡ table p y y-start y-stride k n t j =
+    ap (λ q. reduce p (getD y q 0)) place′ ∙ sym (table-entry p y y-start y-stride k n t j b l) in
+    λ s. first s ⊗ second s)

@@ -1,3 +1,0 @@
-pub mod Trial
-pub mod Walk
-pub mod Guards

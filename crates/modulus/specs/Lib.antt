@@ -1,5 +1,0 @@
-pub mod Refusal
-pub mod Told
-pub mod Prime
-pub mod Decide
-pub mod Gaps

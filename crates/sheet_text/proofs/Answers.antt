@@ -1,0 +1,62 @@
+-- The line of each of take's answers, case by case: new and repeat carry the count, a refusal with the number 9 is a conflict with
+-- the count afterwards, and any other is refused with its number.
+use mathlib.Core.Path.{_≡_, refl}
+use Prim.Native.Nat.{ℕ, _<_}
+use native.Mathlib.Omega.{arith}
+use borrow.Author.Tests.{eq-eqb, ne-eqb}
+use Rattle.checks.specs.declared.Refusal.{Refusal}
+use Rattle.checks.specs.declared.Refusal.the-variants.{
+  Modulus,
+  Size,
+  Length,
+  Number,
+  Insoluble,
+  FrameLength,
+  Padding,
+  ZeroMultiplier,
+  Conflict,
+  Withdrawal,
+  NotBoard,
+}
+use Rattle.checks.specs.Refusal.{refusalNumber}
+use Rattle.checks.specs.Told.{refused}
+use Rattle.board_solve.specs.Told.{takeTold}
+use Rattle.board_solve.specs.declared.TakeAnswer.the-variants.{New, Repeat}
+use Rattle.sheet_text.specs.Lines.{answerLine, newLine, repeatLine, conflictLine, refusedLine}
+
+pub new-answer : (k count : ℕ) → answerLine (takeTold (New k)) count ≡ newLine k
+unfolding answerLine
+new-answer k count = refl
+
+pub repeat-answer : (k count : ℕ) → answerLine (takeTold (Repeat k)) count ≡ repeatLine k
+unfolding answerLine
+repeat-answer k count = refl
+
+-- a refusal's number is neither that of new nor that of repeat
+number-between : (k : Refusal) → (0 < refusalNumber k) × (refusalNumber k < 100)
+number-between Modulus = omega arith
+number-between Size = omega arith
+number-between Length = omega arith
+number-between Number = omega arith
+number-between Insoluble = omega arith
+number-between FrameLength = omega arith
+number-between Padding = omega arith
+number-between ZeroMultiplier = omega arith
+number-between Conflict = omega arith
+number-between Withdrawal = omega arith
+number-between NotBoard = omega arith
+
+module _ (k : Refusal) (count : ℕ) where
+  refusal-not-new : refusalNumber k ≡ 0 → ⊥
+  refusal-not-new e = omega (arith, number-between k .0)
+
+  refusal-not-repeat : refusalNumber k ≡ 100 → ⊥
+  refusal-not-repeat e = omega (arith, number-between k .1)
+
+  pub conflict-answer : refusalNumber k ≡ 9 → answerLine (refused k) count ≡ conflictLine count
+  unfolding answerLine
+  conflict-answer e = rw (ne-eqb (refusalNumber k) 0 refusal-not-new, ne-eqb (refusalNumber k) 100 refusal-not-repeat, eq-eqb (refusalNumber k) 9 e)
+
+  pub refused-answer : (refusalNumber k ≡ 9 → ⊥) → answerLine (refused k) count ≡ refusedLine (refusalNumber k)
+  unfolding answerLine
+  refused-answer f = rw (ne-eqb (refusalNumber k) 0 refusal-not-new, ne-eqb (refusalNumber k) 100 refusal-not-repeat, ne-eqb (refusalNumber k) 9 f)

@@ -1,0 +1,118 @@
+-- 01, "The sheet program and the C side": what the sheet prints. Decimal numbers, the fixed words, and the lines made of
+-- them, each as its list of ASCII bytes.
+use mathlib.Core.List.{List, [], _∷_, _++_}
+use Prim.Native.Nat.{ℕ, zero, suc, _+_, _-_, _*_, _/_, _%_}
+use lib.Dec.{eqb, ltb}
+use lib.IntN.{ℤ, pos, negsuc, natAbs}
+use lib.ListN.{getD}
+use Rattle.algebra.specs.Choice.{choose}
+use Rattle.checks.specs.Told.{Told}
+
+-- ---- numbers
+
+-- the digit d, "0" to "9" for 0 to 9
+abbrev pub digit : ℕ → ℕ
+digit d = 48 + d
+
+-- the digits of n, most significant first: below 10 the one digit, from 10 on those of n / 10 and then the last.
+-- The first number bounds how many there are.
+unfoldable pub digitsWithin : ℕ → ℕ → List ℕ
+digitsWithin zero n = []
+digitsWithin (suc k) n =
+    let longer : List ℕ = digitsWithin k (n / 10) ++ digit (n % 10) ∷ [] in
+    choose (ltb n 10) (digit n ∷ []) longer
+
+-- the shortest decimal digits of n, "0" for 0: there are at most n + 1
+unfoldable pub decimal : ℕ → List ℕ
+decimal n = digitsWithin (suc n) n
+
+-- the number that decimal digits give, read from the left
+unfoldable pub readDigits : ℕ → List ℕ → ℕ
+readDigits n [] = n
+readDigits n (d ∷ ds) = readDigits (n * 10 + (d - 48)) ds
+
+-- "-"
+unfoldable pub minus : List ℕ
+minus = 45 ∷ []
+
+-- a number with a sign: a minus before a negative one
+unfoldable pub signedDecimal : ℤ → List ℕ
+signedDecimal (pos n) = decimal n
+signedDecimal (negsuc n) = minus ++ decimal (suc n)
+
+-- ---- the fixed words
+
+-- "new "
+unfoldable pub newWord : List ℕ
+newWord = 110 ∷ 101 ∷ 119 ∷ 32 ∷ []
+
+-- "repeat "
+unfoldable pub repeatWord : List ℕ
+repeatWord = 114 ∷ 101 ∷ 112 ∷ 101 ∷ 97 ∷ 116 ∷ 32 ∷ []
+
+-- "conflict "
+unfoldable pub conflictWord : List ℕ
+conflictWord = 99 ∷ 111 ∷ 110 ∷ 102 ∷ 108 ∷ 105 ∷ 99 ∷ 116 ∷ 32 ∷ []
+
+-- "refused "
+unfoldable pub refusedWord : List ℕ
+refusedWord = 114 ∷ 101 ∷ 102 ∷ 117 ∷ 115 ∷ 101 ∷ 100 ∷ 32 ∷ []
+
+-- "missing "
+unfoldable pub missingWord : List ℕ
+missingWord = 109 ∷ 105 ∷ 115 ∷ 115 ∷ 105 ∷ 110 ∷ 103 ∷ 32 ∷ []
+
+-- "unknown"
+unfoldable pub unknownWord : List ℕ
+unknownWord = 117 ∷ 110 ∷ 107 ∷ 110 ∷ 111 ∷ 119 ∷ 110 ∷ []
+
+-- " "
+unfoldable pub space : List ℕ
+space = 32 ∷ []
+
+-- the line feed that ends each line
+unfoldable pub lineFeed : List ℕ
+lineFeed = 10 ∷ []
+
+-- ---- the lines
+
+-- a word, a number and the line's end
+unfoldable pub wordLine : List ℕ → ℕ → List ℕ
+wordLine word n = word ++ decimal n ++ lineFeed
+
+-- `new K`, `repeat K`, `conflict K`, `refused N` and `missing M`
+abbrev pub newLine : ℕ → List ℕ
+newLine k = wordLine newWord k
+
+abbrev pub repeatLine : ℕ → List ℕ
+repeatLine k = wordLine repeatWord k
+
+abbrev pub conflictLine : ℕ → List ℕ
+conflictLine k = wordLine conflictWord k
+
+abbrev pub refusedLine : ℕ → List ℕ
+refusedLine n = wordLine refusedWord n
+
+abbrev pub missingLine : ℕ → List ℕ
+missingLine m = wordLine missingWord m
+
+-- the count that an answer carries
+abbrev pub carried : Told → ℕ
+carried t = natAbs (getD (t .values) 0 (pos 0))
+
+-- the line for what take tells of a frame: 0 is new and 100 is repeat, each with the count that it carries; 9 is conflict, with
+-- the count afterwards, which the refusal leaves out; any other number is refused with that number
+unfoldable pub answerLine : Told → ℕ → List ℕ
+answerLine t count =
+    choose (eqb (t .number) 0) (newLine (carried t))
+    (choose (eqb (t .number) 100) (repeatLine (carried t))
+    (choose (eqb (t .number) 9) (conflictLine count)
+    (refusedLine (t .number))))
+
+-- a record's signed number where its mark is 1, `unknown` otherwise
+unfoldable pub recordText : ℕ → ℤ → List ℕ
+recordText mark z = choose (eqb mark 1) (signedDecimal z) unknownWord
+
+-- the line of record j: its position, a space, and its signed number or `unknown`
+unfoldable pub recordLine : ℕ → ℕ → ℤ → List ℕ
+recordLine j mark z = decimal j ++ space ++ recordText mark z ++ lineFeed

@@ -1,4 +1,0 @@
-// The standing frames of a board in memory: the test whether words are a board, which leaves a quasiinverse of the standing
-// rows, and what the frames settle by it. The calls stand in `board`.
-pub mod records;
-pub mod test;

@@ -1,8 +1,0 @@
-pub mod Chosen
-pub mod Marked
-pub mod Inverse
-pub mod Told
-pub mod Checks
-pub mod Calls
-pub mod Parts
-pub mod Examples

@@ -1,0 +1,135 @@
+// Document 01's examples of the board that are not starred, and the order of the checks: where a function here names an
+// order, what one check refuses the later ones would refuse too. The starred examples are theorems, in examples/proofs.
+ghost use Prim.Native.Nat.{_≤_};
+use super::memory;
+use super::report;
+use test_support::lent;
+use test_support::output;
+
+// Opens a board in so many words; a refusal leaves them as they were.
+fn open(name: &[u8], p: u32, n: u32, room: usize)
+    requires { ⌜ room ≤ 4163 ⌝ }
+{
+    let mut words = memory::board();
+    let board = lent::front(&mut words, room);
+    let told = report::open_told(board_calls::open(p, n, board));
+    output::print_example(b"open-", name, told.number);
+    output::print_touched_words(told.number, board, memory::WORD);
+    output::print_end();
+}
+
+// The example's name, the number of its answer, and a count.
+fn print_answer(name: &[u8], number: u32, count: u32) {
+    output::print_example(b"", name, number);
+    output::print_number(count);
+}
+
+// A take on a board of three records, whose count is word 2, with so many words for its mix.
+fn take(name: &[u8], board: &mut [u32; 15], frame: &[u8], room: usize)
+    requires { ⌜ room ≤ 66 ⌝ }
+{
+    let mut words = lent::words(memory::WORD);
+    let mix = lent::front(&mut words, room);
+    let told = report::take_told(board_calls::take(board, frame, mix));
+    print_answer(name, told.number, board[2]);
+    report::print_words(b" mix", mix);
+    output::print_end();
+}
+
+fn withdraw(name: &[u8], board: &mut [u32; 15], t: u32) {
+    let told = report::count_told(board_calls::withdraw(board, t));
+    print_answer(name, told.number, board[2]);
+    output::print_end();
+}
+
+// A show with so many marks and numbers.
+fn show(name: &[u8], board: &[u32; 15], room: usize, space: usize)
+    requires { ⌜ (room ≤ 66) × (space ≤ 66) ⌝ }
+{
+    let mut words = lent::words(memory::WORD);
+    let mut signed = memory::numbers();
+    let marks = lent::front(&mut words, room);
+    let numbers = lent::front_numbers(&mut signed, space);
+    let told = report::count_told(board_calls::show(board, marks, numbers));
+    print_answer(name, told.number, told.value);
+    report::print_words(b" marks", marks);
+    report::print_numbers(b" numbers", numbers);
+    output::print_end();
+}
+
+// 1, 2 and 3 in this order; modulo 4, where 2 has no inverse, there is no board. 64 records are the most.
+fn open_order() {
+    open(b"modulus", 4, 0, 2);
+    open(b"no-records", 7, 0, 2);
+    open(b"65-records", 7, 65, 2);
+    open(b"room-14", 7, 3, 14);
+    open(b"room-16", 7, 3, 16);
+    open(b"64-records", 2147483647, 64, 4163);
+}
+
+// The first two frames of the sheet's example: (1 2 0) 5, (0 1 3) 4. Columns 0 and 1 are in I, and no record is settled.
+fn wrong_sheet(board: &mut [u32; 15]) {
+    take(
+        b"sheet-first",
+        board,
+        b"\x03\0\0\0\x01\0\0\0\x02\0\0\0\x05",
+        3,
+    );
+    take(
+        b"sheet-second",
+        board,
+        b"\x06\0\0\0\x01\0\0\0\x03\0\0\0\x04",
+        3,
+    );
+    show(b"wrong-sheet", board, 3, 3);
+}
+
+// The other three: (1 3 3) 2, (1 3 3) 3, (0 0 1) 6. All records are settled, and none is missing.
+fn sheet(board: &mut [u32; 15]) {
+    take(
+        b"sheet-repeat",
+        board,
+        b"\x07\0\0\0\x01\0\0\0\x03\0\0\0\x03\0\0\0\x02",
+        3,
+    );
+    take(
+        b"sheet-conflict",
+        board,
+        b"\x07\0\0\0\x01\0\0\0\x03\0\0\0\x03\0\0\0\x03",
+        3,
+    );
+    take(b"sheet-third", board, b"\x04\0\0\0\x01\0\0\0\x06", 3);
+    show(b"sheet", board, 3, 3);
+}
+
+// 3 before 6, which an empty frame gets.
+fn call_order(board: &mut [u32; 15]) {
+    take(b"take-room", board, b"", 2);
+    take(b"take-empty", board, b"", 3);
+    withdraw(b"withdraw-four", board, 4);
+    show(b"show-marks", board, 2, 3);
+    show(b"show-numbers", board, 3, 2);
+}
+
+// 11 before the checks that refuse the same calls on a board: modulo 4 words are none.
+fn no_board(board: &mut [u32; 15]) {
+    board[0] = 4;
+    take(b"no-board-take", board, b"", 2);
+    withdraw(b"no-board-withdraw", board, 4);
+    show(b"no-board-show", board, 2, 3);
+}
+
+// The examples on a board of three records modulo 7.
+fn run_on(board: &mut [u32; 15]) {
+    board_calls::open(7, 3, board);
+    wrong_sheet(board);
+    sheet(board);
+    call_order(board);
+    no_board(board);
+}
+
+pub fn run() {
+    open_order();
+    let mut board = [memory::WORD; 15];
+    run_on(&mut board);
+}

@@ -1,0 +1,130 @@
+// Document 01's examples of frames that are not starred, and the order of the checks: where a function here names an order,
+// what one check refuses the later ones would refuse too. The starred example is a theorem, in frame_calls/proofs/Examples.antt.
+ghost use Prim.Native.Nat.{_≤_};
+use super::memory;
+use super::report;
+use test_support::lent;
+use test_support::output;
+use test_support::told;
+use test_support::told::Told;
+
+// The start of the example's line, with the value where the call is not refused.
+fn print_told(call: &[u8], name: &[u8], answer: Told) {
+    output::print_example(call, name, answer.number);
+    if !told::is_refused(answer.number) {
+        output::print_number(answer.value);
+    }
+}
+
+// Reads a frame with so many words lent; a refusal leaves them as they were.
+fn read(name: &[u8], p: u32, n: u32, bytes: &[u8], room: usize)
+    requires { ⌜ room ≤ 66 ⌝ }
+{
+    let mut space = lent::words(memory::WORD);
+    let words = lent::front(&mut space, room);
+    let answer = report::read_told(frame_calls::read(p, n, bytes, words));
+    print_told(b"read-", name, answer);
+    output::print_touched_words(answer.number, words, memory::WORD);
+    output::print_end();
+}
+
+// Writes a frame to so many lent bytes; a refusal leaves them as they were.
+fn write(name: &[u8], p: u32, n: u32, multipliers: &[u32], value: u32, room: usize)
+    requires { ⌜ room ≤ 272 ⌝ }
+{
+    let mut space = lent::bytes(memory::BYTE);
+    let bytes = lent::front_bytes(&mut space, room);
+    let answer = report::write_told(frame_calls::write(p, n, multipliers, value, bytes));
+    print_told(b"write-", name, answer);
+    output::print_touched(answer.number, memory::is_only_front(b"", bytes));
+    output::print_end();
+}
+
+fn seal(name: &[u8], p: u32, n: u32, records: &[i32], multipliers: &[u32]) {
+    let answer = report::seal_told(frame_calls::seal(p, n, records, multipliers));
+    print_told(b"seal-", name, answer);
+    output::print_end();
+}
+
+// A frame of one multiplier below 256, with n = 3 and p = 7.
+fn read_frame(name: &[u8], bits: u8, multiplier: u8, value: u8) {
+    read(name, 7, 3, &[bits, 0, 0, 0, multiplier, 0, 0, 0, value], 3);
+}
+
+// An empty frame, which the last check refuses.
+fn read_empty(name: &[u8], p: u32, n: u32, room: usize)
+    requires { ⌜ room ≤ 66 ⌝ }
+{
+    read(name, p, n, b"", room);
+}
+
+// The document's frames, then 1, 2 and 3 before 6.
+fn reads() {
+    read_frame(b"padding", 8, 1, 2);
+    read_frame(b"multiplier-zero", 1, 0, 0);
+    read_frame(b"multiplier-p", 1, 7, 0);
+    read_empty(b"modulus", 4, 0, 2);
+    read_empty(b"no-records", 7, 0, 2);
+    read_empty(b"65-records", 7, 65, 2);
+    read_empty(b"room", 7, 3, 2);
+    read_empty(b"empty", 7, 3, 3);
+}
+
+// Multipliers, a value and room that the checks of lengths and numbers refuse.
+fn write_wrong(name: &[u8], p: u32, n: u32) {
+    write(name, p, n, &[7, 2], 7, 267);
+}
+
+// Three multipliers, of which the first may be refused.
+fn write_three(name: &[u8], first: u32, value: u32, room: usize)
+    requires { ⌜ room ≤ 272 ⌝ }
+{
+    write(name, 7, 3, &[first, 2, 0], value, room);
+}
+
+// 1 and 2 before 3 and 4; 3, for the multipliers and for the bytes, before 4; 4.
+fn writes() {
+    write_wrong(b"modulus", 4, 0);
+    write_wrong(b"no-records", 7, 0);
+    write_wrong(b"65-records", 7, 65);
+    write(b"multipliers", 7, 3, &[7, 2], 7, 268);
+    write_three(b"room-267", 7, 7, 267);
+    write_three(b"room-269", 7, 7, 269);
+    write_three(b"multiplier-p", 7, 5, 268);
+    write_three(b"value-p", 1, 7, 268);
+    write_three(b"done", 1, 5, 268);
+}
+
+// Two records and two multipliers, of which the check of numbers refuses the first.
+fn seal_wrong(name: &[u8], p: u32, n: u32) {
+    seal(name, p, n, &[4, 0], &[7, 2]);
+}
+
+// 1, 2 and 3 before 4.
+fn seal_order() {
+    seal_wrong(b"modulus", 4, 0);
+    seal_wrong(b"no-records", 7, 0);
+    seal_wrong(b"65-records", 7, 65);
+    seal(b"records", 7, 3, &[4, 0], &[7, 2, 0]);
+    seal(b"multipliers", 7, 3, &[4, 0, 0], &[7, 2]);
+}
+
+// Three records and three multipliers, of which a first one may be refused.
+fn seal_three(name: &[u8], record: i32, multiplier: u32) {
+    seal(name, 7, 3, &[record, 0, 0], &[multiplier, 2, 0]);
+}
+
+// The records modulo 7 are -3 to 3. The last sum is (-2) × 1 + 1 × 2 + 3 × 3 = 9, which is 2 modulo 7.
+fn seal_numbers() {
+    seal_three(b"multiplier-p", 0, 7);
+    seal_three(b"record-high", 4, 1);
+    seal_three(b"record-low", -4, 1);
+    seal(b"sum", 7, 3, &[-2, 1, 3], &[1, 2, 3]);
+}
+
+pub fn run() {
+    reads();
+    writes();
+    seal_order();
+    seal_numbers();
+}

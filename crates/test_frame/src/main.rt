@@ -1,0 +1,26 @@
+// Runs the calls on frames on stored cases and on document 01's examples. The cases are those of tools/frames.py, whose own
+// reader says what each answers:
+//
+//     python3 tools/frames.py > crates/frame_test/stdin
+//
+// The file `stdout` has what that script counts, and for the examples what the document gives, worked out from them and not
+// from a run:
+// - `frames N`, `accepted N`, `refused K N` for each number K that occurred, `rewritten N`: the cases by their answers.
+// - `example CALL-WHAT NUMBER` for each example, with the value behind the number where the call is not refused.
+//   A refusal that changed lent memory would add `touched`.
+// - `mismatches N`: how often an answer to a stored case, a value or lent memory was not the one expected.
+mod cases;
+mod examples;
+mod memory;
+mod report;
+
+use test_support::counts;
+use test_support::output;
+
+fn main() {
+    let mut tally = counts::none();
+    cases::run(&mut tally);
+    report::print_cases(&tally);
+    examples::run();
+    output::print_count(b"mismatches", &tally, counts::MISMATCHES);
+}

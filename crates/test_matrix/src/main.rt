@@ -1,0 +1,27 @@
+// Runs the calls on tables on stored cases and on document 01's examples. The cases are those of tools/tables.py, whose own
+// solver says what each answers and leaves:
+//
+//     python3 tools/tables.py > crates/matrix_test/stdin
+//
+// The file `stdout` has what that script counts, and for the examples what the document gives, worked out from them and not
+// from a run:
+// - `cases N`: the stored tables. `quasiinverses N`, `kernels N`, `solved N`, `insoluble N`: how many of the calls on them
+//   answered as stored, the systems by their answers.
+// - `example CALL-WHAT NUMBER` for each example. A refusal that changed lent memory would add `touched`, and a kernel of no
+//   rows that is not the document's a line.
+// - `mismatches N`: how often an answer to a stored case, or the memory that it leaves, was not the one expected.
+mod cases;
+mod examples;
+mod memory;
+mod report;
+
+use test_support::counts;
+use test_support::output;
+
+fn main() {
+    let mut tally = counts::none();
+    cases::run(&mut tally);
+    report::print_cases(&tally);
+    examples::run();
+    output::print_count(b"mismatches", &tally, counts::MISMATCHES);
+}

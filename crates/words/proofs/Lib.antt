@@ -1,0 +1,5 @@
+pub mod Walk
+pub mod Writes
+pub mod Zeros
+pub mod Guards
+pub mod Parts

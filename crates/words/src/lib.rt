@@ -1,0 +1,142 @@
+// Slices of u32 words, whatever they stand for: room of zeros, clearing, copying, comparing, and tests of every word. Leaves for
+// the crates above, which meet what each requires.
+ghost use mathlib.Core.Path.{_≡_};
+ghost use Prim.Native.Nat.{ℕ, _+_, _≤_, _<_};
+ghost use lib.ListN.{length, getD};
+ghost use Rattle.algebra.specs.Answers.{Tells};
+ghost use Rattle.words.specs.Words.{Below, Blank, Zeros, AllMarked, Copied, FirstDifference};
+
+// 64 zeros: room for the longest row or column.
+pub fn row_room() -> [u32; 64]
+    ensures { λ r. ⌜ Zeros 64 r ⌝ }
+{
+    [0u32; 64]
+}
+
+// 4,096 zeros: room for the largest table.
+pub fn table_room() -> [u32; 4096]
+    ensures { λ r. ⌜ Zeros 4096 r ⌝ }
+{
+    [0u32; 4096]
+}
+
+// 2,048 zeros: room for half the rows of the largest table.
+pub fn half_table() -> [u32; 2048]
+    ensures { λ r. ⌜ Zeros 2048 r ⌝ }
+{
+    [0u32; 2048]
+}
+
+// 1,024 zeros: room for a quarter of the largest table.
+pub fn quarter_table() -> [u32; 1024]
+    ensures { λ r. ⌜ Zeros 1024 r ⌝ }
+{
+    [0u32; 1024]
+}
+
+// Makes each number 0.
+pub fn clear(xs: &mut [u32])
+    ensures { λ _. ⌜ (length (now (xs .exit)) ≡ length (now (xs .entry))) × Blank (now (xs .exit)) ⌝ }
+{
+    let mut j = 0;
+    while j < xs.len() {
+        xs[j] = 0;
+        j += 1;
+    }
+}
+
+// Copies n numbers of xs, from start on, to the front of zs.
+pub fn copy(xs: &[u32], start: usize, n: usize, zs: &mut [u32])
+    requires { ⌜ (start + n ≤ length (now xs)) × (n ≤ length (now zs)) ⌝ }
+    ensures { λ _. ⌜ Copied (now (xs .entry)) start n (now (zs .entry)) (now (zs .exit)) ⌝ }
+{
+    let mut j = 0;
+    while j < n {
+        zs[j] = xs[start + j];
+        j += 1;
+    }
+}
+
+// Writes the numbers of `xs` to `out` from the place on; the others stay.
+pub fn put(xs: &[u32], out: &mut [u32], at: usize)
+    requires { ⌜ at + length (now xs) ≤ length (now out) ⌝ }
+    ensures { λ _. ⌜ (length (now (out .exit)) ≡ length (now (out .entry))) × ((j : ℕ) → j < length (now (xs .entry)) → getD (now (out .exit)) (at + j) 0 ≡ getD (now (xs .entry)) j 0) × ((q : ℕ) → q < at → getD (now (out .exit)) q 0 ≡ getD (now (out .entry)) q 0) × ((q : ℕ) → at + length (now (xs .entry)) ≤ q → getD (now (out .exit)) q 0 ≡ getD (now (out .entry)) q 0) ⌝ }
+{
+    let mut j = 0;
+    while j < xs.len() {
+        out[at + j] = xs[j];
+        j += 1;
+    }
+}
+
+// Whether two rows of the same length have the same numbers.
+pub fn same(xs: &[u32], ys: &[u32]) -> bool
+    requires { ⌜ length (now xs) ≡ length (now ys) ⌝ }
+    ensures { λ r. ⌜ Tells r (now (xs .entry) ≡ now (ys .entry)) ⌝ }
+{
+    let mut j = 0;
+    while j < xs.len() {
+        if xs[j] != ys[j] {
+            return false;
+        }
+        j += 1;
+    }
+    true
+}
+
+// The first place where two lists of one length differ, or their length.
+pub fn first_difference(xs: &[u32], ys: &[u32]) -> usize
+    requires { ⌜ length (now xs) ≡ length (now ys) ⌝ }
+    ensures { λ r. ⌜ FirstDifference (now (xs .entry)) (now (ys .entry)) r ⌝ }
+{
+    let mut i = 0;
+    while i < xs.len() {
+        if xs[i] != ys[i] {
+            return i;
+        }
+        i += 1;
+    }
+    i
+}
+
+// Whether every number is 0.
+pub fn all_zero(xs: &[u32]) -> bool
+    ensures { λ r. ⌜ Tells r (Blank (now (xs .entry))) ⌝ }
+{
+    let mut j = 0;
+    while j < xs.len() {
+        if xs[j] != 0 {
+            return false;
+        }
+        j += 1;
+    }
+    true
+}
+
+// Whether no number is 0.
+pub fn all_marked(xs: &[u32]) -> bool
+    ensures { λ r. ⌜ Tells r (AllMarked (now (xs .entry))) ⌝ }
+{
+    let mut j = 0;
+    while j < xs.len() {
+        if xs[j] < 1 {
+            return false;
+        }
+        j += 1;
+    }
+    true
+}
+
+// Whether every number is below p.
+pub fn all_below(p: u32, numbers: &[u32]) -> bool
+    ensures { λ r. ⌜ Tells r (Below p (now (numbers .entry))) ⌝ }
+{
+    let mut i = 0;
+    while i < numbers.len() {
+        if p <= numbers[i] {
+            return false;
+        }
+        i += 1;
+    }
+    true
+}
