@@ -10,7 +10,7 @@ use borrow.Author.Tests.{eq-eqb, ne-eqb, eqb-true, eqb-false}
 use Rattle.algebra.specs.Choice.{choose}
 use Rattle.algebra.specs.Ring.{Ring, IsCommutativeRing}
 use Rattle.algebra.specs.Matrix.{Matrix, Sized, unit, zeros, product}
-use Rattle.algebra.specs.Quasiinverse.{count, none, only, single, IsQuasiinverse}
+use Rattle.algebra.specs.Quasiinverse.{count, none, only, single, IsPivotInverse}
 use Rattle.algebra.proofs.Rings as rings
 use Rattle.algebra.proofs.Sums as sums
 use Rattle.algebra.proofs.Matrices as matrices
@@ -51,7 +51,7 @@ module _ (R : Ring) (L : IsCommutativeRing R) where
   infixl 60 _⊕_
   infixl 70 _⊗_
   -- a zero table, of whatever size: D is zero, and no row or column is chosen
-  pub zero-table : (m n : ℕ) (A : Matrix R) → ((i j : ℕ) → A i j ≡ 𝟘) → IsQuasiinverse R m n A (zeros R) none none
+  pub zero-table : (m n : ℕ) (A : Matrix R) → ((i j : ℕ) → A i j ≡ 𝟘) → IsPivotInverse R m n A (zeros R) none none
   unfolding zeros none
   zero-table m n A h =
       record {
@@ -151,7 +151,7 @@ module _ (R : Ring) (L : IsCommutativeRing R) where
               subst (λ k. product R 1 D A k c ≡ 𝟘) (sym e) (row-of c ∙ ap (λ x. s ⊗ x) (before c (omega arith)) ∙ rings.times-zero R L s)
           go (no d) = row-other i c d
 
-      pub one-row : IsQuasiinverse R 1 n A (single R v s) (only v) (only 0)
+      pub one-row : IsPivotInverse R 1 n A (single R v s) (only v) (only 0)
       unfolding D only
       one-row =
           record {

@@ -9,7 +9,7 @@ use native.Mathlib.Nat.{le-of-lt, eq-or-lt-of-le, not-le-of-lt}
 use Rattle.algebra.specs.Ring.{Ring, IsCommutativeRing}
 use Rattle.algebra.specs.Matrix.{Vector, Matrix, product, apply, mixed, transpose}
 use Rattle.algebra.specs.Span.{RowDepends, ColumnDepends}
-use Rattle.algebra.specs.Quasiinverse.{Marks, IsQuasiinverse}
+use Rattle.algebra.specs.Quasiinverse.{Marks, IsPivotInverse}
 use Rattle.algebra.proofs.Sums as sums
 use Rattle.algebra.proofs.Matrices as matrices
 use Rattle.algebra.proofs.Applied as applied
@@ -17,7 +17,7 @@ use Rattle.algebra.proofs.Marks.{is-true, is-false, tests-agree}
 use Rattle.algebra.proofs.Transpose.{transposed, mixed-transpose}
 
 module _ (R : Ring) (L : IsCommutativeRing R) where
-  module _ {m n : ℕ} {A D : Matrix R} {I J : Marks} (Q : IsQuasiinverse R m n A D I J) where
+  module _ {m n : ℕ} {A D : Matrix R} {I J : Marks} (Q : IsPivotInverse R m n A D I J) where
     -- no member of I is beyond the columns
     pub column-end : (c : ℕ) → n ≤ c → I c ≡ false
     column-end c l = is-false (I c) (λ e. not-le-of-lt (Q .columns c e) l)
@@ -55,7 +55,7 @@ module _ (R : Ring) (L : IsCommutativeRing R) where
             ∙ sym (mixed-transpose R L c x A j)
 
   -- a row outside J is a combination of the rows before it
-  pub row-depends : {m n : ℕ} {A D : Matrix R} {I J : Marks} → IsQuasiinverse R m n A D I J
+  pub row-depends : {m n : ℕ} {A D : Matrix R} {I J : Marks} → IsPivotInverse R m n A D I J
       → (y : ℕ) → y < m → J y ≡ false → RowDepends R n A y
   unfolding transpose
   row-depends Q = column-depends (transposed R L Q)
@@ -63,7 +63,7 @@ module _ (R : Ring) (L : IsCommutativeRing R) where
   -- in a ring where 1 is not 0
   module _ (proper : R .one ≡ R .zero → ⊥) where
     -- a column of I is no combination of the columns before it
-    pub column-free : {m n : ℕ} {A D : Matrix R} {I J : Marks} → IsQuasiinverse R m n A D I J
+    pub column-free : {m n : ℕ} {A D : Matrix R} {I J : Marks} → IsPivotInverse R m n A D I J
         → (c : ℕ) → I c ≡ true → ColumnDepends R m A c → ⊥
     unfolding transpose
     column-free {m} {n} {A} {D} Q c e (u, h) =
@@ -76,14 +76,14 @@ module _ (R : Ring) (L : IsCommutativeRing R) where
         ∙ applied.zero-row-apply R L c (product R m D A) u c (λ t l. Q .upper c t l))
 
     -- a row of J is no combination of the rows before it
-    pub row-free : {m n : ℕ} {A D : Matrix R} {I J : Marks} → IsQuasiinverse R m n A D I J
+    pub row-free : {m n : ℕ} {A D : Matrix R} {I J : Marks} → IsPivotInverse R m n A D I J
         → (y : ℕ) → J y ≡ true → RowDepends R n A y → ⊥
     unfolding transpose
     row-free Q = column-free (transposed R L Q)
 
     -- two tables whose columns depend on earlier ones alike have the same I
     pub columns-agree : {m m′ n : ℕ} {A A′ D D′ : Matrix R} {I I′ J J′ : Marks}
-        → IsQuasiinverse R m n A D I J → IsQuasiinverse R m′ n A′ D′ I′ J′
+        → IsPivotInverse R m n A D I J → IsPivotInverse R m′ n A′ D′ I′ J′
         → ((c : ℕ) → c < n → ColumnDepends R m A c → ColumnDepends R m′ A′ c)
         → ((c : ℕ) → c < n → ColumnDepends R m′ A′ c → ColumnDepends R m A c)
         → (c : ℕ) → I c ≡ I′ c
@@ -94,10 +94,10 @@ module _ (R : Ring) (L : IsCommutativeRing R) where
 
     -- the marks of columns depend on the table alone
     pub columns-decided : {m n : ℕ} {A D D′ : Matrix R} {I I′ J J′ : Marks}
-        → IsQuasiinverse R m n A D I J → IsQuasiinverse R m n A D′ I′ J′ → (c : ℕ) → I c ≡ I′ c
+        → IsPivotInverse R m n A D I J → IsPivotInverse R m n A D′ I′ J′ → (c : ℕ) → I c ≡ I′ c
     columns-decided Q Q′ = columns-agree Q Q′ (λ c l d. d) (λ c l d. d)
 
     -- and so do the marks of rows
     pub rows-decided : {m n : ℕ} {A D D′ : Matrix R} {I I′ J J′ : Marks}
-        → IsQuasiinverse R m n A D I J → IsQuasiinverse R m n A D′ I′ J′ → (y : ℕ) → J y ≡ J′ y
+        → IsPivotInverse R m n A D I J → IsPivotInverse R m n A D′ I′ J′ → (y : ℕ) → J y ≡ J′ y
     rows-decided Q Q′ = columns-decided (transposed R L Q) (transposed R L Q′)

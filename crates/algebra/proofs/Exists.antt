@@ -14,7 +14,7 @@ use borrow.Author.Count.{below-more}
 use Rattle.algebra.specs.Choice.{choose}
 use Rattle.algebra.specs.Ring.{Ring, IsCommutativeRing, IsField}
 use Rattle.algebra.specs.Matrix.{Vector, Matrix, Sized, zeros, add, negative, product, stack, beside, upperRows, lowerRows}
-use Rattle.algebra.specs.Quasiinverse.{Marks, none, only, single, either, follow, IsQuasiinverse}
+use Rattle.algebra.specs.Quasiinverse.{Marks, none, only, single, either, follow, IsPivotInverse}
 use Rattle.algebra.proofs.Rings as rings
 use Rattle.algebra.proofs.Matrices as matrices
 use Rattle.algebra.proofs.Blocks.{Part, upper, lower, part, stack-upper, stack-lower, choose-upper}
@@ -26,7 +26,7 @@ pub record Solved (R : Ring) (m n : ℕ) (A : Matrix R) : Type 0 where
   pub D : Matrix R
   pub I : Marks
   pub J : Marks
-  pub holds : IsQuasiinverse R m n A D I J
+  pub holds : IsPivotInverse R m n A D I J
 
 module _ (R : Ring) where
   open Ring R using (Carrier, zero as 𝟘)
@@ -147,8 +147,8 @@ module _ (R : Ring) (F : IsField R) where
                 I = either (U .I) (W .I);
                 J = follow m (U .J) (W .J);
                 holds =
-                    subst (λ k. IsQuasiinverse R k n A (beside R m X G) (either (U .I) (W .I)) (follow m (U .J) (W .J))) (add-one m)
-                    (subst (λ Y. IsQuasiinverse R (m + 1) n Y (beside R m X G) (either (U .I) (W .I)) (follow m (U .J) (W .J))) (sym (split-rows R m A))
+                    subst (λ k. IsPivotInverse R k n A (beside R m X G) (either (U .I) (W .I)) (follow m (U .J) (W .J))) (add-one m)
+                    (subst (λ Y. IsPivotInverse R (m + 1) n Y (beside R m X G) (either (U .I) (W .I)) (follow m (U .J) (W .J))) (sym (split-rows R m A))
                     (steps.step R (F .ring) (F .one-not-zero) m 1 n B K (U .D) (W .D) T C G X (U .I) (W .I) (U .J) (W .J) refl refl refl refl (U .holds) (W .holds)));
               }
             where

@@ -11,7 +11,7 @@ use Rattle.algebra.specs.Choice.{choose}
 use Rattle.algebra.specs.Ring.{Ring, IsCommutativeRing}
 use Rattle.algebra.specs.Matrix.{Vector, Matrix, unit, product, mixed}
 use Rattle.algebra.specs.Span.{Combines, Independent}
-use Rattle.algebra.specs.Quasiinverse.{Marks, count, IsQuasiinverse}
+use Rattle.algebra.specs.Quasiinverse.{Marks, count, IsPivotInverse}
 use Rattle.algebra.specs.Solve.{mixOf}
 use Rattle.algebra.proofs.Sums as sums
 use Rattle.algebra.proofs.Applied as applied
@@ -67,7 +67,7 @@ module _ (R : Ring) (L : IsCommutativeRing R) where
   infixl 70 _⊗_
   -- independent rows are all in J: for a row outside J, 1 - A D has a zero mix of the rows with 1 at that row
   pub independent-chosen : (R .one ≡ R .zero → ⊥) → {m n : ℕ} {A D : Matrix R} {I J : Marks}
-      → IsQuasiinverse R m n A D I J → Independent R m n A → (y : ℕ) → y < m → J y ≡ true
+      → IsPivotInverse R m n A D I J → Independent R m n A → (y : ℕ) → y < m → J y ≡ true
   independent-chosen proper {m} {n} {A} {D} {I} {J} Q free y l =
       is-true (J y)
       (λ e.
@@ -75,7 +75,7 @@ module _ (R : Ring) (L : IsCommutativeRing R) where
       (sym (mix-own R L Q y y e ∙ sums.unit-same R y)
       ∙ free (mixOf R n A D y) (λ j k. sym (mix-kills R L Q y l j k)) y l))
 
-  module _ {m n : ℕ} {A D : Matrix R} {I J : Marks} (Q : IsQuasiinverse R m n A D I J) where
+  module _ {m n : ℕ} {A D : Matrix R} {I J : Marks} (Q : IsPivotInverse R m n A D I J) where
     -- v is a combination of the rows exactly if (v D) A = v
     pub combination-found : (v u : Vector R) → Combines R m n A u v → Combines R m n A (mixed R n v D) v
     combination-found v u h j l =

@@ -7,7 +7,7 @@ use Rattle.algebra.specs.Choice.{choose}
 use Rattle.algebra.specs.Ring.{Ring, IsCommutativeRing}
 use Rattle.algebra.specs.Matrix.{Vector, Matrix, unit, product, apply}
 use Rattle.algebra.specs.Span.{InKernel}
-use Rattle.algebra.specs.Quasiinverse.{Marks, IsQuasiinverse}
+use Rattle.algebra.specs.Quasiinverse.{Marks, IsPivotInverse}
 use Rattle.algebra.specs.Kernel.{kernelVector, combined}
 use Rattle.algebra.proofs.Rings as rings
 use Rattle.algebra.proofs.Sums as sums
@@ -18,7 +18,7 @@ use Rattle.algebra.proofs.Chosen.{zero-row}
 use Rattle.algebra.proofs.Unique.{absorbs-apply}
 
 module _
-    (R : Ring) (L : IsCommutativeRing R) {m n : ℕ} {A D : Matrix R} {I J : Marks} (Q : IsQuasiinverse R m n A D I J)
+    (R : Ring) (L : IsCommutativeRing R) {m n : ℕ} {A D : Matrix R} {I J : Marks} (Q : IsPivotInverse R m n A D I J)
   where
     open Ring R using (zero as 𝟘, plus as _⊕_, times as _⊗_, minus)
 

@@ -12,7 +12,7 @@ use Rattle.algebra.specs.Choice.{choose}
 use Rattle.algebra.specs.Ring.{Ring, IsCommutativeRing}
 use Rattle.algebra.specs.Matrix.{Vector, Matrix, product, apply, mixed, transpose}
 use Rattle.algebra.specs.Span.{Combines, IsCombination, ColumnDepends, InKernel}
-use Rattle.algebra.specs.Quasiinverse.{Marks, count, IsQuasiinverse}
+use Rattle.algebra.specs.Quasiinverse.{Marks, count, IsPivotInverse}
 use Rattle.algebra.proofs.Rings as rings
 use Rattle.algebra.proofs.Sums as sums
 use Rattle.algebra.proofs.Matrices as matrices
@@ -27,7 +27,7 @@ module _ (R : Ring) (L : IsCommutativeRing R) where
   infixl 60 _⊕_
   infixl 70 _⊗_
   -- each row of A is a combination of the rows of J
-  pub rows-spanned : {m n : ℕ} {A D : Matrix R} {I J : Marks} → IsQuasiinverse R m n A D I J → (y : ℕ) → y < m
+  pub rows-spanned : {m n : ℕ} {A D : Matrix R} {I J : Marks} → IsPivotInverse R m n A D I J → (y : ℕ) → y < m
       → (u : Vector R) × ((t : ℕ) → J t ≡ false → u t ≡ 𝟘) × Combines R m n A u (A y)
   rows-spanned {m} {n} {A} {D} Q y l = (
     product R n A D y,
@@ -100,7 +100,7 @@ module _ (R : Ring) (L : IsCommutativeRing R) where
   -- two tables of the same span, in a ring where 1 is not 0
   module _ (proper : 𝟙 ≡ 𝟘 → ⊥)
       {m m′ n : ℕ} {A A′ D D′ : Matrix R} {I I′ J J′ : Marks}
-      (Q : IsQuasiinverse R m n A D I J) (Q′ : IsQuasiinverse R m′ n A′ D′ I′ J′)
+      (Q : IsPivotInverse R m n A D I J) (Q′ : IsPivotInverse R m′ n A′ D′ I′ J′)
       (spanned : (y : ℕ) → y < m → IsCombination R m′ n A′ (A y))
       (spanned′ : (y : ℕ) → y < m′ → IsCombination R m n A (A′ y))
     where

@@ -8,7 +8,7 @@ use native.Mathlib.Omega.{arith}
 use Rattle.algebra.specs.Ring.{Ring, IsCommutativeRing, IsField}
 use Rattle.algebra.specs.Matrix.{Vector, Matrix, unit, product, apply}
 use Rattle.algebra.specs.Span.{Solves, AgreeAt}
-use Rattle.algebra.specs.Quasiinverse.{Marks, IsQuasiinverse}
+use Rattle.algebra.specs.Quasiinverse.{Marks, IsPivotInverse}
 use Rattle.algebra.specs.Kernel.{kernelVector}
 use Rattle.algebra.proofs.Choice.{all-below?}
 use Rattle.algebra.proofs.Rings as rings
@@ -31,7 +31,7 @@ module _ (R : Ring) (L : IsCommutativeRing R) where
       sums.sum-same R n (λ t. X i t ⊗ (x t ⊕ y t)) (λ t. X i t ⊗ x t ⊕ X i t ⊗ y t) (λ t l. L .times-plus (X i t) (x t) (y t))
       ∙ sums.sum-plus R L n (λ t. X i t ⊗ x t) (λ t. X i t ⊗ y t)
 
-  module _ {m n : ℕ} {A D : Matrix R} {I J : Marks} (Q : IsQuasiinverse R m n A D I J) (w : Vector R) where
+  module _ {m n : ℕ} {A D : Matrix R} {I J : Marks} (Q : IsPivotInverse R m n A D I J) (w : Vector R) where
     -- row j of 1 - DA is zero: every solution has (Dw)_j at j
     pub agree-if : (j : ℕ) → j < n → ((c : ℕ) → c < n → kernelVector R m D A c j ≡ 𝟘) → AgreeAt R m n A w j (apply R m D w j)
     unfolding kernelVector

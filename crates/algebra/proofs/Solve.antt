@@ -6,7 +6,7 @@ use Prim.Native.Nat.{ℕ, _<_}
 use Rattle.algebra.specs.Ring.{Ring, IsCommutativeRing}
 use Rattle.algebra.specs.Matrix.{Vector, Matrix, sum, unit, product, apply, mixed}
 use Rattle.algebra.specs.Span.{Solves}
-use Rattle.algebra.specs.Quasiinverse.{Marks, IsQuasiinverse}
+use Rattle.algebra.specs.Quasiinverse.{Marks, IsPivotInverse}
 use Rattle.algebra.specs.Solve.{mixOf}
 use Rattle.algebra.proofs.Rings as rings
 use Rattle.algebra.proofs.Sums as sums
@@ -20,7 +20,7 @@ module _ (R : Ring) (L : IsCommutativeRing R) where
 
   infixl 60 _⊕_
   infixl 70 _⊗_
-  module _ {m n : ℕ} {A D : Matrix R} {I J : Marks} (Q : IsQuasiinverse R m n A D I J) where
+  module _ {m n : ℕ} {A D : Matrix R} {I J : Marks} (Q : IsPivotInverse R m n A D I J) where
     -- if the system has a solution, D w is one
     pub solved : (x w : Vector R) → Solves R m n A x w → Solves R m n A (apply R m D w) w
     solved x w h i l =

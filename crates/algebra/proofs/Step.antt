@@ -8,7 +8,7 @@ use native.Mathlib.Decide.{decLt}
 use native.Mathlib.Omega.{arith}
 use Rattle.algebra.specs.Ring.{Ring, IsCommutativeRing}
 use Rattle.algebra.specs.Matrix.{Matrix, unit, zeros, add, negative, product, stack, beside}
-use Rattle.algebra.specs.Quasiinverse.{Marks, either, follow, IsQuasiinverse}
+use Rattle.algebra.specs.Quasiinverse.{Marks, either, follow, IsPivotInverse}
 use Rattle.algebra.proofs.Rings as rings
 use Rattle.algebra.proofs.Sums as sums
 use Rattle.algebra.proofs.Matrices as matrices
@@ -82,8 +82,8 @@ module _ (R : Ring) (L : IsCommutativeRing R) where
       (is-C : C ≡ add R K (negative R (product R m₁ T B)))
       (is-G : G ≡ add R F (negative R (product R m₁ E (product R n B F))))
       (is-X : X ≡ add R E (negative R (product R m₂ G T)))
-      (Q₁ : IsQuasiinverse R m₁ n B E I₁ J₁)
-      (Q₂ : IsQuasiinverse R m₂ n C F I₂ J₂)
+      (Q₁ : IsPivotInverse R m₁ n B E I₁ J₁)
+      (Q₂ : IsPivotInverse R m₂ n C F I₂ J₂)
     where
       A : Matrix R
       A = stack R m₁ B K
@@ -274,7 +274,7 @@ module _ (R : Ring) (L : IsCommutativeRing R) where
           go (lower k) t = let l : k < m₂ = Q₂ .rows k (sym (counts.follow-lower m₁ J₁ J₂ k) ∙ t) in omega arith
 
       -- the whole table's quasiinverse
-      pub step : IsQuasiinverse R (m₁ + m₂) n (stack R m₁ B K) (beside R m₁ X G) (either I₁ I₂) (follow m₁ J₁ J₂)
+      pub step : IsPivotInverse R (m₁ + m₂) n (stack R m₁ B K) (beside R m₁ X G) (either I₁ I₂) (follow m₁ J₁ J₂)
       unfolding A D
       step =
           record {

@@ -6,7 +6,7 @@ use Prim.Native.Nat.{ℕ}
 use native.Mathlib.Decide.{ℕ-discrete}
 use Rattle.algebra.specs.Ring.{Ring, IsCommutativeRing}
 use Rattle.algebra.specs.Matrix.{Vector, Matrix, unit, product, apply, mixed, transpose}
-use Rattle.algebra.specs.Quasiinverse.{Marks, IsInverseOn, IsQuasiinverse}
+use Rattle.algebra.specs.Quasiinverse.{Marks, IsInverseOn, IsPivotInverse}
 use Rattle.algebra.proofs.Sums as sums
 use Rattle.algebra.proofs.Matrices as matrices
 
@@ -43,8 +43,8 @@ module _ (R : Ring) (L : IsCommutativeRing R) where
   mixed-transpose k u X i = sums.sum-same R k (λ t. u t ⊗ X i t) (λ t. X i t ⊗ u t) (λ t l. L .times-comm (u t) (X i t))
 
   -- the transpose of D is a quasiinverse of the transpose of A, with the marks of rows and columns exchanged
-  pub transposed : {m n : ℕ} {A D : Matrix R} {I J : Marks} → IsQuasiinverse R m n A D I J
-      → IsQuasiinverse R n m (transpose R A) (transpose R D) J I
+  pub transposed : {m n : ℕ} {A D : Matrix R} {I J : Marks} → IsPivotInverse R m n A D I J
+      → IsPivotInverse R n m (transpose R A) (transpose R D) J I
   unfolding transpose
   transposed {m} {n} {A} {D} Q =
       record {

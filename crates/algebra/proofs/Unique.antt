@@ -5,7 +5,7 @@ use mathlib.Core.Bool.{true, false}
 use Prim.Native.Nat.{ℕ, _<_}
 use Rattle.algebra.specs.Ring.{Ring, IsCommutativeRing}
 use Rattle.algebra.specs.Matrix.{Vector, Matrix, Sized, unit, product, apply, mixed, transpose}
-use Rattle.algebra.specs.Quasiinverse.{Marks, IsInverseOn, IsQuasiinverse}
+use Rattle.algebra.specs.Quasiinverse.{Marks, IsInverseOn, IsPivotInverse}
 use Rattle.algebra.proofs.Rings as rings
 use Rattle.algebra.proofs.Sums as sums
 use Rattle.algebra.proofs.Matrices as matrices
@@ -19,7 +19,7 @@ module _ (R : Ring) (L : IsCommutativeRing R) where
 
   infixl 70 _⊗_
   -- a quasiinverse is the inverse on its marks
-  pub inverse-on : {m n : ℕ} {A D : Matrix R} {I J : Marks} → IsQuasiinverse R m n A D I J → IsInverseOn R m n A D I J
+  pub inverse-on : {m n : ℕ} {A D : Matrix R} {I J : Marks} → IsPivotInverse R m n A D I J → IsInverseOn R m n A D I J
   inverse-on Q =
       record {
         row-outside = Q .row-outside;
@@ -75,7 +75,7 @@ module _ (R : Ring) (L : IsCommutativeRing R) where
   inverse-unique {m} {n} {A} {D} {D′} columns rows N N′ =
       sym (keeps-left rows N N′) ∙ sym (matrices.product-assoc R L n m D A D′) ∙ keeps-right columns N N′
 
-  module _ {m n : ℕ} {A D : Matrix R} {I J : Marks} (Q : IsQuasiinverse R m n A D I J) where
+  module _ {m n : ℕ} {A D : Matrix R} {I J : Marks} (Q : IsPivotInverse R m n A D I J) where
     -- D A D = D
     pub reflects : product R m D (product R n A D) ≡ D
     reflects = keeps-left (Q .rows) (inverse-on Q) (inverse-on Q)

@@ -1,5 +1,5 @@
 -- What Algorithm Q of document 001 carries from the halves of a table to the whole: D with the marks of the chosen
--- columns I and rows J. `IsInverseOn` is document 01's own description of D; `IsQuasiinverse` is what the recursion
+-- columns I and rows J. `IsInverseOn` is document 01's own description of D; `IsPivotInverse` is what the recursion
 -- passes on, and `proofs/` shows that it gives 01's I, J and D, and ADA = A and DAD = D.
 use mathlib.Core.Path.{_≡_}
 use mathlib.Core.Bool.{Bool, true, false}
@@ -45,7 +45,7 @@ module _ (R : Ring) where
     pub left-inverse : (i c : ℕ) → I i ≡ true → I c ≡ true → product R m D A i c ≡ unit R i c
     pub right-inverse : (y j : ℕ) → J y ≡ true → J j ≡ true → product R n A D y j ≡ unit R y j
 
-  pub record IsQuasiinverse (m n : ℕ) (A D : Matrix R) (I J : Marks) : Type 0 where
+  pub record IsPivotInverse (m n : ℕ) (A D : Matrix R) (I J : Marks) : Type 0 where
     -- D is zero in rows outside I and in columns outside J
     pub row-outside : (i j : ℕ) → I i ≡ false → D i j ≡ R .zero
     pub column-outside : (i j : ℕ) → J j ≡ false → D i j ≡ R .zero

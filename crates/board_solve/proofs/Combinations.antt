@@ -9,7 +9,7 @@ use lib.ListN.{length, getD, take}
 use lib.Seq.{length-take-le, getD-take, ext-getD}
 use Rattle.algebra.specs.Matrix.{Vector, mixed}
 use Rattle.algebra.specs.Span.{Combines}
-use Rattle.algebra.specs.Quasiinverse.{Marks, IsQuasiinverse}
+use Rattle.algebra.specs.Quasiinverse.{Marks, IsPivotInverse}
 use Rattle.algebra.proofs.Applied.{mixed-same}
 use Rattle.algebra.proofs.Independent.{combination-found}
 use Rattle.field.specs.Residue.{reduce, residues}
@@ -45,7 +45,7 @@ module _ (p : ℕ) (by xs : List ℕ) (w : ℕ) (r : List ℕ) (made : Mixed p b
 pub record Compared (p n k : ℕ) (rows d f c g : List ℕ) : Type 0 where
   pub I : Marks
   pub J : Marks
-  pub inverse : IsQuasiinverse (residues p) k n (table p rows 0 n k n) (table p d 0 k n k) I J
+  pub inverse : IsPivotInverse (residues p) k n (table p rows 0 n k n) (table p d 0 k n k) I J
   pub positive : 0 < p
   pub small : n ≤ 64
   pub few : k ≤ 64

@@ -7,7 +7,7 @@ use Rattle.algebra.specs.Ring.{Ring, IsCommutativeRing}
 use Rattle.algebra.specs.Matrix.{Vector, Matrix, unit, product, apply}
 use Rattle.algebra.specs.Span.{Solves, AgreeAt}
 use Rattle.algebra.specs.Kernel.{kernelVector}
-use Rattle.algebra.specs.Quasiinverse.{Marks, IsQuasiinverse}
+use Rattle.algebra.specs.Quasiinverse.{Marks, IsPivotInverse}
 use Rattle.algebra.proofs.Rings as rings
 use Rattle.algebra.proofs.Sums as sums
 use Rattle.algebra.proofs.Applied as applied
@@ -20,7 +20,7 @@ module _
     {m n : ℕ}
     {A D : Matrix R}
     {I J : Marks}
-    (Q : IsQuasiinverse R m n A D I J)
+    (Q : IsPivotInverse R m n A D I J)
     (full : (y : ℕ) → y < m → J y ≡ true)
     (v : Vector R)
   where

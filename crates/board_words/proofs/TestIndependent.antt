@@ -10,7 +10,7 @@ use native.Mathlib.Omega.{arith}
 use lib.ListN.{length, getD, take, drop, length-take}
 use lib.Seq.{length-take-le, length-front, getD-take}
 use Rattle.algebra.specs.Choice.{choose}
-use Rattle.algebra.specs.Quasiinverse.{IsQuasiinverse}
+use Rattle.algebra.specs.Quasiinverse.{IsPivotInverse}
 use Rattle.algebra.proofs.Marks.{is-true}
 use Rattle.checks.specs.Prime.{IsModulus}
 use Rattle.field.specs.Residue.{residues}
@@ -110,9 +110,9 @@ module _ (p n k : ℕ) (ok : IsModulus p) (size : FrameSize n) (count : k ≤ n)
 
     -- a quasiinverse of the rows, in the whole of D's memory
     pub inverse-holds :
-        IsQuasiinverse (residues p) k n (table p rows 0 n k n) (table p (d′ ++ drop (k * n) d) 0 k n k) (e .I) (e .J)
+        IsPivotInverse (residues p) k n (table p rows 0 n k n) (table p (d′ ++ drop (k * n) d) 0 k n k) (e .I) (e .J)
     inverse-holds =
-        subst₂ (λ A D. IsQuasiinverse (residues p) k n A D (e .I) (e .J))
+        subst₂ (λ A D. IsPivotInverse (residues p) k n A D (e .I) (e .J))
         (front-table p rows (k * n) 0 n k n (λ i h. omega (arith, mul-le-mul-right n h)))
         (table-same p d′ 0 k (d′ ++ drop (k * n) d) 0 k n k
         (λ i j h l. sym (front-inside d (k * n) d′ d-part (0 + i * k + j) (omega (arith, mul-le-mul-right k h)))))

@@ -5,7 +5,7 @@ use mathlib.Core.Bool.{true}
 use mathlib.Core.List.{List}
 use Prim.Native.Nat.{ℕ, _+_, _*_, _<_}
 use lib.ListN.{length, getD}
-use Rattle.algebra.specs.Quasiinverse.{Marks, IsQuasiinverse}
+use Rattle.algebra.specs.Quasiinverse.{Marks, IsPivotInverse}
 use Rattle.field.specs.Residue.{residues}
 use Rattle.field.specs.View.{table}
 use Rattle.words.specs.Words.{Below}
@@ -23,7 +23,7 @@ pub record Worked (ws rows d : List ℕ) : Type 0 where
   pub I : Marks
   pub J : Marks
   pub inverse :
-      IsQuasiinverse (residues (modulusWord ws)) (countWord ws) (sizeWord ws)
+      IsPivotInverse (residues (modulusWord ws)) (countWord ws) (sizeWord ws)
       (table (modulusWord ws) rows 0 (sizeWord ws) (countWord ws) (sizeWord ws))
       (table (modulusWord ws) d 0 (countWord ws) (sizeWord ws) (countWord ws)) I J
 

@@ -35,7 +35,7 @@ use borrow.Author.Tests.{ne-eqb}
 use Rattle.algebra.specs.Ring.{IsCommutativeRing, IsField}
 use Rattle.algebra.specs.Matrix.{Matrix}
 use Rattle.algebra.specs.Span.{IsCombination, Independent}
-use Rattle.algebra.specs.Quasiinverse.{Marks, count, IsQuasiinverse}
+use Rattle.algebra.specs.Quasiinverse.{Marks, count, IsPivotInverse}
 use Rattle.algebra.proofs.Counts.{count-same}
 use Rattle.algebra.proofs.Rank.{same-span-same-rank}
 use Rattle.algebra.proofs.Exists.{Solved, solved}
@@ -106,7 +106,7 @@ module _ (p : ℕ) (ok : IsModulus p) (n : ℕ) where
 
   -- the set J of any quasiinverse of the rows has as many members as the rank
   pub rank-counted : (xss : List (List ℕ)) {D : Matrix (residues p)} {I J : Marks}
-      → IsQuasiinverse (residues p) (length xss) n (rowsCut xss) D I J → rankOf p ok n xss ≡ count (length xss) J
+      → IsPivotInverse (residues p) (length xss) n (rowsCut xss) D I J → rankOf p ok n xss ≡ count (length xss) J
   unfolding rankOf rowMarks
   rank-counted xss {J = J} Q =
       count-same (length xss) (rowMarks p ok n xss) J (λ y h. sym (chosen-rows (residues p) F (residueRows p xss) Q y h))
@@ -156,7 +156,7 @@ module _ (p : ℕ) (ok : IsModulus p) (n : ℕ) where
 
   -- "The count of frames held is the rank of the ledger's rows": for any quasiinverse of the rows, J has them all
   pub count-is-rank : (es : List Entry) → Proper p n es → {D : Matrix (residues p)} {I J : Marks}
-      → IsQuasiinverse (residues p) (length es) n (cut (residues p) (length es) n (multiplierRows p es)) D I J
+      → IsPivotInverse (residues p) (length es) n (cut (residues p) (length es) n (multiplierRows p es)) D I J
       → count (length es) J ≡ length es
   count-is-rank es proper {J = J} Q =
       all-counted (length es) J (all-chosen (residues p) F (length es) n (multiplierRows p es) (proper .independent) Q)

@@ -13,7 +13,7 @@ use Rattle.algebra.specs.Choice.{choose, pick}
 use Rattle.algebra.specs.Ring.{Ring, IsCommutativeRing, IsField}
 use Rattle.algebra.specs.Matrix.{Vector, Matrix, unit, product, apply, mixed, transpose}
 use Rattle.algebra.specs.Span.{Combines, IsCombination, Independent, Solves}
-use Rattle.algebra.specs.Quasiinverse.{Marks, IsQuasiinverse}
+use Rattle.algebra.specs.Quasiinverse.{Marks, IsPivotInverse}
 use Rattle.algebra.proofs.Rings as rings
 use Rattle.algebra.proofs.Sums as sums
 use Rattle.algebra.proofs.Applied as applied
@@ -164,7 +164,7 @@ module _ (R : Ring) (F : IsField R) where
 
   -- independent rows are all chosen
   pub all-chosen : (k n : ℕ) (X : Matrix R) → Independent R k n X → {D : Matrix R} {I J : Marks}
-      → IsQuasiinverse R k n (cut R k n X) D I J → (y : ℕ) → y < k → J y ≡ true
+      → IsPivotInverse R k n (cut R k n X) D I J → (y : ℕ) → y < k → J y ≡ true
   all-chosen k n X free Q =
       independent-chosen R L (F .one-not-zero) Q
       (independent-agree R k n X (cut R k n X) (alike-back R (cut R k n X) X (cut-alike R k n X)) free)
@@ -195,11 +195,11 @@ module _ (R : Ring) (F : IsField R) where
       D : Matrix R
       D = S .D
 
-      Q : IsQuasiinverse R k n C D (S .I) (S .J)
+      Q : IsPivotInverse R k n C D (S .I) (S .J)
       Q = S .holds
 
   -- the rows of J are those that are no combination of the rows before them
-  pub chosen-rows : {k n : ℕ} (X : Matrix R) {D : Matrix R} {I J : Marks} → IsQuasiinverse R k n (cut R k n X) D I J
+  pub chosen-rows : {k n : ℕ} (X : Matrix R) {D : Matrix R} {I J : Marks} → IsPivotInverse R k n (cut R k n X) D I J
       → (y : ℕ) → y < k → J y ≡ pick (combination? R F y n X (X y)) false true
   chosen-rows {k} {n} X {J = J} Q y h =
       pick-elim (λ b. J y ≡ b) (combination? R F y n X (X y)) false true

@@ -11,7 +11,7 @@ use lib.ListN.{length, getD, List·getD-eq-default}
 use lib.Seq.{ext-getD}
 use borrow.Author.Tests.{eqb-true, eqb-false, ltb-true, leb-true, lt-ltb, not-true}
 use Rattle.algebra.specs.Choice.{choose}
-use Rattle.algebra.specs.Quasiinverse.{IsQuasiinverse}
+use Rattle.algebra.specs.Quasiinverse.{IsPivotInverse}
 use Rattle.algebra.proofs.Counts.{true-not-false}
 use Rattle.checks.specs.Prime.{Prime, IsModulus}
 use Rattle.field.specs.Residue.{Residue, residues}
@@ -147,7 +147,7 @@ module _ (p m n : ℕ) (a d columns rows : List ℕ) where
       and isQuasiinverse (residues p) same m n (tableOf p m n a) (table p d 0 m n m) (marked columns) (marked rows)
 
   module _ (ok : IsModulus p) (t : holdsInverse ≡ true) where
-    pub quasiinverse-checked : IsQuasiinverse (residues p) m n (tableOf p m n a) (table p d 0 m n m) (marked columns) (marked rows)
+    pub quasiinverse-checked : IsPivotInverse (residues p) m n (tableOf p m n a) (table p d 0 m n m) (marked columns) (marked rows)
     unfolding holdsInverse
     quasiinverse-checked =
         let (t, holds) = both _ _ t in

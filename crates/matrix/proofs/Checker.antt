@@ -13,7 +13,7 @@ use lib.Dec.{eqb}
 use borrow.Author.Tests.{eqb-true}
 use Rattle.algebra.specs.Ring.{Ring, IsCommutativeRing}
 use Rattle.algebra.specs.Matrix.{Matrix, Sized, unit, product}
-use Rattle.algebra.specs.Quasiinverse.{Marks, count, IsQuasiinverse}
+use Rattle.algebra.specs.Quasiinverse.{Marks, count, IsPivotInverse}
 use Rattle.algebra.proofs.Sums.{unit-other}
 use Rattle.algebra.proofs.Matrices.{entries}
 use Rattle.algebra.proofs.Step as steps
@@ -118,7 +118,7 @@ module _ (R : Ring) (L : IsCommutativeRing R) (same : R .Carrier → R .Carrier 
   -- each test is a clause of the definition, where A and D have entries
   pub checked : {m n : ℕ} {A D : Matrix R} {I J : Marks} → Sized R m n A → Sized R n m D
       → ((c : ℕ) → I c ≡ true → c < n) → ((y : ℕ) → J y ≡ true → y < m)
-      → isQuasiinverse R same m n A D I J ≡ true → IsQuasiinverse R m n A D I J
+      → isQuasiinverse R same m n A D I J ≡ true → IsPivotInverse R m n A D I J
   unfolding isQuasiinverse
   checked {m} {n} {A} {D} {I} {J} sA sD columns rows t =
       let (t, many) = both _ _ t in

@@ -7,7 +7,7 @@ use native.Mathlib.Omega.{arith}
 use lib.ListN.{length, getD}
 use Rattle.algebra.specs.Choice.{choose}
 use Rattle.algebra.specs.Matrix.{Matrix}
-use Rattle.algebra.specs.Quasiinverse.{Marks, count, IsQuasiinverse}
+use Rattle.algebra.specs.Quasiinverse.{Marks, count, IsPivotInverse}
 use Rattle.algebra.proofs.Exists.{solved}
 use Rattle.algebra.proofs.Unique.{inverse-on, inverse-unique}
 use Rattle.checks.specs.Prime.{IsModulus}
@@ -25,7 +25,7 @@ use Rattle.matrix.specs.Parts.{Checked, Room, Inverted}
 use Rattle.matrix.proofs.Memory.{rows-written, marks-written}
 
 module _ (p : ℕ) (ok : IsModulus p) (m n : ℕ) (a : List ℕ) where
-  module _ {D : Matrix (residues p)} {I J : Marks} (Q : IsQuasiinverse (residues p) m n (tableOf p m n a) D I J) where
+  module _ {D : Matrix (residues p)} {I J : Marks} (Q : IsPivotInverse (residues p) m n (tableOf p m n a) D I J) where
     -- its marks are I and J
     pub columns-are : I ≡ columnsOf p ok m n a
     columns-are = fun-ext (columns-are-chosen (residues p) (field p ok m n a) Q)
@@ -34,8 +34,8 @@ module _ (p : ℕ) (ok : IsModulus p) (m n : ℕ) (a : List ℕ) where
     rows-are = fun-ext (rows-are-chosen (residues p) (field p ok m n a) Q)
 
     -- with the marks named so
-    marked-so : IsQuasiinverse (residues p) m n (tableOf p m n a) D (columnsOf p ok m n a) (rowMarksOf p ok m n a)
-    marked-so = subst₂ (λ K L. IsQuasiinverse (residues p) m n (tableOf p m n a) D K L) columns-are rows-are Q
+    marked-so : IsPivotInverse (residues p) m n (tableOf p m n a) D (columnsOf p ok m n a) (rowMarksOf p ok m n a)
+    marked-so = subst₂ (λ K L. IsPivotInverse (residues p) m n (tableOf p m n a) D K L) columns-are rows-are Q
 
     -- it is D
     pub inverse-is : D ≡ inverseOf p ok m n a
@@ -49,19 +49,19 @@ module _ (p : ℕ) (ok : IsModulus p) (m n : ℕ) (a : List ℕ) where
     unfolding rank
     rank-is = ap (count n) columns-are
 
-    named-so : IsQuasiinverse (residues p) m n (tableOf p m n a) (inverseOf p ok m n a) (columnsOf p ok m n a) (rowMarksOf p ok m n a)
+    named-so : IsPivotInverse (residues p) m n (tableOf p m n a) (inverseOf p ok m n a) (columnsOf p ok m n a) (rowMarksOf p ok m n a)
     named-so =
         subst
-        (λ X. IsQuasiinverse (residues p) m n (tableOf p m n a) X (columnsOf p ok m n a) (rowMarksOf p ok m n a))
+        (λ X. IsPivotInverse (residues p) m n (tableOf p m n a) X (columnsOf p ok m n a) (rowMarksOf p ok m n a))
         inverse-is marked-so
 
   -- D with I and J is a quasiinverse of the table
-  pub quasiinverse-of : IsQuasiinverse (residues p) m n (tableOf p m n a) (inverseOf p ok m n a) (columnsOf p ok m n a) (rowMarksOf p ok m n a)
+  pub quasiinverse-of : IsPivotInverse (residues p) m n (tableOf p m n a) (inverseOf p ok m n a) (columnsOf p ok m n a) (rowMarksOf p ok m n a)
   quasiinverse-of = named-so (solved (residues p) (field p ok m n a) m n (tableOf p m n a) (table-sized p a 0 n m n) .holds)
 
   -- memory that a quasiinverse and its marks were written to holds D, I and J
   pub inverted : {I J : Marks} (d columns rows : List ℕ)
-      → IsQuasiinverse (residues p) m n (tableOf p m n a) (table p d 0 m n m) I J
+      → IsPivotInverse (residues p) m n (tableOf p m n a) (table p d 0 m n m) I J
       → Below p d → length d ≡ n * m
       → length columns ≡ n → ((c : ℕ) → c < n → getD columns c 0 ≡ choose (I c) 1 0)
       → length rows ≡ m → ((y : ℕ) → y < m → getD rows y 0 ≡ choose (J y) 1 0)

@@ -9,7 +9,7 @@ use native.Mathlib.Omega.{arith}
 use Rattle.algebra.specs.Ring.{IsCommutativeRing}
 use Rattle.algebra.specs.Matrix.{Vector, Matrix, sum, unit, product, apply, mixed, transpose}
 use Rattle.algebra.specs.Span.{Combines, IsCombination, RowDepends, ColumnDepends, InKernel, Solves}
-use Rattle.algebra.specs.Quasiinverse.{Marks, count, IsInverseOn, IsQuasiinverse}
+use Rattle.algebra.specs.Quasiinverse.{Marks, count, IsInverseOn, IsPivotInverse}
 use Rattle.algebra.specs.Kernel.{kernelVector, combined}
 use Rattle.algebra.specs.Solve.{mixOf}
 use Rattle.algebra.proofs.Rings as rings
@@ -41,7 +41,7 @@ module _ (p : ℕ) (ok : IsModulus p) (m n : ℕ) (a : List ℕ) where
   abbrev J : Marks
   J = rowMarksOf p ok m n a
 
-  Q : IsQuasiinverse (residues p) m n A D I J
+  Q : IsPivotInverse (residues p) m n A D I J
   Q = quasiinverse-of p ok m n a
 
   L : IsCommutativeRing (residues p)

@@ -10,14 +10,14 @@ use Rattle.algebra.specs.Choice.{choose, pick}
 use Rattle.algebra.specs.Ring.{Ring, IsField}
 use Rattle.algebra.specs.Matrix.{Matrix, transpose}
 use Rattle.algebra.specs.Span.{RowDepends, ColumnDepends}
-use Rattle.algebra.specs.Quasiinverse.{Marks, IsQuasiinverse}
+use Rattle.algebra.specs.Quasiinverse.{Marks, IsPivotInverse}
 use Rattle.algebra.proofs.Choice.{pick-yes, pick-no}
 use Rattle.algebra.proofs.Decide.{combination?}
 use Rattle.algebra.proofs.Marks.{by-test}
 use Rattle.algebra.proofs.Chosen.{column-depends, column-free, row-depends, row-free, column-end, row-end}
 use Rattle.matrix.specs.Chosen.{chosenColumns, chosenRows}
 
-module _ (R : Ring) (F : IsField R) {m n : ℕ} {A D : Matrix R} {I J : Marks} (Q : IsQuasiinverse R m n A D I J) where
+module _ (R : Ring) (F : IsField R) {m n : ℕ} {A D : Matrix R} {I J : Marks} (Q : IsPivotInverse R m n A D I J) where
   pub columns-are-chosen : (c : ℕ) → I c ≡ chosenColumns R F m n A c
   unfolding chosenColumns
   columns-are-chosen c = go (decLt c n)

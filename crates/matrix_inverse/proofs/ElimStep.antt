@@ -7,7 +7,7 @@ use native.Mathlib.Omega.{arith}
 use lib.ListN.{drop}
 use Rattle.algebra.specs.Ring.{IsField}
 use Rattle.algebra.specs.Matrix.{Matrix, add, negative, product}
-use Rattle.algebra.specs.Quasiinverse.{Marks, either, follow, IsQuasiinverse}
+use Rattle.algebra.specs.Quasiinverse.{Marks, either, follow, IsPivotInverse}
 use Rattle.algebra.proofs.Matrices.{product-negative, negative-product}
 use Rattle.algebra.proofs.Step.{step}
 use Rattle.checks.specs.Prime.{IsModulus}
@@ -22,10 +22,10 @@ use Rattle.matrix_inverse.proofs.ElimTables.{table-stack, table-beside}
 module _ (p m₁ m₂ n : ℕ) (a d₁ d₂ d₃ : List ℕ) (at stride : ℕ) (t c t₁ c₁ : List ℕ) (I₁ I₂ J₁ J₂ : Marks)
     (is-modulus : IsModulus p)
     (fits : at + (m₁ + m₂) ≤ stride)
-    (Q₁ : IsQuasiinverse (residues p) m₁ n (table p a 0 n m₁ n) (table p d₁ at stride n m₁) I₁ J₁)
+    (Q₁ : IsPivotInverse (residues p) m₁ n (table p a 0 n m₁ n) (table p d₁ at stride n m₁) I₁ J₁)
     (reduced : Reduced p m₁ m₂ n a (drop (m₁ * n) a) d₁ at stride t c t₁ c₁)
     (kept : Kept p d₁ d₂ (at + m₁) stride n m₂)
-    (Q₂ : IsQuasiinverse (residues p) m₂ n (table p c₁ 0 n m₂ n) (table p d₂ (at + m₁) stride n m₂) I₂ J₂)
+    (Q₂ : IsPivotInverse (residues p) m₂ n (table p c₁ 0 n m₂ n) (table p d₂ (at + m₁) stride n m₂) I₂ J₂)
     (joined : Joined p m₁ m₂ n a t₁ d₂ d₃ at stride)
   where
     field : IsField (residues p)
@@ -82,7 +82,7 @@ module _ (p m₁ m₂ n : ℕ) (a d₁ d₂ d₃ : List ℕ) (at stride : ℕ) (
         ∙ ap (add (residues p) E) (product-negative (residues p) (field .ring) m₂ G T)
 
     pub whole-quasiinverse :
-        IsQuasiinverse (residues p) (m₁ + m₂) n (table p a 0 n (m₁ + m₂) n) (table p d₃ at stride n (m₁ + m₂)) (either I₁ I₂)
+        IsPivotInverse (residues p) (m₁ + m₂) n (table p a 0 n (m₁ + m₂) n) (table p d₃ at stride n (m₁ + m₂)) (either I₁ I₂)
         (follow m₁ J₁ J₂)
     unfolding B K E F C G X T
     whole-quasiinverse =

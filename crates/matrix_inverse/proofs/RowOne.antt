@@ -14,7 +14,7 @@ use borrow.Author.Tests.{eq-eqb, ne-eqb}
 use Rattle.algebra.specs.Choice.{choose}
 use Rattle.algebra.specs.Ring.{IsCommutativeRing}
 use Rattle.algebra.specs.Matrix.{Sized, zeros}
-use Rattle.algebra.specs.Quasiinverse.{none, only, single, IsQuasiinverse}
+use Rattle.algebra.specs.Quasiinverse.{none, only, single, IsPivotInverse}
 use Rattle.algebra.proofs.Matrices.{entry}
 use Rattle.algebra.proofs.Base.{zero-table, one-row}
 use Rattle.field.specs.Residue.{reduce, residues, _⊗_}
@@ -44,7 +44,7 @@ module _ {p m n : ℕ} {a d : List ℕ} {at stride : ℕ} {columns rows : List �
         I = none;
         J = none;
         holds =
-            subst (λ D. IsQuasiinverse (residues p) m n (table p a 0 n m n) D none none) (sym (blank-table p d at stride n m (e .blank)))
+            subst (λ D. IsPivotInverse (residues p) m n (table p a 0 n m n) D none none) (sym (blank-table p d at stride n m (e .blank)))
             (zero-table (residues p) ring m n (table p a 0 n m n) (λ i j. entry (residues p) (blank-table p a 0 n m n zero) i j));
         kept = kept-none p d at stride n m (e .d-below);
         columns-marked = marked-none n columns;
@@ -111,7 +111,7 @@ module _ {p n : ℕ} {a d : List ℕ} {at stride : ℕ} {columns rows : List ℕ
         let place : 0 + 0 * n + t ≡ t = omega arith in
         table-entry p a 0 n 1 n 0 t (zero-lt-suc 0) h ∙ ap (λ q. reduce p (getD a q 0)) place
 
-    is-quasiinverse : IsQuasiinverse (residues p) 1 n (table p a 0 n 1 n) (single (residues p) v (reduce p r)) (only v) (only 0)
+    is-quasiinverse : IsPivotInverse (residues p) 1 n (table p a 0 n 1 n) (single (residues p) v (reduce p r)) (only v) (only 0)
     is-quasiinverse =
         one-row (residues p) (residues-ring p (omega (arith, e .is-modulus .prime .two-or-more))) n (table p a 0 n 1 n)
         (table-sized p a 0 n 1 n)
@@ -142,7 +142,7 @@ module _ {p n : ℕ} {a d : List ℕ} {at stride : ℕ} {columns rows : List ℕ
           I = only v;
           J = only 0;
           holds =
-              subst (λ D. IsQuasiinverse (residues p) 1 n (table p a 0 n 1 n) D (only v) (only 0))
+              subst (λ D. IsPivotInverse (residues p) 1 n (table p a 0 n 1 n) D (only v) (only 0))
               (sym (column-table p d at stride n v r (e .d-long) inside v-below (e .blank)))
               is-quasiinverse;
           kept = one-kept;

@@ -7,7 +7,7 @@ use native.Mathlib.Decide.{ℕ-discrete}
 use lib.ListN.{length, getD, replicate}
 use Rattle.algebra.specs.Choice.{choose, pick}
 use Rattle.algebra.specs.Matrix.{add, negative, product}
-use Rattle.algebra.specs.Quasiinverse.{Marks, IsQuasiinverse}
+use Rattle.algebra.specs.Quasiinverse.{Marks, IsPivotInverse}
 use Rattle.checks.specs.Prime.{IsModulus}
 use Rattle.field.specs.Residue.{residues}
 use Rattle.field.specs.View.{table}
@@ -46,7 +46,7 @@ pub record BothMarked (n : ℕ) (xs ys zs : List ℕ) : Type 0 where
 pub record Eliminated (p m n : ℕ) (a d : List ℕ) (at stride : ℕ) (columns rows d′ columns′ rows′ : List ℕ) : Type 0 where
   pub I : Marks
   pub J : Marks
-  pub holds : IsQuasiinverse (residues p) m n (table p a 0 n m n) (table p d′ at stride n m) I J
+  pub holds : IsPivotInverse (residues p) m n (table p a 0 n m n) (table p d′ at stride n m) I J
   pub kept : Kept p d d′ at stride n m
   pub columns-marked : Marked n I columns columns′
   pub rows-marked : Marked m J rows rows′
