@@ -1,47 +1,100 @@
 // What C calls: each function hands its slices to the call below it and answers the number that is told. include/dauneroad.h
 // declares them.
 ghost use mathlib.Core.Path.{_≡_};
-ghost use Rattle.dauneroad.specs.Exports.{answer, openAnswer, takeAnswer, withdrawAnswer, showAnswer, readAnswer, writeAnswer, sealAnswer, signedAnswer, residueAnswer, quasiinverseAnswer, kernelAnswer, solveAnswer};
+ghost use Rattle.matrix.specs.Told.{tableTold};
+ghost use Rattle.frame.specs.Told.{writeTold};
+ghost use Rattle.board_solve.specs.Told.{takeTold};
+ghost use Rattle.board_calls.specs.Told.{openTold, answerTold};
+ghost use Rattle.dauneroad.specs.Exports.{Small, answer, openAnswer, takeAnswer, withdrawAnswer, showAnswer};
+ghost use Rattle.dauneroad.specs.Exports.{readAnswer, writeAnswer, sealAnswer, signedAnswer, residueAnswer};
+ghost use Rattle.dauneroad.specs.Exports.{quasiinverseAnswer, kernelAnswer, solveAnswer};
+use board_calls::CountAnswer;
+use board_calls::OpenAnswer;
+use board_calls::TakeAnswer;
+use frame_calls::WriteAnswer;
+use matrix_calls::TableAnswer;
+
+// The number of what open answers: 0 when done, or the refusal's.
+fn open_number(answer: OpenAnswer) -> u32
+    ensures { λ r. ⌜ r ≡ openTold answer .number ⌝ }
+{
+    match answer {
+        OpenAnswer::Opened => 0,
+        OpenAnswer::Refused(kind) => checks::number_of(kind),
+    }
+}
+
+// The number of what take answers: 0 for new, 100 for repeat, or the refusal's.
+fn take_number(answer: TakeAnswer) -> u32
+    ensures { λ r. ⌜ r ≡ takeTold answer .number ⌝ }
+{
+    match answer {
+        TakeAnswer::New(_) => 0,
+        TakeAnswer::Repeat(_) => 100,
+        TakeAnswer::Refused(kind) => checks::number_of(kind),
+    }
+}
+
+// The number of what withdraw and show answer: 200 plus the count, or the refusal's.
+fn count_number(answer: CountAnswer) -> u32
+    requires { ⌜ Small (answerTold answer) ⌝ }
+    ensures { λ r. ⌜ r ≡ answerTold answer .number ⌝ }
+{
+    match answer {
+        CountAnswer::Count(k) => 200 + k,
+        CountAnswer::Refused(kind) => checks::number_of(kind),
+    }
+}
+
+// The number of what write answers: 200 plus the length, or the refusal's.
+fn write_number(answer: WriteAnswer) -> u32
+    requires { ⌜ Small (writeTold answer) ⌝ }
+    ensures { λ r. ⌜ r ≡ writeTold answer .number ⌝ }
+{
+    match answer {
+        WriteAnswer::Length(k) => 200 + k,
+        WriteAnswer::Refused(kind) => checks::number_of(kind),
+    }
+}
+
+// The number of what the calls on tables answer: 200 plus the result, or the refusal's.
+fn table_number(answer: TableAnswer) -> u32
+    requires { ⌜ Small (tableTold answer) ⌝ }
+    ensures { λ r. ⌜ r ≡ tableTold answer .number ⌝ }
+{
+    match answer {
+        TableAnswer::Done(k) => 200 + k,
+        TableAnswer::Refused(kind) => checks::number_of(kind),
+    }
+}
 
 #[no_mangle]
 pub extern "C" fn dauneroad_open(p: u32, n: u32, board: &mut [u32]) -> u32
     ensures { λ r. ⌜ answer r (now (board .exit)) ≡ openAnswer p n (now (board .entry)) ⌝ }
 {
-    match board_calls::open(p, n, board) {
-        board_calls::OpenAnswer::Opened => 0,
-        board_calls::OpenAnswer::Refused(kind) => checks::number_of(kind),
-    }
+    open_number(board_calls::open(p, n, board))
 }
 
 #[no_mangle]
 pub extern "C" fn dauneroad_take(board: &mut [u32], frame: &[u8], mix: &mut [u32]) -> u32
     ensures { λ r. ⌜ answer r (now (board .exit), now (mix .exit)) ≡ takeAnswer (now (board .entry)) (now (frame .entry)) (now (mix .entry)) ⌝ }
 {
-    match board_calls::take(board, frame, mix) {
-        board_calls::TakeAnswer::New(_) => 0,
-        board_calls::TakeAnswer::Repeat(_) => 100,
-        board_calls::TakeAnswer::Refused(kind) => checks::number_of(kind),
-    }
+    take_number(board_calls::take(board, frame, mix))
 }
 
 #[no_mangle]
 pub extern "C" fn dauneroad_withdraw(board: &mut [u32], t: u32) -> u32
     ensures { λ r. ⌜ answer r (now (board .exit)) ≡ withdrawAnswer (now (board .entry)) t ⌝ }
 {
-    match board_calls::withdraw(board, t) {
-        board_calls::CountAnswer::Count(k) => 200 + k,
-        board_calls::CountAnswer::Refused(kind) => checks::number_of(kind),
-    }
+    count_number(board_calls::withdraw(board, t))
 }
 
 #[no_mangle]
 pub extern "C" fn dauneroad_show(board: &[u32], marks: &mut [u32], numbers: &mut [i32]) -> u32
-    ensures { λ r. ⌜ answer r (now (marks .exit), now (numbers .exit)) ≡ showAnswer (now (board .entry)) (now (marks .entry)) (now (numbers .entry)) ⌝ }
+    ensures { λ r. ⌜ answer r (now (marks .exit), now (numbers .exit))
+        ≡ showAnswer (now (board .entry)) (now (marks .entry)) (now (numbers .entry)) ⌝ }
 {
-    match board_calls::show(board, marks, numbers) {
-        board_calls::CountAnswer::Count(k) => 200 + k,
-        board_calls::CountAnswer::Refused(kind) => checks::number_of(kind),
-    }
+    count_number(board_calls::show(board, marks, numbers))
 }
 
 #[no_mangle]
@@ -52,7 +105,8 @@ pub extern "C" fn dauneroad_read(
     multipliers: &mut [u32],
     value: &mut u32,
 ) -> u32
-    ensures { λ r. ⌜ answer r (now (multipliers .exit), now (value .exit)) ≡ readAnswer p n (now (frame .entry)) (now (multipliers .entry)) (now (value .entry)) ⌝ }
+    ensures { λ r. ⌜ answer r (now (multipliers .exit), now (value .exit))
+        ≡ readAnswer p n (now (frame .entry)) (now (multipliers .entry)) (now (value .entry)) ⌝ }
 {
     match frame_calls::read(p, n, frame, multipliers) {
         frame_calls::ReadAnswer::Value(v) => {
@@ -73,10 +127,7 @@ pub extern "C" fn dauneroad_write(
 ) -> u32
     ensures { λ r. ⌜ answer r (now (bytes .exit)) ≡ writeAnswer p n (now (multipliers .entry)) value (now (bytes .entry)) ⌝ }
 {
-    match frame_calls::write(p, n, multipliers, value, bytes) {
-        frame_calls::WriteAnswer::Length(k) => 200 + k,
-        frame_calls::WriteAnswer::Refused(kind) => checks::number_of(kind),
-    }
+    write_number(frame_calls::write(p, n, multipliers, value, bytes))
 }
 
 #[no_mangle]
@@ -134,22 +185,17 @@ pub extern "C" fn dauneroad_quasiinverse(
     columns: &mut [u32],
     rows: &mut [u32],
 ) -> u32
-    ensures { λ r. ⌜ answer r (now (d .exit), now (columns .exit), now (rows .exit)) ≡ quasiinverseAnswer p m n (now (a .entry)) (now (d .entry)) (now (columns .entry)) (now (rows .entry)) ⌝ }
+    ensures { λ r. ⌜ answer r (now (d .exit), now (columns .exit), now (rows .exit))
+        ≡ quasiinverseAnswer p m n (now (a .entry)) (now (d .entry)) (now (columns .entry)) (now (rows .entry)) ⌝ }
 {
-    match matrix_calls::quasiinverse(p, m, n, a, d, columns, rows) {
-        matrix_calls::TableAnswer::Done(k) => 200 + k,
-        matrix_calls::TableAnswer::Refused(kind) => checks::number_of(kind),
-    }
+    table_number(matrix_calls::quasiinverse(p, m, n, a, d, columns, rows))
 }
 
 #[no_mangle]
 pub extern "C" fn dauneroad_kernel(p: u32, m: u32, n: u32, a: &[u32], basis: &mut [u32]) -> u32
     ensures { λ r. ⌜ answer r (now (basis .exit)) ≡ kernelAnswer p m n (now (a .entry)) (now (basis .entry)) ⌝ }
 {
-    match matrix_calls::kernel(p, m, n, a, basis) {
-        matrix_calls::TableAnswer::Done(k) => 200 + k,
-        matrix_calls::TableAnswer::Refused(kind) => checks::number_of(kind),
-    }
+    table_number(matrix_calls::kernel(p, m, n, a, basis))
 }
 
 #[no_mangle]
@@ -162,10 +208,8 @@ pub extern "C" fn dauneroad_solve(
     z: &mut [u32],
     u: &mut [u32],
 ) -> u32
-    ensures { λ r. ⌜ answer r (now (z .exit), now (u .exit)) ≡ solveAnswer p m n (now (a .entry)) (now (w .entry)) (now (z .entry)) (now (u .entry)) ⌝ }
+    ensures { λ r. ⌜ answer r (now (z .exit), now (u .exit))
+        ≡ solveAnswer p m n (now (a .entry)) (now (w .entry)) (now (z .entry)) (now (u .entry)) ⌝ }
 {
-    match matrix_calls::solve(p, m, n, a, w, z, u) {
-        matrix_calls::TableAnswer::Done(k) => 200 + k,
-        matrix_calls::TableAnswer::Refused(kind) => checks::number_of(kind),
-    }
+    table_number(matrix_calls::solve(p, m, n, a, w, z, u))
 }

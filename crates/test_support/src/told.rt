@@ -30,5 +30,5 @@ pub fn refused(kind: Refusal) -> Told {
 
 // Whether the number is that of a refusal.
 pub fn is_refused(number: u32) -> bool {
-    number != 0 && number < 12
+    number != 0 && number < 100
 }

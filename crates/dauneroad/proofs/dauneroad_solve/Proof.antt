@@ -1,47 +1,15 @@
 -- `dauneroad_solve` meets its contract: it tells the number of the answer below it, and z and u are as that left them.
-use mathlib.Core.Path.{_≡_, ap}
-use native.Mathlib.Omega.{arith}
+use mathlib.Core.Path.{ap}
 use borrow.Author.Needs.{needs}
-use Rattle.matrix.specs.declared.TableAnswer.{TableAnswer}
-use Rattle.matrix.specs.declared.TableAnswer.the-variants.{Done, Refused}
-use Rattle.matrix.specs.Told.{tableTold}
-use Rattle.dauneroad.specs.Exports.{answer, solveAnswer}
-use Rattle.dauneroad.proofs.Bounds.{solve-most}
+use Rattle.dauneroad.specs.Exports.{exported}
 use Rattle.dauneroad.proofs.dauneroad_solve.Statement.{statement}
 use Rattle.dauneroad.proofs.dauneroad_solve.Tie as tie
-
-abbrev start : tie.After-solve → tie.Start
-start c = c .before .before .before .before .before .before .before
-
--- what is told of the answer, whichever it is, with the lent memory
-told : (c : tie.After-solve) (t : TableAnswer) → c .solve .result ≡ t
-    → let a = start c .args in
-    answer (tableTold t .number) (c .solve .last .1 .1 .1 .1 .1 .0, c .solve .last .1 .1 .1 .1 .1 .1 .0)
-    ≡ solveAnswer (a .p) (a .m) (a .n) (a .a .now) (a .w .now) (a .z .now) (a .u .now)
-told c t e = ap (λ r. answer (r .told .number) (r .z, r .u)) (rw e at (c .solve .ensures))
 
 solve-requires : tie.Need-solve-requires
 solve-requires c κs = search needs
 
-enum-known-k : tie.Need-enum-known-k
-enum-known-k c = search needs
-
--- the number told is small
-add-result : tie.Need-add-result
-add-result c =
-    let e = c .before .before .before .before .before .before .before in
-    let a = start e .args in
-    omega (
-      arith,
-      ap (λ r. r .number) (told e (Done _) (c .before .k .given .1)),
-      solve-most (a .p) (a .m) (a .n) (a .a .now) (a .w .now) (a .z .now) (a .u .now),
-    )
-
-enum-known-kind : tie.Need-enum-known-kind
-enum-known-kind c = search needs
-
-number-of-requires : tie.Need-number-of-requires
-number-of-requires c κs = search needs
+table-number-requires : tie.Need-table-number-requires
+table-number-requires c κs = small-solve _ _
 
 same-length : tie.Need-same-length
 same-length c = search needs
@@ -50,31 +18,8 @@ same-length-2 : tie.Need-same-length-2
 same-length-2 c = search needs
 
 returns : tie.Need-returns
-returns c = told (c .before .before .before .before .before .before .before) (Done _) (c .before .k .given .1)
-
-same-length-3 : tie.Need-same-length-3
-same-length-3 c = search needs
-
-same-length-4 : tie.Need-same-length-4
-same-length-4 c = search needs
-
-returns-2 : tie.Need-returns-2
-returns-2 c =
-    let k = c .before .before in
-    rw (c .number-of .ensures) (told (k .before .before .before .before .before .before) (Refused _) (k .kind .given .1))
+returns c = rw (c .table-number .ensures) (ap exported (c .before .before .before .before .before .solve .ensures))
 
 pub dauneroad-solve-spec : {M : Type 1} → statement M
 dauneroad-solve-spec =
-    tie.close
-    (tie.spec
-    solve-requires
-    enum-known-k
-    add-result
-    enum-known-kind
-    number-of-requires
-    same-length
-    same-length-2
-    returns
-    same-length-3
-    same-length-4
-    returns-2)
+    tie.close (tie.spec solve-requires table-number-requires same-length same-length-2 returns)
