@@ -1,249 +1,128 @@
--- What quasiinverse, kernel and solve answer, case by case, in the order of the checks: refused by 1, 2, 3 (for each length)
--- and 4 with all lent memory as it was, or done. The calls are definitions by decisions, and these laws go by what is decided.
-use mathlib.Core.Path.{_≡_, _∙_}
+-- What quasiinverse, kernel and solve come to: the refusal by the first of their checks that fails, with all lent memory as it
+-- was, or, where the table and the memory pass, what the parts left in it.
+use mathlib.Core.Path.{_≡_, sym, subst}
 use mathlib.Core.List.{List}
-use Prim.Native.Nat.{ℕ, _*_, _-_}
+use Prim.Native.Nat.{ℕ, _*_}
 use lib.ListN.{length}
-use Rattle.algebra.specs.Choice.{pick, pickBy}
-use Rattle.algebra.proofs.Choice.{pick-yes, pick-no, pick-by-yes, pick-by-no}
-use Rattle.checks.specs.declared.Refusal.the-variants.{Modulus, Size, Length, Number}
-use Rattle.checks.specs.Told.{refused}
+use Rattle.checks.specs.declared.Refusal.{Refusal}
 use Rattle.checks.specs.Prime.{IsModulus}
-use Rattle.checks.specs.Decide.{modulus?}
-use Rattle.checks.proofs.Guards.{modulus-prop}
-use Rattle.words.specs.Words.{Below}
-use Rattle.field.specs.Written.{rowsOf, marksOf}
-use Rattle.matrix.specs.Told.{done}
-use Rattle.words.specs.Decide.{below?}
-use Rattle.checks.specs.Decide.{sizes?, long?}
-use Rattle.checks.specs.Largest.{Sizes}
+use Rattle.checks.specs.Told.{results}
+use Rattle.checks.specs.Outcome.{Outcome, outcome, untouched}
+use Rattle.checks.specs.declared.Verdict.{Verdict}
+use Rattle.checks.specs.declared.Verdict.the-variants as verdict
+use Rattle.checks.specs.InOrder.{Check, Checks, _⨾_, Given, andThen, AllHold, FirstFailing}
+use Rattle.checks.specs.Sizes.{tableSizes, Judges}
+use Rattle.checks.proofs.InOrder.{none-left, holds-and, fails-later, given, fails-in-front, in-order-done, in-order-refused}
 use Rattle.matrix.specs.Calls.{
-  columnsOf,
-  rowMarksOf,
   rankOf,
-  inverseOf,
-  quasiinverted,
+  quasiinverseChecks,
   quasiinverseCall,
-  kernelled,
-  basisOf,
+  kernelChecks,
   kernelCall,
-  solvedAs,
   solution,
+  solveChecks,
   solveCall,
 }
+use Rattle.matrix.specs.Parts.{Checked, Room, Inverted, Kernelled, System}
 
--- past checks 1 and 2
-checked : {X : Type 0} (p m n : ℕ) (ok : IsModulus p) → Sizes m n → (f : IsModulus p → X) (b c : X)
-    → pickBy (modulus? p) (λ q. pick (sizes? m n) (f q) b) c ≡ f ok
-checked p m n ok sizes f b c = pick-by-yes (modulus? p) _ _ (modulus-prop p) ok ∙ pick-yes (sizes? m n) _ _ sizes
+infixr 40 _then_
+-- a check holds, and then the first of the others that fails has the kind k
+pub _then_ : {c : Check Refusal} {cs : Checks Refusal} {k : Refusal} → c .Holds → FirstFailing cs k → FirstFailing (c ⨾ cs) k
+h then f = fails-later h (λ _. f)
+
+infixr 40 _and-then_
+-- a check holds, and so do the others
+_and-then_ : {c : Check Refusal} {cs : Checks Refusal} → c .Holds → AllHold cs → AllHold (c ⨾ cs)
+h and-then f = holds-and h (λ _. f)
+
+-- 1 and 2 hold, and then the first of the others that fails has the kind k
+pub past-sizes : {p m n : ℕ} {cs : Checks Refusal} {k : Refusal} → Given (tableSizes p m n) → FirstFailing cs k
+    → FirstFailing (andThen (tableSizes p m n) (λ _. cs)) k
+past-sizes s f = s .0 then s .1 .0 then f
+
+-- what the function for 1 and 2 tells: they hold, or the kind of the first that fails, before whatever else is checked
+module _ {p m n : ℕ} {v : Verdict} (told : Judges (tableSizes p m n) v) where
+  pub sizes-passed : v ≡ verdict.Passed → Given (tableSizes p m n)
+  sizes-passed e = given (subst (Judges (tableSizes p m n)) e told)
+
+  pub sizes-failed : {k : Refusal} {rest : Checks Refusal} → v ≡ verdict.Refused k
+      → FirstFailing (andThen (tableSizes p m n) (λ _. rest)) k
+  sizes-failed {rest = rest} e = fails-in-front (tableSizes p m n) (λ _. rest) (subst (Judges (tableSizes p m n)) e told)
 
 -- ---- quasiinverse
 
 module _ (p m n : ℕ) (a d columns rows : List ℕ) where
-  pub quasiinverse-modulus : (IsModulus p → ⊥)
-      → quasiinverseCall p m n a d columns rows ≡ quasiinverted (refused Modulus) d columns rows
+  pub quasiinverse-refused : {k : Refusal} → FirstFailing (quasiinverseChecks p m n a d columns rows) k
+      → untouched (d, (columns, rows)) k ≡ quasiinverseCall p m n a d columns rows
   unfolding quasiinverseCall
-  quasiinverse-modulus f = pick-by-no (modulus? p) _ _ f
+  quasiinverse-refused f = sym (in-order-refused _ _ f)
 
-  module _ (ok : IsModulus p) where
-    pub quasiinverse-size : (Sizes m n → ⊥)
-        → quasiinverseCall p m n a d columns rows ≡ quasiinverted (refused Size) d columns rows
-    unfolding quasiinverseCall
-    quasiinverse-size f = pick-by-yes (modulus? p) _ _ (modulus-prop p) ok ∙ pick-no (sizes? m n) _ _ f
+  quasiinverse-hold : Checked p m n a → Room m n d columns rows → AllHold (quasiinverseChecks p m n a d columns rows)
+  quasiinverse-hold k room =
+      k .is-modulus
+      and-then (k .m-most, k .n-most)
+      and-then k .a-long
+      and-then room .d-long
+      and-then room .columns-long
+      and-then room .rows-long
+      and-then k .a-below
+      and-then none-left
 
-    module _ (sizes : Sizes m n) where
-      -- A, D, the column marks or the row marks have another length
-      pub quasiinverse-a-length : (length a ≡ m * n → ⊥)
-          → quasiinverseCall p m n a d columns rows ≡ quasiinverted (refused Length) d columns rows
-      unfolding quasiinverseCall
-      quasiinverse-a-length f =
-          checked p m n ok sizes _ _ _
-          ∙ pick-no (long? a (m * n)) _ _ f
-
-      pub quasiinverse-d-length : length a ≡ m * n → (length d ≡ n * m → ⊥)
-          → quasiinverseCall p m n a d columns rows ≡ quasiinverted (refused Length) d columns rows
-      unfolding quasiinverseCall
-      quasiinverse-d-length la f =
-          checked p m n ok sizes _ _ _
-          ∙ pick-yes (long? a (m * n)) _ _ la
-          ∙ pick-no (long? d (n * m)) _ _ f
-
-      pub quasiinverse-columns-length : length a ≡ m * n → length d ≡ n * m → (length columns ≡ n → ⊥)
-          → quasiinverseCall p m n a d columns rows ≡ quasiinverted (refused Length) d columns rows
-      unfolding quasiinverseCall
-      quasiinverse-columns-length la ld f =
-          checked p m n ok sizes _ _ _
-          ∙ pick-yes (long? a (m * n)) _ _ la
-          ∙ pick-yes (long? d (n * m)) _ _ ld
-          ∙ pick-no (long? columns n) _ _ f
-
-      pub quasiinverse-rows-length : length a ≡ m * n → length d ≡ n * m → length columns ≡ n → (length rows ≡ m → ⊥)
-          → quasiinverseCall p m n a d columns rows ≡ quasiinverted (refused Length) d columns rows
-      unfolding quasiinverseCall
-      quasiinverse-rows-length la ld lc f =
-          checked p m n ok sizes _ _ _
-          ∙ pick-yes (long? a (m * n)) _ _ la
-          ∙ pick-yes (long? d (n * m)) _ _ ld
-          ∙ pick-yes (long? columns n) _ _ lc
-          ∙ pick-no (long? rows m) _ _ f
-
-      -- a number of A is not below p
-      pub quasiinverse-number : length a ≡ m * n → length d ≡ n * m → length columns ≡ n → length rows ≡ m → (Below p a → ⊥)
-          → quasiinverseCall p m n a d columns rows ≡ quasiinverted (refused Number) d columns rows
-      unfolding quasiinverseCall
-      quasiinverse-number la ld lc lr f =
-          checked p m n ok sizes _ _ _
-          ∙ pick-yes (long? a (m * n)) _ _ la
-          ∙ pick-yes (long? d (n * m)) _ _ ld
-          ∙ pick-yes (long? columns n) _ _ lc
-          ∙ pick-yes (long? rows m) _ _ lr
-          ∙ pick-no (below? p a) _ _ f
-
-      -- past all checks
-      pub quasiinverse-done :
-          length a ≡ m * n → length d ≡ n * m → length columns ≡ n → length rows ≡ m → Below p a
-          → quasiinverseCall p m n a d columns rows
-          ≡ quasiinverted (done (rankOf p ok m n a)) (rowsOf n m (inverseOf p ok m n a)) (marksOf n (columnsOf p ok m n a)) (marksOf m (rowMarksOf p ok m n a))
-      unfolding quasiinverseCall
-      quasiinverse-done la ld lc lr b =
-          checked p m n ok sizes _ _ _
-          ∙ pick-yes (long? a (m * n)) _ _ la
-          ∙ pick-yes (long? d (n * m)) _ _ ld
-          ∙ pick-yes (long? columns n) _ _ lc
-          ∙ pick-yes (long? rows m) _ _ lr
-          ∙ pick-yes (below? p a) _ _ b
+  pub quasiinverse-done : (d′ columns′ rows′ : List ℕ) (r : ℕ) → Checked p m n a → Room m n d columns rows
+      → ((ok : IsModulus p) → Inverted p ok m n a d′ columns′ rows′) → ((ok : IsModulus p) → r ≡ rankOf p ok m n a)
+      → outcome (results r) (d′, (columns′, rows′)) ≡ quasiinverseCall p m n a d columns rows
+  unfolding quasiinverseCall
+  quasiinverse-done d′ columns′ rows′ r k room i e =
+      sym
+      (in-order-done _ (untouched (d, (columns, rows))) _ (quasiinverse-hold k room)
+      (λ hs.
+      let ok = hs .0 in
+      sym (λ t. outcome (results (e ok t)) (i ok .d-written t, (i ok .columns-written t, i ok .rows-written t)))))
 
 -- ---- kernel
 
 module _ (p m n : ℕ) (a basis : List ℕ) where
-  pub kernel-modulus : (IsModulus p → ⊥) → kernelCall p m n a basis ≡ kernelled (refused Modulus) basis
+  pub kernel-refused : {k : Refusal} → FirstFailing (kernelChecks p m n a basis) k → untouched basis k ≡ kernelCall p m n a basis
   unfolding kernelCall
-  kernel-modulus f = pick-by-no (modulus? p) _ _ f
+  kernel-refused f = sym (in-order-refused _ _ f)
 
-  module _ (ok : IsModulus p) where
-    pub kernel-size : (Sizes m n → ⊥) → kernelCall p m n a basis ≡ kernelled (refused Size) basis
-    unfolding kernelCall
-    kernel-size f = pick-by-yes (modulus? p) _ _ (modulus-prop p) ok ∙ pick-no (sizes? m n) _ _ f
+  kernel-hold : Checked p m n a → length basis ≡ n * n → AllHold (kernelChecks p m n a basis)
+  kernel-hold k l =
+      k .is-modulus
+      and-then (k .m-most, k .n-most)
+      and-then k .a-long
+      and-then l
+      and-then k .a-below
+      and-then none-left
 
-    module _ (sizes : Sizes m n) where
-      -- A or the basis has another length
-      pub kernel-a-length : (length a ≡ m * n → ⊥) → kernelCall p m n a basis ≡ kernelled (refused Length) basis
-      unfolding kernelCall
-      kernel-a-length f =
-          checked p m n ok sizes _ _ _
-          ∙ pick-no (long? a (m * n)) _ _ f
-
-      pub kernel-basis-length : length a ≡ m * n → (length basis ≡ n * n → ⊥)
-          → kernelCall p m n a basis ≡ kernelled (refused Length) basis
-      unfolding kernelCall
-      kernel-basis-length la f =
-          checked p m n ok sizes _ _ _
-          ∙ pick-yes (long? a (m * n)) _ _ la
-          ∙ pick-no (long? basis (n * n)) _ _ f
-
-      -- a number of A is not below p
-      pub kernel-number : length a ≡ m * n → length basis ≡ n * n → (Below p a → ⊥)
-          → kernelCall p m n a basis ≡ kernelled (refused Number) basis
-      unfolding kernelCall
-      kernel-number la lk f =
-          checked p m n ok sizes _ _ _
-          ∙ pick-yes (long? a (m * n)) _ _ la
-          ∙ pick-yes (long? basis (n * n)) _ _ lk
-          ∙ pick-no (below? p a) _ _ f
-
-      -- past all checks
-      pub kernel-done :
-          length a ≡ m * n → length basis ≡ n * n → Below p a
-          → kernelCall p m n a basis
-          ≡ kernelled (done (n - rankOf p ok m n a)) (basisOf p ok m n a)
-      unfolding kernelCall
-      kernel-done la lk b =
-          checked p m n ok sizes _ _ _
-          ∙ pick-yes (long? a (m * n)) _ _ la
-          ∙ pick-yes (long? basis (n * n)) _ _ lk
-          ∙ pick-yes (below? p a) _ _ b
+  pub kernel-done : (basis′ : List ℕ) (r : ℕ) → Checked p m n a → length basis ≡ n * n
+      → ((ok : IsModulus p) → Kernelled p ok m n a basis′ r) → outcome (results r) basis′ ≡ kernelCall p m n a basis
+  unfolding kernelCall
+  kernel-done basis′ r k l h =
+      sym
+      (in-order-done _ (untouched basis) _ (kernel-hold k l)
+      (λ hs. sym (λ t. outcome (results (h (hs .0) .many t)) (h (hs .0) .filled t))))
 
 -- ---- solve
 
 module _ (p m n : ℕ) (a w z u : List ℕ) where
-  pub solve-modulus : (IsModulus p → ⊥) → solveCall p m n a w z u ≡ solvedAs (refused Modulus) z u
+  pub solve-refused : {k : Refusal} → FirstFailing (solveChecks p m n a w z u) k → untouched (z, u) k ≡ solveCall p m n a w z u
   unfolding solveCall
-  solve-modulus f = pick-by-no (modulus? p) _ _ f
+  solve-refused f = sym (in-order-refused _ _ f)
 
-  module _ (ok : IsModulus p) where
-    pub solve-size : (Sizes m n → ⊥) → solveCall p m n a w z u ≡ solvedAs (refused Size) z u
-    unfolding solveCall
-    solve-size f = pick-by-yes (modulus? p) _ _ (modulus-prop p) ok ∙ pick-no (sizes? m n) _ _ f
+  solve-hold : Checked p m n a → System p m n w z u → AllHold (solveChecks p m n a w z u)
+  solve-hold k s =
+      k .is-modulus
+      and-then (k .m-most, k .n-most)
+      and-then k .a-long
+      and-then s .w-long
+      and-then s .z-long
+      and-then s .u-long
+      and-then k .a-below
+      and-then s .w-below
+      and-then none-left
 
-    module _ (sizes : Sizes m n) where
-      -- A, w, z or u has another length
-      pub solve-a-length : (length a ≡ m * n → ⊥) → solveCall p m n a w z u ≡ solvedAs (refused Length) z u
-      unfolding solveCall
-      solve-a-length f =
-          checked p m n ok sizes _ _ _
-          ∙ pick-no (long? a (m * n)) _ _ f
-
-      pub solve-w-length : length a ≡ m * n → (length w ≡ m → ⊥) → solveCall p m n a w z u ≡ solvedAs (refused Length) z u
-      unfolding solveCall
-      solve-w-length la f =
-          checked p m n ok sizes _ _ _
-          ∙ pick-yes (long? a (m * n)) _ _ la
-          ∙ pick-no (long? w m) _ _ f
-
-      pub solve-z-length : length a ≡ m * n → length w ≡ m → (length z ≡ n → ⊥)
-          → solveCall p m n a w z u ≡ solvedAs (refused Length) z u
-      unfolding solveCall
-      solve-z-length la lw f =
-          checked p m n ok sizes _ _ _
-          ∙ pick-yes (long? a (m * n)) _ _ la
-          ∙ pick-yes (long? w m) _ _ lw
-          ∙ pick-no (long? z n) _ _ f
-
-      pub solve-u-length : length a ≡ m * n → length w ≡ m → length z ≡ n → (length u ≡ m → ⊥)
-          → solveCall p m n a w z u ≡ solvedAs (refused Length) z u
-      unfolding solveCall
-      solve-u-length la lw lz f =
-          checked p m n ok sizes _ _ _
-          ∙ pick-yes (long? a (m * n)) _ _ la
-          ∙ pick-yes (long? w m) _ _ lw
-          ∙ pick-yes (long? z n) _ _ lz
-          ∙ pick-no (long? u m) _ _ f
-
-      -- a number of A, or of w, is not below p
-      pub solve-a-number : length a ≡ m * n → length w ≡ m → length z ≡ n → length u ≡ m → (Below p a → ⊥)
-          → solveCall p m n a w z u ≡ solvedAs (refused Number) z u
-      unfolding solveCall
-      solve-a-number la lw lz lu f =
-          checked p m n ok sizes _ _ _
-          ∙ pick-yes (long? a (m * n)) _ _ la
-          ∙ pick-yes (long? w m) _ _ lw
-          ∙ pick-yes (long? z n) _ _ lz
-          ∙ pick-yes (long? u m) _ _ lu
-          ∙ pick-no (below? p a) _ _ f
-
-      pub solve-w-number : length a ≡ m * n → length w ≡ m → length z ≡ n → length u ≡ m → Below p a → (Below p w → ⊥)
-          → solveCall p m n a w z u ≡ solvedAs (refused Number) z u
-      unfolding solveCall
-      solve-w-number la lw lz lu b f =
-          checked p m n ok sizes _ _ _
-          ∙ pick-yes (long? a (m * n)) _ _ la
-          ∙ pick-yes (long? w m) _ _ lw
-          ∙ pick-yes (long? z n) _ _ lz
-          ∙ pick-yes (long? u m) _ _ lu
-          ∙ pick-yes (below? p a) _ _ b
-          ∙ pick-no (below? p w) _ _ f
-
-      -- past all checks
-      pub solve-answered :
-          length a ≡ m * n → length w ≡ m → length z ≡ n → length u ≡ m → Below p a → Below p w
-          → solveCall p m n a w z u
-          ≡ solution p ok m n a w z
-      unfolding solveCall
-      solve-answered la lw lz lu b g =
-          checked p m n ok sizes _ _ _
-          ∙ pick-yes (long? a (m * n)) _ _ la
-          ∙ pick-yes (long? w m) _ _ lw
-          ∙ pick-yes (long? z n) _ _ lz
-          ∙ pick-yes (long? u m) _ _ lu
-          ∙ pick-yes (below? p a) _ _ b
-          ∙ pick-yes (below? p w) _ _ g
+  pub solve-done : (x : Outcome (List ℕ × List ℕ)) → Checked p m n a → System p m n w z u
+      → ((ok : IsModulus p) → x ≡ solution p ok m n a w z) → x ≡ solveCall p m n a w z u
+  unfolding solveCall
+  solve-done x k s h = sym (in-order-done _ (untouched (z, u)) x (solve-hold k s) (λ hs. sym (h (hs .0))))

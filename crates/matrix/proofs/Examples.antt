@@ -14,12 +14,14 @@ use Rattle.algebra.specs.Solve.{mixOf}
 use Rattle.field.specs.Residue.{residues, reduce, _⊕_, _⊗_, negated}
 use Rattle.field.specs.View.{table}
 use Rattle.field.specs.Written.{numbers, tabulate}
-use Rattle.matrix.specs.Told.{done}
-use Rattle.matrix.specs.Calls.{tableOf, rankOf, quasiinverted, kernelled, vectorsFrom, firstFrom, quasiinverseCall, kernelCall, solveCall, solution}
-use Rattle.matrix.specs.Parts.{Checked, Inverted, Room, KernelVectors, marked, vectorOf}
-use Rattle.matrix.specs.Examples.{Outcome, solvedBy, refusedBy, SystemExample, TableExample, tableExamples, solvedSo, Holds}
+use Rattle.checks.specs.Prime.{IsModulus}
+use Rattle.checks.specs.Told.{results}
+use Rattle.checks.specs.Outcome.{outcome}
+use Rattle.matrix.specs.Calls.{tableOf, rankOf, vectorsFrom, firstFrom, quasiinverseCall, kernelCall, solveCall, solution}
+use Rattle.matrix.specs.Parts.{Checked, Inverted, Room, KernelVectors, Kernelled, marked, vectorOf}
+use Rattle.matrix.specs.Examples.{Becomes, solvedBy, refusedBy, SystemExample, TableExample, tableExamples, systemOutcome, Holds}
 use Rattle.matrix.proofs.Inverted.{rank-is}
-use Rattle.matrix.proofs.Answers.{quasiinverse-done, kernel-done, solve-answered}
+use Rattle.matrix.proofs.Answers.{quasiinverse-done, kernel-done, solve-done}
 use Rattle.matrix.proofs.Basis.{basis-filled, vectors-many}
 use Rattle.matrix.proofs.Solved.{Compared, solved-by, refused-by}
 use Rattle.matrix.proofs.Checker.{_and_, every, everyBelow, isQuasiinverse, both, every-member}
@@ -64,16 +66,16 @@ module _ (e : TableExample) where
     differing = firstFrom (λ i. not (eqb (getD imageOf i 0) (getD w i 0))) 0 m
 
     -- they differ nowhere and z is Dw, or somewhere and u is the mix of that row
-    unfoldable isOutcome : Outcome → Bool
-    isOutcome (solvedBy z) = leb m differing and areSame z candidateOf
-    isOutcome (refusedBy u) = ltb differing m and areSame u (numbers m (mixOf (residues p) n A D differing))
+    unfoldable becomesSo : Becomes → Bool
+    becomesSo (solvedBy z) = leb m differing and areSame z candidateOf
+    becomesSo (refusedBy u) = ltb differing m and areSame u (numbers m (mixOf (residues p) n A D differing))
 
     -- w passes the checks, and that row is the first
     unfoldable isSystem : Bool
     isSystem = eqb (length w) m and areBelow p w and isFirstDifference imageOf w differing
 
   unfoldable passesSystem : SystemExample → Bool
-  passesSystem s = isSystem (s .w) and isOutcome (s .w) (s .outcome)
+  passesSystem s = isSystem (s .w) and becomesSo (s .w) (s .becomes)
 
   -- the table passes the checks, D and the marks are its quasiinverse, and rank, kernel and systems are what D gives
   unfoldable passes : Bool
@@ -91,22 +93,20 @@ module _ (e : TableExample) (checks : Checked (e .p) (e .m) (e .n) (e .a))
     (inverse : holdsInverse (e .p) (e .m) (e .n) (e .a) (e .d) (e .columns) (e .rows) ≡ true)
     (many : count (e .n) (marked (e .columns)) ≡ e .rank) where
   open TableExample e using (p, m, n, a, d, columns, rows, rank, vectors, systems)
-  open Checked checks using (is-modulus as ok, m-most, n-most, a-long, a-below)
 
-  -- d, columns and rows are 01's D, I and J of the table, and the rank is its rank
-  stored : Inverted p ok m n a d columns rows
-  stored = inverse-checked p m n a d columns rows ok inverse
+  module _ (ok : IsModulus p) where
+    -- d, columns and rows are 01's D, I and J of the table, and the rank is its rank
+    stored : Inverted p ok m n a d columns rows
+    stored = inverse-checked p m n a d columns rows ok inverse
 
-  rank-so : rank ≡ rankOf p ok m n a
-  rank-so = sym many ∙ rank-is p ok m n a (quasiinverse-checked p m n a d columns rows ok inverse)
+    rank-so : rank ≡ rankOf p ok m n a
+    rank-so = sym many ∙ rank-is p ok m n a (quasiinverse-checked p m n a d columns rows ok inverse)
 
   -- quasiinverse
   inverts : (lent-d lent-columns lent-rows : List ℕ) → Room m n lent-d lent-columns lent-rows
-      → quasiinverseCall p m n a lent-d lent-columns lent-rows ≡ quasiinverted (done rank) d columns rows
+      → quasiinverseCall p m n a lent-d lent-columns lent-rows ≡ outcome (results rank) (d, (columns, rows))
   inverts lent-d lent-columns lent-rows room =
-      quasiinverse-done p m n a lent-d lent-columns lent-rows ok (m-most, n-most) a-long (room .d-long) (room .columns-long)
-      (room .rows-long) a-below
-      ∙ sym (λ i. quasiinverted (done (rank-so i)) (stored .d-written i) (stored .columns-written i) (stored .rows-written i))
+      sym (quasiinverse-done p m n a lent-d lent-columns lent-rows d columns rows rank checks room stored rank-so)
 
   -- kernel
   module _ (long : length vectors + rank ≡ n) (filled : flatten vectors ≡ vectorsFrom m n (marked columns) (D e) (A e) 0 n) where
@@ -114,13 +114,16 @@ module _ (e : TableExample) (checks : Checked (e .p) (e .m) (e .n) (e .a))
     vectors-so =
         record { filled = ap₂ (λ l r. l ++ replicate (n * r) 0) filled (sym many); many = ap (λ r. length vectors + r) many ∙ long }
 
+    basis-so : (ok : IsModulus p) → Kernelled p ok m n a (flatten vectors ++ replicate (n * rank) 0) (length vectors)
+    basis-so ok =
+        record {
+          filled = basis-filled p ok m n a d columns rows _ (length vectors) (stored ok) vectors-so;
+          many = vectors-many p ok m n a d columns rows _ (length vectors) (stored ok) vectors-so;
+        }
+
     spans : (basis : List ℕ) → length basis ≡ n * n
-        → kernelCall p m n a basis ≡ kernelled (done (length vectors)) (flatten vectors ++ replicate (n * rank) 0)
-    spans basis lent =
-        kernel-done p m n a basis ok (m-most, n-most) a-long lent a-below
-        ∙ sym (λ i.
-        kernelled (done (vectors-many p ok m n a d columns rows _ (length vectors) stored vectors-so i))
-        (basis-filled p ok m n a d columns rows _ (length vectors) stored vectors-so i))
+        → kernelCall p m n a basis ≡ outcome (results (length vectors)) (flatten vectors ++ replicate (n * rank) 0)
+    spans basis lent = sym (kernel-done p m n a basis _ (length vectors) checks lent basis-so)
 
   -- solve
   module _ (w : List ℕ) (t : isSystem e w ≡ true) where
@@ -137,22 +140,24 @@ module _ (e : TableExample) (checks : Checked (e .p) (e .m) (e .n) (e .a))
           first = first-difference _ _ _ first;
         }
 
-    answers : (o : Outcome) → isOutcome e w o ≡ true → (z : List ℕ) → solution p ok m n a w z ≡ solvedSo m rank o z
-    unfolding isOutcome
-    answers (solvedBy x) s z =
+    answers : (o : Becomes) → becomesSo e w o ≡ true → (z : List ℕ) (ok : IsModulus p)
+        → systemOutcome m rank o z ≡ solution p ok m n a w z
+    unfolding becomesSo
+    answers (solvedBy x) s z ok =
         let (nowhere, same) = both _ _ s in
-        sym
-        (solved-by p ok m n a d w z _ _ _ (stored .is-D) compared rank x (replicate m 0) (leb-true _ _ nowhere) rank-so
-        (all-same _ _ same) refl)
-    answers (refusedBy u) s z =
+        solved-by p ok m n a d w z _ _ _ (stored ok .is-D) compared rank x (replicate m 0) (leb-true _ _ nowhere) (rank-so ok)
+        (all-same _ _ same) refl
+    answers (refusedBy u) s z ok =
         let (somewhere, same) = both _ _ s in
-        sym (refused-by p ok m n a d w z _ _ _ (stored .is-D) compared u (ltb-true _ _ somewhere) (all-same _ _ same))
+        refused-by p ok m n a d w z _ _ _ (stored ok .is-D) compared u (ltb-true _ _ somewhere) (all-same _ _ same)
 
-    solves : (o : Outcome) → isOutcome e w o ≡ true → (z u : List ℕ) → length z ≡ n → length u ≡ m
-        → solveCall p m n a w z u ≡ solvedSo m rank o z
+    solves : (o : Becomes) → becomesSo e w o ≡ true → (z u : List ℕ) → length z ≡ n → length u ≡ m
+        → solveCall p m n a w z u ≡ systemOutcome m rank o z
     solves o s z u z-long u-long =
-        solve-answered p m n a w z u ok (m-most, n-most) a-long (compared .w-long) z-long u-long a-below (compared .w-below)
-        ∙ answers o s z
+        sym
+        (solve-done p m n a w z u _ checks
+        (record { w-long = compared .w-long; w-below = compared .w-below; z-long = z-long; u-long = u-long })
+        (answers o s z))
 
 passed-holds : (e : TableExample) → passes e ≡ true → Holds e
 unfolding passes passesSystem
@@ -168,13 +173,13 @@ passed-holds e t =
       inverts = inverts e k inverse r;
       spans = spans e k inverse r (eqb-true _ _ long) (all-same _ _ filled);
       solves = λ s i.
-          let (system, outcome) = both _ _ (every-member (passesSystem e) (e .systems) systems s i) in
-          solves e k inverse r (s .w) system (s .outcome) outcome;
+          let (system, becomes) = both _ _ (every-member (passesSystem e) (e .systems) systems s i) in
+          solves e k inverse r (s .w) system (s .becomes) becomes;
     }
 
 -- every starred example passes, computed
 all-pass : every passes tableExamples ≡ true
-unfolding every passes passesSystem isSystem isOutcome differing tableExamples isTable isPrime holdsInverse areBelow areSame areMarks isFirstDifference isQuasiinverse everyBelow _and_ same flatten vectorsFrom firstFrom marked vectorOf kernelVector mixOf count sum unit product apply table tabulate reduce _⊕_ _⊗_ negated
+unfolding every passes passesSystem isSystem becomesSo differing tableExamples isTable isPrime holdsInverse areBelow areSame areMarks isFirstDifference isQuasiinverse everyBelow _and_ same flatten vectorsFrom firstFrom marked vectorOf kernelVector mixOf count sum unit product apply table tabulate reduce _⊕_ _⊗_ negated
 all-pass = refl
 
 -- every starred example holds

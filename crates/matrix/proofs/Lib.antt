@@ -6,7 +6,6 @@ pub mod Theorems
 pub mod Answers
 pub mod Solved
 pub mod Basis
-pub mod Finished
 pub mod Checker
 pub mod CheckedTables
 pub mod Examples

@@ -12,7 +12,8 @@ use Rattle.algebra.specs.Solve.{mixOf}
 use Rattle.algebra.proofs.Applied.{apply-same}
 use Rattle.algebra.proofs.Choice.{pick-yes, pick-no}
 use Rattle.checks.specs.declared.Refusal.the-variants.{Insoluble}
-use Rattle.checks.specs.Told.{refused}
+use Rattle.checks.specs.Told.{results, refused}
+use Rattle.checks.specs.Outcome.{outcome}
 use Rattle.checks.specs.Prime.{IsModulus}
 use Rattle.field.specs.Residue.{residues, reduce}
 use Rattle.field.specs.View.{table}
@@ -21,8 +22,7 @@ use Rattle.field.specs.Written.{numbers}
 use Rattle.field.proofs.Residues.{reduce-small, reduce-value}
 use Rattle.field.proofs.Field.{residue-equal?}
 use Rattle.field.proofs.Written.{length-tabulate, getD-tabulate}
-use Rattle.matrix.specs.Told.{done}
-use Rattle.matrix.specs.Calls.{tableOf, rankOf, inverseOf, solvedAs, wanted, candidate, solves?, firstRow, solution}
+use Rattle.matrix.specs.Calls.{tableOf, rankOf, inverseOf, wanted, candidate, solves?, firstRow, solution}
 use Rattle.matrix.specs.Parts.{vectorOf}
 use Rattle.words.specs.Words.{FirstDifference}
 use Rattle.matrix.proofs.First.{first-is}
@@ -38,13 +38,13 @@ apply-read p n X v = fun-ext (apply-same (residues p) n X (vectorOf p (numbers n
 
 module _ (p : ℕ) (ok : IsModulus p) (m n : ℕ) (a w z : List ℕ) where
   pub solution-found : Solves (residues p) m n (tableOf p m n a) (candidate p ok m n a w) (wanted p ok m n a w)
-      → solution p ok m n a w z ≡ solvedAs (done (rankOf p ok m n a)) (numbers n (candidate p ok m n a w)) (replicate m 0)
+      → solution p ok m n a w z ≡ outcome (results (rankOf p ok m n a)) (numbers n (candidate p ok m n a w), replicate m 0)
   unfolding solution
   solution-found h = pick-yes (solves? p ok m n a w) _ _ h
 
   pub solution-none : (Solves (residues p) m n (tableOf p m n a) (candidate p ok m n a w) (wanted p ok m n a w) → ⊥)
       → solution p ok m n a w z
-      ≡ solvedAs (refused Insoluble) z (numbers m (mixOf (residues p) n (tableOf p m n a) (inverseOf p ok m n a) (firstRow p ok m n a w)))
+      ≡ outcome (refused Insoluble) (z, numbers m (mixOf (residues p) n (tableOf p m n a) (inverseOf p ok m n a) (firstRow p ok m n a w)))
   unfolding solution
   solution-none h = pick-no (solves? p ok m n a w) _ _ h
 
@@ -62,7 +62,7 @@ module _ (p : ℕ) (ok : IsModulus p) (m n : ℕ) (a w z : List ℕ) where
 
     module _ (y : ℕ) (first : FirstDifference (numbers m image) w y) where
       -- no place differs: the system is solved
-      pub nowhere : m ≤ y → solution p ok m n a w z ≡ solvedAs (done (rankOf p ok m n a)) (numbers n (candidate p ok m n a w)) (replicate m 0)
+      pub nowhere : m ≤ y → solution p ok m n a w z ≡ outcome (results (rankOf p ok m n a)) (numbers n (candidate p ok m n a w), replicate m 0)
       nowhere h = solution-found (λ i l. same-residue i l (first .before i (omega arith)))
 
       -- y is a place that differs: it is the first row, and the system is refused
@@ -77,10 +77,10 @@ module _ (p : ℕ) (ok : IsModulus p) (m n : ℕ) (a w z : List ℕ) where
           (pick-no (residue-equal? (image y) (wanted p ok m n a w y)) false true (differs h))
 
       pub somewhere : y < m → solution p ok m n a w z
-          ≡ solvedAs (refused Insoluble) z (numbers m (mixOf (residues p) n (tableOf p m n a) (inverseOf p ok m n a) y))
+          ≡ outcome (refused Insoluble) (z, numbers m (mixOf (residues p) n (tableOf p m n a) (inverseOf p ok m n a) y))
       somewhere h =
           solution-none (λ s. differs h (s y h))
-          ∙ ap (λ k. solvedAs (refused Insoluble) z (numbers m (mixOf (residues p) n (tableOf p m n a) (inverseOf p ok m n a) k))) (first-row h)
+          ∙ ap (λ k. outcome (refused Insoluble) (z, numbers m (mixOf (residues p) n (tableOf p m n a) (inverseOf p ok m n a) k))) (first-row h)
 
 -- what the code has in memory: D in d, Dw in x, A(Dw) in its image, and y where that and w first differ
 pub record Compared (p : ℕ) (m n : ℕ) (a d w x image : List ℕ) (y : ℕ) : Type 0 where
@@ -107,13 +107,13 @@ module _ (p : ℕ) (ok : IsModulus p) (m n : ℕ) (a d w z x image : List ℕ) (
 
   -- the two answers
   pub solved-by : (r : ℕ) (z′ u′ : List ℕ) → m ≤ y → r ≡ rankOf p ok m n a → z′ ≡ x → u′ ≡ replicate m 0
-      → solvedAs (done r) z′ u′ ≡ solution p ok m n a w z
+      → outcome (results r) (z′, u′) ≡ solution p ok m n a w z
   solved-by r z′ u′ l rank same zeros =
-      (λ i. solvedAs (done (rank i)) ((same ∙ candidate-written) i) (zeros i))
+      (λ i. outcome (results (rank i)) ((same ∙ candidate-written) i, zeros i))
       ∙ sym (nowhere p ok m n a w z (h .w-long) (h .w-below) y first-there l)
 
   pub refused-by : (u′ : List ℕ) → y < m → u′ ≡ numbers m (mixOf (residues p) n (tableOf p m n a) (table p d 0 m n m) y)
-      → solvedAs (refused Insoluble) z u′ ≡ solution p ok m n a w z
+      → outcome (refused Insoluble) (z, u′) ≡ solution p ok m n a w z
   refused-by u′ l e =
-      ap (solvedAs (refused Insoluble) z) (e ∙ ap (λ X. numbers m (mixOf (residues p) n (tableOf p m n a) X y)) is-D)
+      ap (λ u. outcome (refused Insoluble) (z, u)) (e ∙ ap (λ X. numbers m (mixOf (residues p) n (tableOf p m n a) X y)) is-D)
       ∙ sym (somewhere p ok m n a w z (h .w-long) (h .w-below) y first-there l)

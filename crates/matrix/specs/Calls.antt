@@ -5,7 +5,7 @@ use mathlib.Core.Bool.{Bool, true, false}
 use mathlib.Core.List.{List, [], _++_}
 use Prim.Native.Nat.{ℕ, zero, suc, _+_, _*_, _-_}
 use lib.ListN.{getD, replicate}
-use Rattle.algebra.specs.Choice.{choose, pick, pickBy}
+use Rattle.algebra.specs.Choice.{choose, pick}
 use Rattle.algebra.specs.Ring.{IsField}
 use Rattle.algebra.specs.Matrix.{Vector, Matrix, apply}
 use Rattle.algebra.specs.Quasiinverse.{Marks}
@@ -14,10 +14,13 @@ use Rattle.algebra.specs.Solve.{mixOf}
 use Rattle.algebra.specs.Span.{Solves}
 use Rattle.algebra.proofs.Choice.{all-below?}
 use Rattle.checks.specs.declared.Refusal.{Refusal}
-use Rattle.checks.specs.declared.Refusal.the-variants.{Modulus, Size, Length, Number, Insoluble}
-use Rattle.checks.specs.Told.{Told, refused}
+use Rattle.checks.specs.declared.Refusal.the-variants.{Length, Number, Insoluble}
+use Rattle.checks.specs.Told.{results, refused}
+use Rattle.checks.specs.Outcome.{Outcome, outcome, untouched}
+use Rattle.checks.specs.InOrder.{Checks, passed, _else_, _⨾_, andThen, inOrder}
 use Rattle.checks.specs.Prime.{IsModulus}
-use Rattle.checks.specs.Decide.{modulus?}
+use Rattle.checks.specs.Sizes.{tableSizes}
+use Rattle.checks.specs.Decide.{long?}
 use Rattle.field.specs.Residue.{residues, reduce}
 use Rattle.field.specs.View.{table}
 use Rattle.field.specs.Written.{numbers, rowsOf, marksOf}
@@ -25,9 +28,7 @@ use Rattle.field.proofs.Field.{residues-field, residue-equal?}
 use Rattle.field.proofs.Views.{table-sized}
 use Rattle.matrix.specs.Chosen.{chosenColumns, chosenRows, rank}
 use Rattle.matrix.specs.Inverse.{inverse}
-use Rattle.matrix.specs.Told.{done}
 use Rattle.words.specs.Decide.{below?}
-use Rattle.checks.specs.Decide.{sizes?, long?}
 
 -- the table of m rows and n columns in the numbers a, stored row by row
 abbrev pub tableOf : (p m n : ℕ) → List ℕ → Matrix (residues p)
@@ -52,47 +53,30 @@ module _ (p : ℕ) (is-modulus : IsModulus p) (m n : ℕ) (a : List ℕ) where
 
 -- ---- quasiinverse
 
--- the answer, D, the column marks and the row marks
-pub record Quasiinverted : Type 0 where
-  pub told : Told
-  pub d : List ℕ
-  pub columns : List ℕ
-  pub rows : List ℕ
+-- 1, 2; 3 for A, D, the column marks and the row marks; 4 for A
+abbrev pub quasiinverseChecks : (p m n : ℕ) (a d columns rows : List ℕ) → Checks Refusal
+quasiinverseChecks p m n a d columns rows =
+    andThen (tableSizes p m n)
+    (λ _.
+    long? a (m * n) else Length
+    ⨾ long? d (n * m) else Length
+    ⨾ long? columns n else Length
+    ⨾ long? rows m else Length
+    ⨾ below? p a else Number
+    ⨾ passed)
 
-abbrev pub quasiinverted : Told → List ℕ → List ℕ → List ℕ → Quasiinverted
-quasiinverted told d columns rows = record { told = told; d = d; columns = columns; rows = rows }
-
-unfoldable pub quasiinverseCall : (p m n : ℕ) (a d columns rows : List ℕ) → Quasiinverted
+-- the rank, with D, the column marks and the row marks
+unfoldable pub quasiinverseCall : (p m n : ℕ) (a d columns rows : List ℕ) → Outcome (List ℕ × (List ℕ × List ℕ))
 quasiinverseCall p m n a d columns rows =
-    pickBy (modulus? p)
-    (λ ok.
-    pick (sizes? m n)
-    (pick (long? a (m * n))
-    (pick (long? d (n * m))
-    (pick (long? columns n)
-    (pick (long? rows m)
-    (pick (below? p a)
-    (quasiinverted (done (rankOf p ok m n a)) (rowsOf n m (inverseOf p ok m n a)) (marksOf n (columnsOf p ok m n a)) (marksOf m (rowMarksOf p ok m n a)))
-    (untouched Number))
-    (untouched Length))
-    (untouched Length))
-    (untouched Length))
-    (untouched Length))
-    (untouched Size))
-    (untouched Modulus)
-  where
-    untouched : Refusal → Quasiinverted
-    untouched k = quasiinverted (refused k) d columns rows
+    inOrder (quasiinverseChecks p m n a d columns rows)
+    (λ hs.
+    outcome (results (rankOf p (hs .0) m n a)) (
+      rowsOf n m (inverseOf p (hs .0) m n a),
+      (marksOf n (columnsOf p (hs .0) m n a), marksOf m (rowMarksOf p (hs .0) m n a)),
+    ))
+    (untouched (d, (columns, rows)))
 
 -- ---- kernel
-
--- the answer and the basis
-pub record Kernel : Type 0 where
-  pub told : Told
-  pub basis : List ℕ
-
-abbrev pub kernelled : Told → List ℕ → Kernel
-kernelled told basis = record { told = told; basis = basis }
 
 -- for each column c outside I from c on, k of them, rising: column c of 1 - DA
 unfoldable pub vectorsFrom : {p : ℕ} (m n : ℕ) → Marks → Matrix (residues p) → Matrix (residues p) → (c k : ℕ) → List ℕ
@@ -105,32 +89,24 @@ unfoldable pub basisOf : (p : ℕ) → IsModulus p → (m n : ℕ) → List ℕ 
 basisOf p ok m n a =
     vectorsFrom m n (columnsOf p ok m n a) (inverseOf p ok m n a) (tableOf p m n a) 0 n ++ replicate (n * rankOf p ok m n a) 0
 
-unfoldable pub kernelCall : (p m n : ℕ) (a basis : List ℕ) → Kernel
+-- 1, 2; 3 for A and the basis; 4 for A
+abbrev pub kernelChecks : (p m n : ℕ) (a basis : List ℕ) → Checks Refusal
+kernelChecks p m n a basis =
+    andThen (tableSizes p m n)
+    (λ _.
+    long? a (m * n) else Length
+    ⨾ long? basis (n * n) else Length
+    ⨾ below? p a else Number
+    ⨾ passed)
+
+-- n - r, with the basis
+unfoldable pub kernelCall : (p m n : ℕ) (a basis : List ℕ) → Outcome (List ℕ)
 kernelCall p m n a basis =
-    pickBy (modulus? p)
-    (λ ok.
-    pick (sizes? m n)
-    (pick (long? a (m * n))
-    (pick (long? basis (n * n))
-    (pick (below? p a) (kernelled (done (n - rankOf p ok m n a)) (basisOf p ok m n a)) (untouched Number))
-    (untouched Length))
-    (untouched Length))
-    (untouched Size))
-    (untouched Modulus)
-  where
-    untouched : Refusal → Kernel
-    untouched k = kernelled (refused k) basis
+    inOrder (kernelChecks p m n a basis)
+    (λ hs. outcome (results (n - rankOf p (hs .0) m n a)) (basisOf p (hs .0) m n a))
+    (untouched basis)
 
 -- ---- solve
-
--- the answer, z and u
-pub record Solved : Type 0 where
-  pub told : Told
-  pub z : List ℕ
-  pub u : List ℕ
-
-abbrev pub solvedAs : Told → List ℕ → List ℕ → Solved
-solvedAs told z u = record { told = told; z = z; u = u }
 
 -- the least t below k, from t on, where the test is true
 unfoldable pub firstFrom : (ℕ → Bool) → (t k : ℕ) → ℕ
@@ -157,29 +133,25 @@ module _ (p : ℕ) (ok : IsModulus p) (m n : ℕ) (a w : List ℕ) where
       firstFrom (λ i. pick (residue-equal? (apply (residues p) n (tableOf p m n a) candidate i) (wanted i)) false true) 0 m
 
   -- z becomes Dw and u 0; or u becomes the unit row of y minus (row y of A) times D, and z stays
-  unfoldable pub solution : List ℕ → Solved
+  unfoldable pub solution : List ℕ → Outcome (List ℕ × List ℕ)
   solution z =
-      pick solves? (solvedAs (done (rankOf p ok m n a)) (numbers n candidate) (replicate m 0))
-      (solvedAs (refused Insoluble) z (numbers m (mixOf (residues p) n (tableOf p m n a) (inverseOf p ok m n a) firstRow)))
+      pick solves? (outcome (results (rankOf p ok m n a)) (numbers n candidate, replicate m 0))
+      (outcome (refused Insoluble) (z, numbers m (mixOf (residues p) n (tableOf p m n a) (inverseOf p ok m n a) firstRow)))
 
-unfoldable pub solveCall : (p m n : ℕ) (a w z u : List ℕ) → Solved
+-- 1, 2; 3 for A, w, z and u; 4 for A and then w
+abbrev pub solveChecks : (p m n : ℕ) (a w z u : List ℕ) → Checks Refusal
+solveChecks p m n a w z u =
+    andThen (tableSizes p m n)
+    (λ _.
+    long? a (m * n) else Length
+    ⨾ long? w m else Length
+    ⨾ long? z n else Length
+    ⨾ long? u m else Length
+    ⨾ below? p a else Number
+    ⨾ below? p w else Number
+    ⨾ passed)
+
+-- the rank, with z and u; or 5, with z as it was and u
+unfoldable pub solveCall : (p m n : ℕ) (a w z u : List ℕ) → Outcome (List ℕ × List ℕ)
 solveCall p m n a w z u =
-    pickBy (modulus? p)
-    (λ ok.
-    pick (sizes? m n)
-    (pick (long? a (m * n))
-    (pick (long? w m)
-    (pick (long? z n)
-    (pick (long? u m)
-    (pick (below? p a)
-    (pick (below? p w) (solution p ok m n a w z) (untouched Number))
-    (untouched Number))
-    (untouched Length))
-    (untouched Length))
-    (untouched Length))
-    (untouched Length))
-    (untouched Size))
-    (untouched Modulus)
-  where
-    untouched : Refusal → Solved
-    untouched k = solvedAs (refused k) z u
+    inOrder (solveChecks p m n a w z u) (λ hs. solution p (hs .0) m n a w z) (untouched (z, u))

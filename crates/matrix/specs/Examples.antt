@@ -5,20 +5,20 @@ use mathlib.Core.List.{List, [], _∷_, _++_, flatten, List·Memᴰ}
 use Prim.Native.Nat.{ℕ, _*_}
 use lib.ListN.{length, replicate}
 use Rattle.checks.specs.declared.Refusal.the-variants.{Insoluble}
-use Rattle.checks.specs.Told.{refused}
-use Rattle.matrix.specs.Told.{done}
-use Rattle.matrix.specs.Calls.{quasiinverted, quasiinverseCall, kernelled, kernelCall, Solved, solvedAs, solveCall}
+use Rattle.checks.specs.Told.{results, refused}
+use Rattle.checks.specs.Outcome.{Outcome, outcome}
+use Rattle.matrix.specs.Calls.{quasiinverseCall, kernelCall, solveCall}
 use Rattle.matrix.specs.Parts.{Room}
 
 -- "gives z = ..", or "gives 5, u = .."
-pub data Outcome : Type 0 where
-  solvedBy : List ℕ → Outcome
-  refusedBy : List ℕ → Outcome
+pub data Becomes : Type 0 where
+  solvedBy : List ℕ → Becomes
+  refusedBy : List ℕ → Becomes
 
 -- a right side w, and what becomes of it
 pub record SystemExample : Type 0 where
   pub w : List ℕ
-  pub outcome : Outcome
+  pub becomes : Becomes
 
 -- a table of m rows and n columns modulo p, its D row by row, the marks of I and J, the rank, the kernel's vectors, and systems
 pub record TableExample : Type 0 where
@@ -70,8 +70,8 @@ tableExamples =
       rank = 1;
       vectors = (3 ∷ 1 ∷ []) ∷ [];
       systems =
-          record { w = 1 ∷ 2 ∷ []; outcome = solvedBy (1 ∷ 0 ∷ []) }
-          ∷ record { w = 1 ∷ 3 ∷ []; outcome = refusedBy (3 ∷ 1 ∷ []) }
+          record { w = 1 ∷ 2 ∷ []; becomes = solvedBy (1 ∷ 0 ∷ []) }
+          ∷ record { w = 1 ∷ 3 ∷ []; becomes = refusedBy (3 ∷ 1 ∷ []) }
           ∷ [];
     }
     ∷ record {
@@ -101,17 +101,17 @@ tableExamples =
     ∷ []
 
 -- what solve answers and leaves: z and a mix of zeros with the rank r, or 5 with the lent z and the mix u
-abbrev pub solvedSo : (m r : ℕ) → Outcome → List ℕ → Solved
-solvedSo m r (solvedBy z) lent = solvedAs (done r) z (replicate m 0)
-solvedSo m r (refusedBy u) lent = solvedAs (refused Insoluble) lent u
+abbrev pub systemOutcome : (m r : ℕ) → Becomes → List ℕ → Outcome (List ℕ × List ℕ)
+systemOutcome m r (solvedBy z) lent = outcome (results r) (z, replicate m 0)
+systemOutcome m r (refusedBy u) lent = outcome (refused Insoluble) (lent, u)
 
 -- the calls answer and leave what the example says, whatever memory of the right lengths they are lent
 pub record Holds (e : TableExample) : Type 0 where
   pub inverts : (d columns rows : List ℕ) → Room (e .m) (e .n) d columns rows
-      → quasiinverseCall (e .p) (e .m) (e .n) (e .a) d columns rows ≡ quasiinverted (done (e .rank)) (e .d) (e .columns) (e .rows)
+      → quasiinverseCall (e .p) (e .m) (e .n) (e .a) d columns rows ≡ outcome (results (e .rank)) (e .d, (e .columns, e .rows))
   pub spans : (basis : List ℕ) → length basis ≡ e .n * e .n
       → kernelCall (e .p) (e .m) (e .n) (e .a) basis
-      ≡ kernelled (done (length (e .vectors))) (flatten (e .vectors) ++ replicate (e .n * e .rank) 0)
+      ≡ outcome (results (length (e .vectors))) (flatten (e .vectors) ++ replicate (e .n * e .rank) 0)
   pub solves : (s : SystemExample) → List·Memᴰ s (e .systems)
       → (z u : List ℕ) → length z ≡ e .n → length u ≡ e .m
-      → solveCall (e .p) (e .m) (e .n) (e .a) (s .w) z u ≡ solvedSo (e .m) (e .rank) (s .outcome) z
+      → solveCall (e .p) (e .m) (e .n) (e .a) (s .w) z u ≡ systemOutcome (e .m) (e .rank) (s .becomes) z

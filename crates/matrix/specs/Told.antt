@@ -1,15 +1,8 @@
--- What the answers of quasiinverse, kernel and solve tell: 200 + the result and the result, or the refusal.
-use mathlib.Core.List.{[], _∷_}
-use Prim.Native.Nat.{ℕ, _+_}
-use lib.IntN.{pos}
-use Rattle.checks.specs.Told.{Told, refused}
+-- What the answers of quasiinverse, kernel and solve tell: 200 plus the result and the result, or the refusal.
+use Rattle.checks.specs.Told.{Told, results, refused}
 use Rattle.matrix.specs.declared.TableAnswer.{TableAnswer}
 use Rattle.matrix.specs.declared.TableAnswer.the-variants.{Done, Refused}
 
--- a result r
-abbrev pub done : ℕ → Told
-done r = record { number = 200 + r; values = pos r ∷ [] }
-
 abbrev pub tableTold : TableAnswer → Told
-tableTold (Done r) = done r
+tableTold (Done r) = results r
 tableTold (Refused k) = refused k

@@ -12,7 +12,6 @@ ghost use Rattle.field.specs.View.{table};
 ghost use Rattle.field.specs.Written.{numbers};
 ghost use Rattle.field.proofs.Totals.{total};
 ghost use Rattle.matrix.specs.Parts.{Tables, Crossing, crossed, vectorOf, KernelVectors, Checked, Room, Inverted};
-ghost use Rattle.words.specs.Words.{FirstDifference};
 
 // The sum of marks, each 0 or 1.
 pub fn count_marks(xs: &[u32]) -> u32

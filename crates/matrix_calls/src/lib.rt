@@ -2,8 +2,10 @@
 // numbers; and leaves all lent memory as it was where it refuses by these.
 ghost use mathlib.Core.Path.{_≡_};
 ghost use Rattle.matrix.specs.Told.{tableTold};
-ghost use Rattle.matrix.specs.Calls.{quasiinverted, quasiinverseCall, kernelled, kernelCall, solvedAs, solveCall};
+ghost use Rattle.matrix.specs.Calls.{quasiinverseCall, kernelCall, solveCall};
+ghost use Rattle.checks.specs.Outcome.{outcome};
 use checks::Refusal;
+use checks::Verdict;
 pub use matrix::TableAnswer;
 use matrix::parts;
 use words::all_below;
@@ -20,16 +22,10 @@ pub fn quasiinverse(
     columns: &mut [u32],
     rows: &mut [u32],
 ) -> TableAnswer
-    ensures { λ r. ⌜ quasiinverted (tableTold r) (now (d .exit)) (now (columns .exit)) (now (rows .exit)) ≡ quasiinverseCall p m n (now (a .entry)) (now (d .entry)) (now (columns .entry)) (now (rows .entry)) ⌝ }
+    ensures { λ r. ⌜ outcome (tableTold r) (now (d .exit), (now (columns .exit), now (rows .exit))) ≡ quasiinverseCall p m n (now (a .entry)) (now (d .entry)) (now (columns .entry)) (now (rows .entry)) ⌝ }
 {
-    if !checks::is_modulus(p) {
-        return TableAnswer::Refused(Refusal::Modulus);
-    }
-    if 64 < m {
-        return TableAnswer::Refused(Refusal::Size);
-    }
-    if 64 < n {
-        return TableAnswer::Refused(Refusal::Size);
+    if let Verdict::Refused(kind) = checks::table_sizes(p, m, n) {
+        return TableAnswer::Refused(kind);
     }
     let height = m as usize;
     let width = n as usize;
@@ -55,16 +51,10 @@ pub fn quasiinverse(
 // The kernel of the table: one vector for each column outside I, vector after vector at the front of the basis, the rest 0, and
 // how many they are.
 pub fn kernel(p: u32, m: u32, n: u32, a: &[u32], basis: &mut [u32]) -> TableAnswer
-    ensures { λ r. ⌜ kernelled (tableTold r) (now (basis .exit)) ≡ kernelCall p m n (now (a .entry)) (now (basis .entry)) ⌝ }
+    ensures { λ r. ⌜ outcome (tableTold r) (now (basis .exit)) ≡ kernelCall p m n (now (a .entry)) (now (basis .entry)) ⌝ }
 {
-    if !checks::is_modulus(p) {
-        return TableAnswer::Refused(Refusal::Modulus);
-    }
-    if 64 < m {
-        return TableAnswer::Refused(Refusal::Size);
-    }
-    if 64 < n {
-        return TableAnswer::Refused(Refusal::Size);
+    if let Verdict::Refused(kind) = checks::table_sizes(p, m, n) {
+        return TableAnswer::Refused(kind);
     }
     let height = m as usize;
     let width = n as usize;
@@ -90,16 +80,10 @@ pub fn solve(
     z: &mut [u32],
     u: &mut [u32],
 ) -> TableAnswer
-    ensures { λ r. ⌜ solvedAs (tableTold r) (now (z .exit)) (now (u .exit)) ≡ solveCall p m n (now (a .entry)) (now (w .entry)) (now (z .entry)) (now (u .entry)) ⌝ }
+    ensures { λ r. ⌜ outcome (tableTold r) (now (z .exit), now (u .exit)) ≡ solveCall p m n (now (a .entry)) (now (w .entry)) (now (z .entry)) (now (u .entry)) ⌝ }
 {
-    if !checks::is_modulus(p) {
-        return TableAnswer::Refused(Refusal::Modulus);
-    }
-    if 64 < m {
-        return TableAnswer::Refused(Refusal::Size);
-    }
-    if 64 < n {
-        return TableAnswer::Refused(Refusal::Size);
+    if let Verdict::Refused(kind) = checks::table_sizes(p, m, n) {
+        return TableAnswer::Refused(kind);
     }
     let height = m as usize;
     let width = n as usize;

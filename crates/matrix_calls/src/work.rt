@@ -3,7 +3,8 @@ ghost use mathlib.Core.Path.{_≡_};
 ghost use Prim.Native.Nat.{_*_};
 ghost use lib.ListN.{length};
 ghost use Rattle.checks.specs.Prime.{IsModulus};
-ghost use Rattle.matrix.specs.Calls.{solvedAs, solution};
+ghost use Rattle.checks.specs.Outcome.{outcome};
+ghost use Rattle.matrix.specs.Calls.{solution};
 ghost use Rattle.matrix.specs.Told.{tableTold};
 ghost use Rattle.matrix.specs.Parts.{Tables, Checked, Room, Kernelled, System, Solver};
 use checks::Refusal;
@@ -65,7 +66,7 @@ fn solve_by(
     u: &mut [u32],
 ) -> TableAnswer
     requires { ⌜ Tables p m n (now a) (now d) × System p m n (now w) (now z) (now u) × (length (now x) ≡ n) × (length (now image) ≡ m) ⌝ }
-    ensures { λ t. ⌜ ((ok : IsModulus p) → Solver p ok m n (now (a .entry)) (now (d .entry)) r → solvedAs (tableTold t) (now (z .exit)) (now (u .exit)) ≡ solution p ok m n (now (a .entry)) (now (w .entry)) (now (z .entry))) ⌝ }
+    ensures { λ t. ⌜ ((ok : IsModulus p) → Solver p ok m n (now (a .entry)) (now (d .entry)) r → outcome (tableTold t) (now (z .exit), now (u .exit)) ≡ solution p ok m n (now (a .entry)) (now (w .entry)) (now (z .entry))) ⌝ }
 {
     parts::times_vector(p, n, m, d, w, x);
     parts::times_vector(p, m, n, a, x, image);
@@ -95,7 +96,7 @@ fn solve_with(
     u: &mut [u32],
 ) -> TableAnswer
     requires { ⌜ Checked p m n (now a) × Room m n (now d) (now columns) (now rows) × System p m n (now w) (now z) (now u) × (length (now x) ≡ n) × (length (now image) ≡ m) ⌝ }
-    ensures { λ t. ⌜ ((ok : IsModulus p) → solvedAs (tableTold t) (now (z .exit)) (now (u .exit)) ≡ solution p ok m n (now (a .entry)) (now (w .entry)) (now (z .entry))) ⌝ }
+    ensures { λ t. ⌜ ((ok : IsModulus p) → outcome (tableTold t) (now (z .exit), now (u .exit)) ≡ solution p ok m n (now (a .entry)) (now (w .entry)) (now (z .entry))) ⌝ }
 {
     parts::invert(p, m, n, a, d, columns, rows);
     let r = parts::count_marks(columns);
@@ -113,7 +114,7 @@ pub fn solve_of(
     u: &mut [u32],
 ) -> TableAnswer
     requires { ⌜ Checked p m n (now a) × System p m n (now w) (now z) (now u) ⌝ }
-    ensures { λ t. ⌜ ((ok : IsModulus p) → solvedAs (tableTold t) (now (z .exit)) (now (u .exit)) ≡ solution p ok m n (now (a .entry)) (now (w .entry)) (now (z .entry))) ⌝ }
+    ensures { λ t. ⌜ ((ok : IsModulus p) → outcome (tableTold t) (now (z .exit), now (u .exit)) ≡ solution p ok m n (now (a .entry)) (now (w .entry)) (now (z .entry))) ⌝ }
 {
     let mut d = words::table_room();
     let mut columns = words::row_room();

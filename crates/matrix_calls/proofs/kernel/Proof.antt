@@ -1,122 +1,110 @@
--- `matrix_calls::kernel` meets its contract: what the checks leave decides which of the call's answers holds.
-use mathlib.Core.Path.{sym}
+-- `matrix_calls::kernel` meets its contract: each return is the refusal by the first check that fails, or what is left in memory.
 use native.Mathlib.Omega.{arith}
-use Rattle.checks.specs.Prime.{IsModulus}
-use Rattle.checks.proofs.Guards.{no-modulus, is-modulus}
-use Rattle.checks.specs.Largest.{Sizes}
+use borrow.Author.Needs.{needs}
+use Rattle.algebra.proofs.Answers.{guard-left, guard-taken}
+use Rattle.checks.specs.InOrder.{Given}
+use Rattle.checks.specs.Sizes.{tableSizes}
+use Rattle.checks.proofs.InOrder.{fails-here}
 use Rattle.matrix.specs.Parts.{Checked}
-use Rattle.matrix.proofs.Answers.{kernel-modulus, kernel-size, kernel-a-length, kernel-basis-length, kernel-number}
-use Rattle.matrix.proofs.Finished.{kernel-finished}
-use Rattle.words.proofs.Guards.{not-below, all-below}
+use Rattle.matrix.proofs.Answers.{_then_, past-sizes, sizes-passed, sizes-failed, kernel-refused, kernel-done}
 use Rattle.matrix.proofs.Memory.{table-most}
 use Rattle.matrix_calls.proofs.kernel.Statement.{statement}
 use Rattle.matrix_calls.proofs.kernel.Tie as tie
 
--- past check 1
-abbrev start : tie.Else1 → tie.Start
-start c = c .before .before .before .before
+-- past 1 and 2
+abbrev start : tie.After-enum-told → tie.Start
+start c = c .before .before .before .before .before
 
-modulus : (c : tie.Else1) → IsModulus (start c .args .p)
-modulus c = is-modulus _ _ (c .before .is-modulus .ensures) (c .if1 .left)
+sized : (c : tie.After-enum-told) → Given (tableSizes (start c .args .p) (start c .args .m) (start c .args .n))
+sized c = sizes-passed (c .before .before .table-sizes .ensures) (c .enum-told .given .1)
 
--- past check 2
-abbrev begun : tie.Else3 → tie.Else1
-begun c = c .before .before
+table-sizes-requires : tie.Need-table-sizes-requires
+table-sizes-requires c κs = tt
 
-sizes : (c : tie.Else3) → Sizes (start (begun c) .args .m) (start (begun c) .args .n)
-sizes c = (c .before .if2 .left, c .if3 .left)
-
--- past check 3
-abbrev sized : tie.Else5 → tie.Else3
-sized c = c .before .before
-
-is-modulus-requires : tie.Need-is-modulus-requires
-is-modulus-requires c κs = tt
+enum-known-kind : tie.Need-enum-known-kind
+enum-known-kind c = search needs
 
 returns : tie.Need-returns
-returns c = sym (kernel-modulus _ _ _ _ _ (no-modulus _ _ (c .before .is-modulus .ensures) (c .if1 .taken)))
+returns c =
+    let e = c .before in
+    kernel-refused _ _ _ _ _ (sizes-failed (e .before .before .table-sizes .ensures) (e .kind .given .1))
+
+enum-told : tie.Need-enum-told
+enum-told c = search needs
+
+mul-if1 : tie.Need-mul-if1
+mul-if1 c =
+    let a = start c .args in
+    let s = sized c .1 .0 in
+    omega (arith, table-most (a .m) (a .n) (s .0) (s .1))
 
 returns-2 : tie.Need-returns-2
-returns-2 c = sym (kernel-size _ _ _ _ _ (modulus (c .before)) (λ s. omega arith))
+returns-2 c = kernel-refused _ _ _ _ _ (past-sizes (sized (c .before)) (fails-here (c .if1 .taken)))
+
+mul-if2 : tie.Need-mul-if2
+mul-if2 c =
+    let e = c .before in
+    let n = start e .args .n in
+    let s = sized e .1 .0 in
+    omega (arith, table-most n n (s .1) (s .1))
 
 returns-3 : tie.Need-returns-3
-returns-3 c = sym (kernel-size _ _ _ _ _ (modulus (c .before .before)) (λ s. omega arith))
-
-mul-if4 : tie.Need-mul-if4
-mul-if4 c =
-    let a = start (begun c) .args in
-    omega (arith, table-most (a .m) (a .n) (sizes c .0) (sizes c .1))
-
-returns-4 : tie.Need-returns-4
-returns-4 c = sym (kernel-a-length _ _ _ _ _ (modulus (begun (c .before))) (sizes (c .before)) (c .if4 .taken))
-
-mul-if5 : tie.Need-mul-if5
-mul-if5 c =
+returns-3 c =
     let e = c .before in
-    let n = start (begun e) .args .n in
-    omega (arith, table-most n n (sizes e .1) (sizes e .1))
-
-returns-5 : tie.Need-returns-5
-returns-5 c =
-    let e = c .before .before in
-    sym (kernel-basis-length _ _ _ _ _ (modulus (begun e)) (sizes e) (c .before .if4 .left) (c .if5 .taken))
+    kernel-refused _ _ _ _ _ (past-sizes (sized (e .before)) (e .if1 .left then fails-here (c .if2 .taken)))
 
 all-below-requires : tie.Need-all-below-requires
 all-below-requires c κs = tt
 
-returns-6 : tie.Need-returns-6
-returns-6 c =
+returns-4 : tie.Need-returns-4
+returns-4 c =
     let l = c .before .before in
-    let e = sized l in
-    sym
-    (kernel-number _ _ _ _ _ (modulus (begun e)) (sizes e) (l .before .if4 .left) (l .if5 .left)
-    (not-below _ (start (begun e) .args .a .now) _ (c .before .all-below .ensures) (c .if6 .taken)))
+    kernel-refused _ _ _ _ _
+    (past-sizes (sized (l .before .before))
+    (l .before .if1 .left then l .if2 .left then fails-here (guard-taken (c .before .all-below .ensures) (c .if3 .taken))))
 
--- past check 4
-abbrev ready : tie.Else6 → tie.Else5
-ready c = c .before .before
+-- past 3
+abbrev begun : tie.Else3 → tie.After-enum-told
+begun c = c .before .before .before .before
 
-checked : (c : tie.Else6)
-    → Checked (start (begun (sized (ready c))) .args .p) (start (begun (sized (ready c))) .args .m) (start (begun (sized (ready c))) .args .n)
-    (start (begun (sized (ready c))) .args .a .now)
+checked : (c : tie.Else3)
+    → Checked (start (begun c) .args .p) (start (begun c) .args .m) (start (begun c) .args .n) (start (begun c) .args .a .now)
 checked c =
-    let l = ready c in
-    let e = sized l in
+    let s = sized (begun c) in
     record {
-      is-modulus = modulus (begun e);
-      m-most = sizes e .0;
-      n-most = sizes e .1;
-      a-long = l .before .if4 .left;
-      a-below = all-below _ (start (begun e) .args .a .now) _ (c .before .all-below .ensures) (c .if6 .left);
+      is-modulus = s .0;
+      m-most = s .1 .0 .0;
+      n-most = s .1 .0 .1;
+      a-long = c .before .before .before .if1 .left;
+      a-below = guard-left (c .before .all-below .ensures) (c .if3 .left);
     }
 
 kernel-of-requires : tie.Need-kernel-of-requires
-kernel-of-requires c κs = (checked (c .before), ready (c .before) .if5 .left)
+kernel-of-requires c κs = (checked (c .before), c .before .before .before .if2 .left)
 
 same-length : tie.Need-same-length
 same-length c = c .before .before .kernel-of .kept .1 .1 .1 .1 .0
 
-returns-7 : tie.Need-returns-7
-returns-7 c =
+returns-5 : tie.Need-returns-5
+returns-5 c =
     let q = c .before .before in
     let b = q .before .before in
-    let k = checked b in
-    kernel-finished _ _ _ _ k _ _ _ (ready b .if5 .left) (q .kernel-of .ensures (k .is-modulus))
+    kernel-done _ _ _ _ _ _ _ (checked b) (b .before .before .if2 .left) (q .kernel-of .ensures)
 
 pub kernel-spec : {M : Type 1} → statement M
 kernel-spec =
     tie.close
     (tie.spec
-    is-modulus-requires
+    table-sizes-requires
+    enum-known-kind
     returns
+    enum-told
+    mul-if1
     returns-2
+    mul-if2
     returns-3
-    mul-if4
-    returns-4
-    mul-if5
-    returns-5
     all-below-requires
-    returns-6
+    returns-4
     kernel-of-requires
     same-length
-    returns-7)
+    returns-5)

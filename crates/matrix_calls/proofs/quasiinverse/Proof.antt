@@ -1,128 +1,111 @@
--- `matrix_calls::quasiinverse` meets its contract: what the checks leave decides which of the call's answers holds, and invert leaves
--- D, I and J.
-use mathlib.Core.Path.{sym}
+-- `matrix_calls::quasiinverse` meets its contract: each return is the refusal by the first check that fails, or D, I and J, which
+-- invert leaves, with the number of marks of I.
+use mathlib.Core.Path.{_∙_}
 use native.Mathlib.Omega.{arith}
-use Rattle.checks.specs.Prime.{IsModulus}
-use Rattle.checks.proofs.Guards.{no-modulus, is-modulus}
-use Rattle.checks.specs.Largest.{Sizes}
+use borrow.Author.Needs.{needs}
+use Rattle.algebra.proofs.Answers.{guard-left, guard-taken}
+use Rattle.checks.specs.InOrder.{Given}
+use Rattle.checks.specs.Sizes.{tableSizes}
+use Rattle.checks.proofs.InOrder.{fails-here}
 use Rattle.matrix.specs.Parts.{Checked, Room}
-use Rattle.matrix.proofs.Answers.{
-  quasiinverse-modulus,
-  quasiinverse-size,
-  quasiinverse-a-length,
-  quasiinverse-d-length,
-  quasiinverse-columns-length,
-  quasiinverse-rows-length,
-  quasiinverse-number,
-}
-use Rattle.matrix.proofs.Basis.{columns-few}
-use Rattle.matrix.proofs.Finished.{quasiinverse-finished}
-use Rattle.words.proofs.Guards.{not-below, all-below}
+use Rattle.matrix.proofs.Answers.{_then_, past-sizes, sizes-passed, sizes-failed, quasiinverse-refused, quasiinverse-done}
+use Rattle.matrix.proofs.Basis.{columns-few, columns-sum}
 use Rattle.matrix.proofs.Memory.{table-most}
 use Rattle.matrix_calls.proofs.quasiinverse.Statement.{statement}
 use Rattle.matrix_calls.proofs.quasiinverse.Tie as tie
 
--- past check 1
-abbrev start : tie.Else1 → tie.Start
-start c = c .before .before .before .before .before .before
+-- past 1 and 2
+abbrev start : tie.After-enum-told → tie.Start
+start c = c .before .before .before .before .before .before .before
 
-modulus : (c : tie.Else1) → IsModulus (start c .args .p)
-modulus c = is-modulus _ _ (c .before .is-modulus .ensures) (c .if1 .left)
+sized : (c : tie.After-enum-told) → Given (tableSizes (start c .args .p) (start c .args .m) (start c .args .n))
+sized c = sizes-passed (c .before .before .table-sizes .ensures) (c .enum-told .given .1)
 
--- past check 2
-abbrev begun : tie.Else3 → tie.Else1
-begun c = c .before .before
+table-sizes-requires : tie.Need-table-sizes-requires
+table-sizes-requires c κs = tt
 
-sizes : (c : tie.Else3) → Sizes (start (begun c) .args .m) (start (begun c) .args .n)
-sizes c = (c .before .if2 .left, c .if3 .left)
-
--- past check 3
-abbrev sized : tie.Else7 → tie.Else3
-sized c = c .before .before .before .before
-
-is-modulus-requires : tie.Need-is-modulus-requires
-is-modulus-requires c κs = tt
+enum-known-kind : tie.Need-enum-known-kind
+enum-known-kind c = search needs
 
 returns : tie.Need-returns
-returns c = sym (quasiinverse-modulus _ _ _ _ _ _ _ (no-modulus _ _ (c .before .is-modulus .ensures) (c .if1 .taken)))
+returns c =
+    let e = c .before in
+    quasiinverse-refused _ _ _ _ _ _ _ (sizes-failed (e .before .before .table-sizes .ensures) (e .kind .given .1))
+
+enum-told : tie.Need-enum-told
+enum-told c = search needs
+
+mul-if1 : tie.Need-mul-if1
+mul-if1 c =
+    let a = start c .args in
+    let s = sized c .1 .0 in
+    omega (arith, table-most (a .m) (a .n) (s .0) (s .1))
 
 returns-2 : tie.Need-returns-2
-returns-2 c = sym (quasiinverse-size _ _ _ _ _ _ _ (modulus (c .before)) (λ s. omega arith))
+returns-2 c = quasiinverse-refused _ _ _ _ _ _ _ (past-sizes (sized (c .before)) (fails-here (c .if1 .taken)))
+
+mul-if2 : tie.Need-mul-if2
+mul-if2 c =
+    let a = start (c .before) .args in
+    let s = sized (c .before) .1 .0 in
+    omega (arith, table-most (a .n) (a .m) (s .1) (s .0))
 
 returns-3 : tie.Need-returns-3
-returns-3 c = sym (quasiinverse-size _ _ _ _ _ _ _ (modulus (c .before .before)) (λ s. omega arith))
-
-mul-if4 : tie.Need-mul-if4
-mul-if4 c =
-    let a = start (begun c) .args in
-    omega (arith, table-most (a .m) (a .n) (sizes c .0) (sizes c .1))
+returns-3 c =
+    let e = c .before in
+    quasiinverse-refused _ _ _ _ _ _ _ (past-sizes (sized (e .before)) (e .if1 .left then fails-here (c .if2 .taken)))
 
 returns-4 : tie.Need-returns-4
-returns-4 c = sym (quasiinverse-a-length _ _ _ _ _ _ _ (modulus (begun (c .before))) (sizes (c .before)) (c .if4 .taken))
-
-mul-if5 : tie.Need-mul-if5
-mul-if5 c =
+returns-4 c =
     let e = c .before in
-    let a = start (begun e) .args in
-    omega (arith, table-most (a .n) (a .m) (sizes e .1) (sizes e .0))
+    quasiinverse-refused _ _ _ _ _ _ _
+    (past-sizes (sized (e .before .before)) (e .before .if1 .left then e .if2 .left then fails-here (c .if3 .taken)))
 
 returns-5 : tie.Need-returns-5
 returns-5 c =
-    let e = c .before .before in
-    sym (quasiinverse-d-length _ _ _ _ _ _ _ (modulus (begun e)) (sizes e) (c .before .if4 .left) (c .if5 .taken))
-
-returns-6 : tie.Need-returns-6
-returns-6 c =
-    let l = c .before in
-    let e = l .before .before in
-    sym
-    (quasiinverse-columns-length _ _ _ _ _ _ _ (modulus (begun e)) (sizes e) (l .before .if4 .left) (l .if5 .left) (c .if6 .taken))
-
-returns-7 : tie.Need-returns-7
-returns-7 c =
-    let l = c .before in
-    let e = l .before .before .before in
-    sym
-    (quasiinverse-rows-length _ _ _ _ _ _ _ (modulus (begun e)) (sizes e) (l .before .before .if4 .left) (l .before .if5 .left)
-    (l .if6 .left) (c .if7 .taken))
+    let e = c .before in
+    let l = e .before in
+    quasiinverse-refused _ _ _ _ _ _ _
+    (past-sizes (sized (l .before .before))
+    (l .before .if1 .left then l .if2 .left then e .if3 .left then fails-here (c .if4 .taken)))
 
 all-below-requires : tie.Need-all-below-requires
 all-below-requires c κs = tt
 
-returns-8 : tie.Need-returns-8
-returns-8 c =
-    let l = c .before .before in
-    let e = sized l in
-    sym
-    (quasiinverse-number _ _ _ _ _ _ _ (modulus (begun e)) (sizes e) (l .before .before .before .if4 .left)
-    (l .before .before .if5 .left) (l .before .if6 .left) (l .if7 .left)
-    (not-below _ (start (begun e) .args .a .now) _ (c .before .all-below .ensures) (c .if8 .taken)))
+returns-6 : tie.Need-returns-6
+returns-6 c =
+    let e = c .before .before in
+    let l = e .before .before in
+    quasiinverse-refused _ _ _ _ _ _ _
+    (past-sizes (sized (l .before .before))
+    (l .before .if1 .left
+    then l .if2 .left
+    then e .before .if3 .left
+    then e .if4 .left
+    then fails-here (guard-taken (c .before .all-below .ensures) (c .if5 .taken))))
 
--- past check 4
-abbrev ready : tie.Else8 → tie.Else7
-ready c = c .before .before
+-- past 3 and 4
+abbrev begun : tie.Else5 → tie.After-enum-told
+begun c = c .before .before .before .before .before .before
 
-checked : (c : tie.Else8)
-    → Checked (start (begun (sized (ready c))) .args .p) (start (begun (sized (ready c))) .args .m) (start (begun (sized (ready c))) .args .n)
-    (start (begun (sized (ready c))) .args .a .now)
+checked : (c : tie.Else5)
+    → Checked (start (begun c) .args .p) (start (begun c) .args .m) (start (begun c) .args .n) (start (begun c) .args .a .now)
 checked c =
-    let l = ready c in
-    let e = sized l in
+    let s = sized (begun c) in
     record {
-      is-modulus = modulus (begun e);
-      m-most = sizes e .0;
-      n-most = sizes e .1;
-      a-long = l .before .before .before .if4 .left;
-      a-below = all-below _ (start (begun e) .args .a .now) _ (c .before .all-below .ensures) (c .if8 .left);
+      is-modulus = s .0;
+      m-most = s .1 .0 .0;
+      n-most = s .1 .0 .1;
+      a-long = c .before .before .before .before .before .if1 .left;
+      a-below = guard-left (c .before .all-below .ensures) (c .if5 .left);
     }
 
-room : (c : tie.Else8)
-    → Room (start (begun (sized (ready c))) .args .m) (start (begun (sized (ready c))) .args .n)
-    (start (begun (sized (ready c))) .args .d .now) (start (begun (sized (ready c))) .args .columns .now)
-    (start (begun (sized (ready c))) .args .rows .now)
+room : (c : tie.Else5)
+    → Room (start (begun c) .args .m) (start (begun c) .args .n) (start (begun c) .args .d .now) (start (begun c) .args .columns .now)
+    (start (begun c) .args .rows .now)
 room c =
-    let l = ready c in
-    record { d-long = l .before .before .if5 .left; columns-long = l .before .if6 .left; rows-long = l .if7 .left }
+    let l = c .before .before in
+    record { d-long = l .before .before .if2 .left; columns-long = l .before .if3 .left; rows-long = l .if4 .left }
 
 invert-requires : tie.Need-invert-requires
 invert-requires c κs =
@@ -130,7 +113,7 @@ invert-requires c κs =
     (checked b, room b)
 
 -- invert has returned
-abbrev asked : tie.After-invert → tie.Else8
+abbrev asked : tie.After-invert → tie.Else5
 asked c = c .before .before .before .before
 
 abbrev inverted : tie.After-count-marks-arg → tie.After-invert
@@ -151,32 +134,32 @@ same-length-2 c = inverted (c .before) .invert .kept .1 .1 .1 .1 .1 .0
 same-length-3 : tie.Need-same-length-3
 same-length-3 c = inverted (c .before) .invert .kept .1 .1 .1 .1 .1 .1 .0
 
-returns-9 : tie.Need-returns-9
-returns-9 c =
+returns-7 : tie.Need-returns-7
+returns-7 c =
     let i = inverted (c .before) in
     let b = asked i in
-    let k = checked b in
-    quasiinverse-finished _ _ _ _ k _ _ _ _ _ _ _ (room b) (i .invert .ensures (k .is-modulus)) (c .count-marks .ensures)
+    quasiinverse-done _ _ _ _ _ _ _ _ _ _ _ (checked b) (room b) (i .invert .ensures)
+    (λ ok. c .count-marks .ensures ∙ columns-sum (i .invert .ensures ok))
 
 pub quasiinverse-spec : {M : Type 1} → statement M
 quasiinverse-spec =
     tie.close
     (tie.spec
-    is-modulus-requires
+    table-sizes-requires
+    enum-known-kind
     returns
+    enum-told
+    mul-if1
     returns-2
+    mul-if2
     returns-3
-    mul-if4
     returns-4
-    mul-if5
     returns-5
-    returns-6
-    returns-7
     all-below-requires
-    returns-8
+    returns-6
     invert-requires
     count-marks-requires
     same-length
     same-length-2
     same-length-3
-    returns-9)
+    returns-7)

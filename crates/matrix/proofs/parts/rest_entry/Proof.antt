@@ -11,10 +11,6 @@ use Rattle.field.proofs.Residues.{reduce-of-value, below-of-value}
 use Rattle.matrix.specs.Parts.{crossed}
 use Rattle.matrix.proofs.parts.rest_entry.Statement.{statement}
 use Rattle.matrix.proofs.parts.rest_entry.Tie as tie
-use Rattle.matrix.proofs.parts.rest_entry.Reads as reads
-use Rattle.matrix.proofs.parts.rest_entry.Lts as lts
-use Rattle.field.proofs.arith.minus.Reads as minus-reads
-use Rattle.matrix.proofs.parts.product_entry.Reads as product-entry-reads
 
 -- p is above 1
 above : (c : tie.Start) → 1 < c .args .p
