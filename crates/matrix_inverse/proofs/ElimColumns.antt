@@ -11,7 +11,7 @@ use Rattle.algebra.specs.Choice.{choose}
 use Rattle.algebra.specs.Quasiinverse.{Marks}
 use Rattle.field.proofs.Residues.{reduce-zero}
 use Rattle.field.proofs.Views.{table-entry}
-use Rattle.matrix_mul.specs.Places.{Kept, Used}
+use Rattle.matrix_mul.specs.Places.{place, Kept, Used}
 use Rattle.matrix_mul.proofs.Places.{kept-at}
 use Rattle.matrix_inverse.specs.Eliminated.{noMarks, Marked, BothMarked, Eliminable, Eliminated}
 use Rattle.matrix_inverse.proofs.ElimMarks.{fresh-long, fresh-mark, marked-too, marked-over}
@@ -66,7 +66,7 @@ module _ {p m n : ℕ} {a d : List ℕ} {at stride : ℕ} {rows d′ marks rows�
       marked-in (marked-over first both (E .columns-marked .same-length ∙ sym (first .same-length)) (E .columns-marked))
 
   -- rows of D whose columns are not marked are zeros
-  pub marked-used : length d′ ≡ n * stride → at + m ≤ stride → n ≤ 64 → Used n m d′ at stride marks
+  pub marked-used : length d′ ≡ n * stride → at + m ≤ stride → n ≤ 64 → Used n m d′ (place at stride) marks
   marked-used long fits small =
       record {
         long = omega (arith, fresh-long, E .columns-marked .same-length);
@@ -81,15 +81,15 @@ module _ {p m n : ℕ} {a d : List ℕ} {at stride : ℕ} {rows d′ marks rows�
       unmarked false e = refl
 
 -- they stay so where other columns of D are written
-pub used-kept : {p n m k : ℕ} {d d′ : List ℕ} {at stride : ℕ} {marks : List ℕ} → at + (m + k) ≤ stride → Kept p d d′ (at + m) stride n k
-    → Used n m d at stride marks → Used n m d′ at stride marks
+pub used-kept : {p n m k : ℕ} {d d′ : List ℕ} {at stride : ℕ} {marks : List ℕ} → at + (m + k) ≤ stride → Kept p d d′ (place (at + m) stride) n k
+    → Used n m d (place at stride) marks → Used n m d′ (place at stride) marks
 used-kept {d = d} {d′ = d′} {at = at} {stride = stride} fits kept used =
     record {
       long = used .long;
       zeros = λ t h e j l.
-          let place : at + t * stride + j ≡ at + j + t * stride = omega arith in
-          ap (λ q. getD d′ q 0) place
+          let here : at + t * stride + j ≡ at + j + t * stride = omega arith in
+          ap (λ q. getD d′ q 0) here
           ∙ kept-at kept (omega arith) t (at + j) (omega arith) (λ o b q. omega arith)
-          ∙ ap (λ q. getD d q 0) (sym place)
+          ∙ ap (λ q. getD d q 0) (sym here)
           ∙ used .zeros t h e j l;
     }

@@ -9,8 +9,9 @@ use lib.ListN.{length, getD, take, length-drop}
 use lib.Seq.{length-take-le}
 use Rattle.algebra.specs.Quasiinverse.{either, follow}
 use Rattle.words.specs.Words.{Below}
-use Rattle.matrix_mul.specs.Places.{Kept}
-use Rattle.matrix_inverse.specs.Eliminated.{Eliminable, Eliminated, Halves, Reduced, Joined}
+use Rattle.matrix_mul.specs.Places.{place, Kept}
+use Rattle.matrix_inverse.specs.Eliminated.{Eliminable, Eliminated}
+use Rattle.matrix_inverse.specs.Steps.{split, Halves, Reduced, Joined}
 use Rattle.matrix_mul.proofs.Places.{front-table, kept-trans, kept-wider, kept-at}
 use Rattle.words.proofs.Parts.{replaced, part-rest}
 use Rattle.matrix_inverse.proofs.ElimMarks.{behind, with-front, rows-length, behind-length, marked-either, marked-rows}
@@ -18,16 +19,16 @@ use Rattle.matrix_inverse.proofs.ElimStep.{whole-quasiinverse}
 use Rattle.matrix_inverse.proofs.StepNegative.{row-inside, taken-below, dropped-below}
 
 -- the m rows of a table are m₁ upper rows and m₂ lower rows, at most 32 each
-pub record Split (m m₁ m₂ : ℕ) : Type 0 where
+pub record Splits (m m₁ m₂ : ℕ) : Type 0 where
   pub whole : m₁ + m₂ ≡ m
   pub upper-most : m₁ ≤ 32
   pub lower-most : m₂ ≤ 32
 
-pub halved : (m : ℕ) → m ≤ 64 → Split m (m / 2) (m - m / 2)
+pub halved : (m : ℕ) → m ≤ 64 → Splits m (m / 2) (m - m / 2)
 halved m h = record { whole = omega arith; upper-most = omega arith; lower-most = omega arith }
 
 module _ {p m m₁ m₂ n : ℕ} {a d : List ℕ} {at stride : ℕ} {columns rows : List ℕ} (e : Eliminable p m n a d at stride columns rows)
-    (s : Split m m₁ m₂)
+    (s : Splits m m₁ m₂)
   where
     -- the numbers of the upper rows and of the lower rows
     pub cut : m₁ * n + m₂ * n ≡ length a
@@ -75,7 +76,7 @@ module _ {p m m₁ m₂ n : ℕ} {a d : List ℕ} {at stride : ℕ} {columns row
         (t c : List ℕ) →
         length t ≡ 1024 →
         length c ≡ 2048 →
-        Halves p m₁ m₂ n a d′ at stride t c
+        Halves p (split m₁ m₂ n) a d′ (place at stride) t c
     halves long below t c t-long c-long =
         record {
           is-modulus = e .is-modulus;
@@ -94,7 +95,7 @@ module _ {p m m₁ m₂ n : ℕ} {a d : List ℕ} {at stride : ℕ} {columns row
 
     -- after the call for the upper rows
     module _ {d₁ columns₁ upper : List ℕ} (E₁ : Eliminated p m₁ n (take (m₁ * n) a) d at stride columns (take m₁ rows) d₁ columns₁ upper) where
-      pub between : (t c : List ℕ) → length t ≡ 1024 → length c ≡ 2048 → Halves p m₁ m₂ n a d₁ at stride t c
+      pub between : (t c : List ℕ) → length t ≡ 1024 → length c ≡ 2048 → Halves p (split m₁ m₂ n) a d₁ (place at stride) t c
       between = halves (E₁ .kept .same-length) (E₁ .kept .below)
 
       rows-split : length rows ≡ m₁ + m₂
@@ -116,7 +117,7 @@ module _ {p m m₁ m₂ n : ℕ} {a d : List ℕ} {at stride : ℕ} {columns row
 
       -- after the step between
       module _ {t c t₁ c₁ : List ℕ} (t-long : length t ≡ 1024) (c-long : length c ≡ 2048)
-          (R : Reduced p m₁ m₂ n a (behind (m₁ * n) a) d₁ at stride t c t₁ c₁)
+          (R : Reduced p (split m₁ m₂ n) a (behind (m₁ * n) a) d₁ (place at stride) t c t₁ c₁)
         where
           pub reduced-inside : m₂ * n ≤ length c₁
           reduced-inside = omega (arith, mul-le-mul (s .lower-most) (e .n-most), R .c-long)
@@ -140,7 +141,7 @@ module _ {p m m₁ m₂ n : ℕ} {a d : List ℕ} {at stride : ℕ} {columns row
               }
 
           -- after the call for the lower rows
-          pub after : {d₂ : List ℕ} → Kept p d₁ d₂ (at + m₁) stride n m₂ → Halves p m₁ m₂ n a d₂ at stride t₁ c₁
+          pub after : {d₂ : List ℕ} → Kept p d₁ d₂ (place (at + m₁) stride) n m₂ → Halves p (split m₁ m₂ n) a d₂ (place at stride) t₁ c₁
           after kept = halves (kept .same-length ∙ E₁ .kept .same-length) (kept .below) t₁ c₁ (R .t-long ∙ t-long) (R .c-long ∙ c-long)
 
           module _ {d₂ columns₂ lower : List ℕ}
@@ -149,7 +150,7 @@ module _ {p m m₁ m₂ n : ℕ} {a d : List ℕ} {at stride : ℕ} {columns row
               -- after the step that joins the halves
               pub joined-halves :
                   {d₃ : List ℕ} →
-                  Joined p m₁ m₂ n a t₁ d₂ d₃ at stride →
+                  Joined p (split m₁ m₂ n) a t₁ d₂ d₃ (place at stride) →
                   Eliminated p m n a d at stride columns rows d₃ columns₂
                   (replaced (with-front upper m₁ rows) m₁ (length (with-front upper m₁ rows) - m₁) lower)
               joined-halves {d₃} j =

@@ -14,8 +14,8 @@ use Rattle.checks.specs.Prime.{IsModulus}
 use Rattle.field.specs.Residue.{residues}
 use Rattle.field.specs.View.{table}
 use Rattle.field.proofs.Field.{residues-field}
-use Rattle.matrix_mul.specs.Places.{Kept}
-use Rattle.matrix_inverse.specs.Eliminated.{Reduced, Joined}
+use Rattle.matrix_mul.specs.Places.{place, Kept}
+use Rattle.matrix_inverse.specs.Steps.{split, Reduced, Joined}
 use Rattle.matrix_mul.proofs.Places.{table-kept}
 use Rattle.matrix_inverse.proofs.ElimTables.{table-stack, table-beside}
 
@@ -23,10 +23,10 @@ module _ (p m₁ m₂ n : ℕ) (a d₁ d₂ d₃ : List ℕ) (at stride : ℕ) (
     (is-modulus : IsModulus p)
     (fits : at + (m₁ + m₂) ≤ stride)
     (Q₁ : IsPivotInverse (residues p) m₁ n (table p a 0 n m₁ n) (table p d₁ at stride n m₁) I₁ J₁)
-    (reduced : Reduced p m₁ m₂ n a (drop (m₁ * n) a) d₁ at stride t c t₁ c₁)
-    (kept : Kept p d₁ d₂ (at + m₁) stride n m₂)
+    (reduced : Reduced p (split m₁ m₂ n) a (drop (m₁ * n) a) d₁ (place at stride) t c t₁ c₁)
+    (kept : Kept p d₁ d₂ (place (at + m₁) stride) n m₂)
     (Q₂ : IsPivotInverse (residues p) m₂ n (table p c₁ 0 n m₂ n) (table p d₂ (at + m₁) stride n m₂) I₂ J₂)
-    (joined : Joined p m₁ m₂ n a t₁ d₂ d₃ at stride)
+    (joined : Joined p (split m₁ m₂ n) a t₁ d₂ d₃ (place at stride))
   where
     field : IsField (residues p)
     field = residues-field p (is-modulus .prime)

@@ -21,7 +21,7 @@ use Rattle.field.specs.Residue.{reduce, residues, _⊗_}
 use Rattle.field.specs.View.{table}
 use Rattle.field.proofs.Field.{residues-ring}
 use Rattle.field.proofs.Views.{table-entry, table-sized}
-use Rattle.matrix_mul.specs.Places.{Kept}
+use Rattle.matrix_mul.specs.Places.{place, Kept}
 use Rattle.matrix_inverse.specs.Eliminated.{Eliminable, Eliminated}
 use Rattle.matrix_mul.proofs.Places.{tables-equal, same-place, kept-none}
 use Rattle.matrix_inverse.proofs.ElimMarks.{marked-none, marked-one}
@@ -46,7 +46,7 @@ module _ {p m n : ℕ} {a d : List ℕ} {at stride : ℕ} {columns rows : List �
         holds =
             subst (λ D. IsPivotInverse (residues p) m n (table p a 0 n m n) D none none) (sym (blank-table p d at stride n m (e .blank)))
             (zero-table (residues p) ring m n (table p a 0 n m n) (λ i j. entry (residues p) (blank-table p a 0 n m n zero) i j));
-        kept = kept-none p d at stride n m (e .d-below);
+        kept = kept-none p d (place at stride) n m (e .d-below);
         columns-marked = marked-none n columns;
         rows-marked = marked-none m rows;
       }
@@ -93,8 +93,8 @@ column-table p d at stride n v r long fits l blank =
         (i j : ℕ) → i < n → j < 1 → Dec (i ≡ v) → reduce p (getD d′ (at + i * stride + j) 0) ≡ single (residues p) v (reduce p r) i j
     by-row i j h g (yes same) =
         let first : j ≡ 0 = omega arith in
-        let place : at + i * stride + j ≡ at + v * stride = omega (arith, ap (λ k. k * stride) same) in
-        rw (eq-eqb i v same, eq-eqb j 0 first, place)
+        let here : at + i * stride + j ≡ at + v * stride = omega (arith, ap (λ k. k * stride) same) in
+        rw (eq-eqb i v same, eq-eqb j 0 first, here)
         (ap (reduce p) (getD-set-same d (at + v * stride) r 0 (rw long (place-inside n stride at v l fits))))
     by-row i j h g (no other) =
         let elsewhere : (at + i * stride + j ≡ at + v * stride → ⊥) =
@@ -124,7 +124,7 @@ module _ {p n : ℕ} {a d : List ℕ} {at stride : ℕ} {columns rows : List ℕ
     inside : at < stride
     inside = omega (arith, e .fits)
 
-    one-kept : Kept p d (set d (at + v * stride) r) at stride n 1
+    one-kept : Kept p d (set d (at + v * stride) r) (place at stride) n 1
     one-kept =
         record {
           same-length = length-set d (at + v * stride) r;

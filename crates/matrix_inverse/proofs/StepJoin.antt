@@ -11,127 +11,129 @@ use Rattle.field.specs.Residue.{residues}
 use Rattle.field.specs.View.{table}
 use Rattle.words.specs.Words.{Below}
 use Rattle.field.proofs.Field.{residues-ring}
-use Rattle.matrix_mul.specs.Places.{Block, Factors, Kept, Multiplied}
-use Rattle.matrix_inverse.specs.Eliminated.{Halves, Joined}
+use Rattle.matrix_mul.specs.Places.{place, sizes, Block, Factors, Kept, Multiplied, Used, Within}
+use Rattle.matrix_inverse.specs.Steps.{split, IsNegativeProduct, Halves, Joined}
 use Rattle.matrix_mul.proofs.Places.{kept-trans, kept-wider, table-kept}
 use Rattle.matrix_inverse.proofs.StepNegative.{rows-block, columns-block}
 use Rattle.matrix_inverse.proofs.StepReduce.{modulus-positive, quarter-room}
 
-module _ {p m₁ m₂ n : ℕ} {a d : List ℕ} {at stride : ℕ} {t c : List ℕ} (h : Halves p m₁ m₂ n a d at stride t c) where
-  -- the columns of F
-  pub lower-block : Block d (at + m₁) stride n m₂
-  lower-block = columns-block d (at + m₁) stride n m₂ (h .d-long) (omega (arith, h .fits))
+module _ {p m₁ m₂ n : ℕ} {a d : List ℕ} {at stride : ℕ} {t c : List ℕ}
+    (h : Halves p (split m₁ m₂ n) a d (place at stride) t c)
+  where
+    -- the columns of F
+    pub lower-block : Block d (place (at + m₁) stride) n m₂
+    lower-block = columns-block d (at + m₁) stride n m₂ (h .d-long) (omega (arith, h .fits))
 
-  small-room : m₁ * m₂ ≤ length c
-  small-room = omega (arith, mul-le-mul (h .upper-most) (h .lower-most), h .c-long)
+    small-room : m₁ * m₂ ≤ length c
+    small-room = omega (arith, mul-le-mul (h .upper-most) (h .lower-most), h .c-long)
 
-  -- B F into c
-  pub join-first : Below p c → Factors p m₁ n m₂ a 0 n d (at + m₁) stride c 0 m₂
-  join-first c-below =
-      record {
-        positive = modulus-positive h;
-        in-range = h .is-modulus .in-range;
-        inner = h .n-most;
-        columns = omega (arith, h .lower-most);
-        left = rows-block a m₁ n (h .a-long);
-        right = lower-block;
-        target = rows-block c m₁ m₂ small-room;
-        left-below = h .a-below;
-        right-below = h .d-below;
-        below = c-below;
-      }
+    -- B F into c
+    pub join-first : Below p c → Factors p (sizes m₁ n m₂) a (place 0 n) d (place (at + m₁) stride) c (place 0 m₂)
+    join-first c-below =
+        record {
+          positive = modulus-positive h;
+          in-range = h .is-modulus .in-range;
+          inner = h .n-most;
+          columns = omega (arith, h .lower-most);
+          left = rows-block a m₁ n (h .a-long);
+          right = lower-block;
+          target = rows-block c m₁ m₂ small-room;
+          left-below = h .a-below;
+          right-below = h .d-below;
+          below = c-below;
+        }
 
-  -- F + E (-(B F)) for F
-  pub join-second :
-      (c′ : List ℕ) →
-      length c′ ≡ length c →
-      Below p c′ →
-      Factors p n m₁ m₂ d at stride c′ 0 m₂ d (at + m₁) stride
-      × ((i j l : ℕ) → i < n → j < m₁ → l < m₂ → at + j ≡ at + m₁ + l → ⊥)
-      × (at + m₁ ≤ stride)
-      × (at + m₁ + m₂ ≤ stride)
-  join-second c′ long c-below = (
-    record {
-      positive = modulus-positive h;
-      in-range = h .is-modulus .in-range;
-      inner = omega (arith, h .upper-most);
-      columns = omega (arith, h .lower-most);
-      left = columns-block d at stride n m₁ (h .d-long) (omega (arith, h .fits));
-      right = rows-block c′ m₁ m₂ (omega (arith, small-room));
-      target = lower-block;
-      left-below = h .d-below;
-      right-below = c-below;
-      below = h .d-below;
-    },
-    λ i j l b s o e. omega arith,
-    omega (arith, h .fits),
-    omega (arith, h .fits),
-  )
+    -- F + E (-(B F)) for F
+    pub join-second :
+        (c′ : List ℕ) →
+        length c′ ≡ length c →
+        Below p c′ →
+        {upper : List ℕ} →
+        Used n m₁ d (place at stride) upper →
+        Within p (sizes n m₁ m₂) upper at c′ (place 0 m₂) d (place (at + m₁) stride)
+    join-second c′ long c-below used =
+        record {
+          factors = record {
+            positive = modulus-positive h;
+            in-range = h .is-modulus .in-range;
+            inner = omega (arith, h .upper-most);
+            columns = omega (arith, h .lower-most);
+            left = columns-block d at stride n m₁ (h .d-long) (omega (arith, h .fits));
+            right = rows-block c′ m₁ m₂ (omega (arith, small-room));
+            target = lower-block;
+            left-below = h .d-below;
+            right-below = c-below;
+            below = h .d-below;
+          };
+          other-columns = λ j l s o e. omega arith;
+          left-fits = omega (arith, h .fits);
+          target-fits = omega (arith, h .fits);
+          used = used;
+        }
 
-  -- E + G (-T) for E
-  module _ (t-below : Below p t) (d′ : List ℕ) (kept : Kept p d d′ (at + m₁) stride n m₂) where
-    pub join-third :
-        Factors p n m₂ m₁ d′ (at + m₁) stride t 0 m₁ d′ at stride
-        × ((i j l : ℕ) → i < n → j < m₂ → l < m₁ → at + m₁ + j ≡ at + l → ⊥)
-        × (at + m₁ + m₂ ≤ stride)
-        × (at + m₁ ≤ stride)
-    join-third = (
-      record {
-        positive = modulus-positive h;
-        in-range = h .is-modulus .in-range;
-        inner = omega (arith, h .lower-most);
-        columns = omega (arith, h .upper-most);
-        left = columns-block d′ (at + m₁) stride n m₂ (kept .same-length ∙ h .d-long) (omega (arith, h .fits));
-        right = rows-block t m₂ m₁ (quarter-room h);
-        target = columns-block d′ at stride n m₁ (kept .same-length ∙ h .d-long) (omega (arith, h .fits));
-        left-below = kept .below;
-        right-below = t-below;
-        below = kept .below;
-      },
-      λ i j l b s o e. omega arith,
-      omega (arith, h .fits),
-      omega (arith, h .fits),
-    )
-
-  -- what they leave
-  module _ {c′ d′ d″ : List ℕ}
-      (is-BF : table p c′ 0 m₂ m₁ m₂ ≡ negative (residues p) (product (residues p) n (table p a 0 n m₁ n) (table p d (at + m₁) stride n m₂)))
-      (first : Multiplied p n m₁ m₂ d at stride c′ 0 m₂ d d′ (at + m₁) stride)
-      (second : Multiplied p n m₂ m₁ d′ (at + m₁) stride t 0 m₁ d′ d″ at stride)
-    where
-      -- the second product leaves the columns of G, the first those of E
-      G-stays : table p d″ (at + m₁) stride n m₂ ≡ table p d′ (at + m₁) stride n m₂
-      G-stays = table-kept (at + m₁) n m₂ (omega (arith, h .fits)) (omega (arith, h .fits)) (λ j l b s e. omega arith) (second .kept)
-
-      E-stays : table p d′ at stride n m₁ ≡ table p d at stride n m₁
-      E-stays = table-kept at n m₁ (omega (arith, h .fits)) (omega (arith, h .fits)) (λ j l b s e. omega arith) (first .kept)
-
-      pub joined : Joined p m₁ m₂ n a t d d″ at stride
-      joined =
+    -- E + G (-T) for E
+    module _ (t-below : Below p t) (d′ : List ℕ) (kept : Kept p d d′ (place (at + m₁) stride) n m₂) where
+      pub join-third : {marks : List ℕ} → Used n m₂ d′ (place (at + m₁) stride) marks
+          → Within p (sizes n m₂ m₁) marks (at + m₁) t (place 0 m₁) d′ (place at stride)
+      join-third used =
           record {
-            kept =
-                kept-trans
-                (kept-wider at n (m₁ + m₂) (omega arith) (omega arith) (omega arith) (first .kept))
-                (kept-wider at n (m₁ + m₂) (omega arith) (omega arith) (omega arith) (second .kept));
-            is-G =
-                G-stays
-                ∙ first .result
-                ∙ ap (λ Y. add (residues p) F (product (residues p) m₁ E Y)) is-BF
-                ∙ ap (add (residues p) F) (product-negative (residues p) (residues-ring p (modulus-positive h)) m₁ E BF);
-            is-X =
-                second .result
-                ∙ ap (λ Y. add (residues p) Y (product (residues p) m₂ (table p d′ (at + m₁) stride n m₂) T)) E-stays
-                ∙ ap (λ Y. add (residues p) E (product (residues p) m₂ Y T)) (sym G-stays);
+            factors = record {
+              positive = modulus-positive h;
+              in-range = h .is-modulus .in-range;
+              inner = omega (arith, h .lower-most);
+              columns = omega (arith, h .upper-most);
+              left = columns-block d′ (at + m₁) stride n m₂ (kept .same-length ∙ h .d-long) (omega (arith, h .fits));
+              right = rows-block t m₂ m₁ (quarter-room h);
+              target = columns-block d′ at stride n m₁ (kept .same-length ∙ h .d-long) (omega (arith, h .fits));
+              left-below = kept .below;
+              right-below = t-below;
+              below = kept .below;
+            };
+            other-columns = λ j l s o e. omega arith;
+            left-fits = omega (arith, h .fits);
+            target-fits = omega (arith, h .fits);
+            used = used;
           }
-        where
-          F : Matrix (residues p)
-          F = table p d (at + m₁) stride n m₂
 
-          E : Matrix (residues p)
-          E = table p d at stride n m₁
+    -- what they leave
+    module _ {c′ d′ d″ : List ℕ}
+        (is-BF : IsNegativeProduct p (sizes m₁ n m₂) a d (place (at + m₁) stride) c c′)
+        (first : Multiplied p (sizes n m₁ m₂) d (place at stride) c′ (place 0 m₂) d d′ (place (at + m₁) stride))
+        (second : Multiplied p (sizes n m₂ m₁) d′ (place (at + m₁) stride) t (place 0 m₁) d′ d″ (place at stride))
+      where
+        -- the second product leaves the columns of G, the first those of E
+        G-stays : table p d″ (at + m₁) stride n m₂ ≡ table p d′ (at + m₁) stride n m₂
+        G-stays = table-kept (at + m₁) n m₂ (omega (arith, h .fits)) (omega (arith, h .fits)) (λ j l b s e. omega arith) (second .kept)
 
-          T : Matrix (residues p)
-          T = table p t 0 m₁ m₂ m₁
+        E-stays : table p d′ at stride n m₁ ≡ table p d at stride n m₁
+        E-stays = table-kept at n m₁ (omega (arith, h .fits)) (omega (arith, h .fits)) (λ j l b s e. omega arith) (first .kept)
 
-          BF : Matrix (residues p)
-          BF = product (residues p) n (table p a 0 n m₁ n) F
+        pub joined : Joined p (split m₁ m₂ n) a t d d″ (place at stride)
+        joined =
+            record {
+              kept =
+                  kept-trans
+                  (kept-wider at n (m₁ + m₂) (omega arith) (omega arith) (omega arith) (first .kept))
+                  (kept-wider at n (m₁ + m₂) (omega arith) (omega arith) (omega arith) (second .kept));
+              is-G =
+                  G-stays
+                  ∙ first .result
+                  ∙ ap (λ Y. add (residues p) F (product (residues p) m₁ E Y)) (is-BF .result)
+                  ∙ ap (add (residues p) F) (product-negative (residues p) (residues-ring p (modulus-positive h)) m₁ E BF);
+              is-X =
+                  second .result
+                  ∙ ap (λ Y. add (residues p) Y (product (residues p) m₂ (table p d′ (at + m₁) stride n m₂) T)) E-stays
+                  ∙ ap (λ Y. add (residues p) E (product (residues p) m₂ Y T)) (sym G-stays);
+            }
+          where
+            F : Matrix (residues p)
+            F = table p d (at + m₁) stride n m₂
+
+            E : Matrix (residues p)
+            E = table p d at stride n m₁
+
+            T : Matrix (residues p)
+            T = table p t 0 m₁ m₂ m₁
+
+            BF : Matrix (residues p)
+            BF = product (residues p) n (table p a 0 n m₁ n) F

@@ -15,7 +15,9 @@ use Rattle.field.specs.View.{table}
 use Rattle.words.specs.Words.{Below, Blank}
 use Rattle.field.proofs.Field.{residues-ring}
 use Rattle.field.proofs.Views.{blank-below}
-use Rattle.matrix_mul.specs.Places.{Block, Factors, Multiplied}
+use Rattle.matrix_mul.specs.declared.Place.{Place}
+use Rattle.matrix_mul.specs.Places.{place, sizes, matrixAt, matrixOf, Block, Factors, Multiplied}
+use Rattle.matrix_inverse.specs.Steps.{IsNegativeProduct}
 use Rattle.matrix_mul.proofs.Places.{table-negative}
 use Rattle.words.proofs.Parts.{front-inside, front-below}
 use Rattle.matrix_inverse.proofs.ElimTables.{blank-table}
@@ -25,15 +27,15 @@ pub row-inside : (m n i : ℕ) → i < m → 0 + i * n + n ≤ m * n
 row-inside m n i h = omega (arith, mul-le-mul-right n h)
 
 -- such rows from the front of a list, and how many numbers they are
-pub rows-block : (xs : List ℕ) (m n : ℕ) → m * n ≤ length xs → Block xs 0 n m n
+pub rows-block : (xs : List ℕ) (m n : ℕ) → m * n ≤ length xs → Block xs (place 0 n) m n
 rows-block xs m n h = record { apart = omega arith; inside = λ i l. omega (arith, row-inside m n i l) }
 
-pub block-long : (xs : List ℕ) (m n : ℕ) → Block xs 0 n m n → m * n ≤ length xs
+pub block-long : (xs : List ℕ) (m n : ℕ) → Block xs (place 0 n) m n → m * n ≤ length xs
 block-long xs zero n b = omega arith
 block-long xs (suc m) n b = omega (arith, b .inside m (omega arith))
 
 -- k columns of D from column `at` on
-pub columns-block : (d : List ℕ) (at stride n k : ℕ) → length d ≡ n * stride → at + k ≤ stride → Block d at stride n k
+pub columns-block : (d : List ℕ) (at stride n k : ℕ) → length d ≡ n * stride → at + k ≤ stride → Block d (place at stride) n k
 columns-block d at stride n k long fits =
     record { apart = omega arith; inside = λ i l. omega (arith, mul-le-mul-right stride l) }
 
@@ -49,8 +51,7 @@ dropped-below p xs k below i h =
     rw (getD-drop k xs i 0) (below (k + i) (omega arith))
 
 -- what is asked of Z
-module _ {p m k n : ℕ} {x : List ℕ} {x-stride : ℕ} {y : List ℕ} {y-start y-stride : ℕ} {z : List ℕ}
-    (f : Factors p m k n x 0 x-stride y y-start y-stride z 0 n)
+module _ {p m k n : ℕ} {x y : List ℕ} {Y : Place} {z : List ℕ} (f : Factors p (sizes m k n) x (place 0 k) y Y z (place 0 n))
   where
     pub size-inside : m * n ≤ length z
     size-inside = block-long z m n (f .target)
@@ -69,7 +70,7 @@ module _ {p m k n : ℕ} {x : List ℕ} {x-stride : ℕ} {y : List ℕ} {y-start
       cleared-zero : (q : ℕ) → q < m * n → getD cleared q 0 ≡ 0
       cleared-zero q h = front-inside z (m * n) zeros size q h ∙ blank q
 
-      pub cleared-factors : Factors p m k n x 0 x-stride y y-start y-stride cleared 0 n
+      pub cleared-factors : Factors p (sizes m k n) x (place 0 k) y Y cleared (place 0 n)
       cleared-factors =
           record {
             positive = f .positive;
@@ -86,7 +87,7 @@ module _ {p m k n : ℕ} {x : List ℕ} {x-stride : ℕ} {y : List ℕ} {y-start
 
       -- Z becomes X Y and then, number by number, its negative; `front` is what stands there then
       module _ {z′ : List ℕ} (front : List ℕ)
-          (multiplied : Multiplied p m k n x 0 x-stride y y-start y-stride cleared z′ 0 n)
+          (multiplied : Multiplied p (sizes m k n) x (place 0 k) y Y cleared z′ (place 0 n))
           (long : length front ≡ length (take (m * n) z′))
           (below : Below p front)
           (each : (j : ℕ) → j < length (take (m * n) z′) → reduce p (getD front j 0) ≡ negated (reduce p (getD (take (m * n) z′) j 0)))
@@ -95,7 +96,7 @@ module _ {p m k n : ℕ} {x : List ℕ} {x-stride : ℕ} {y : List ℕ} {y-start
           ring = residues-ring p (f .positive)
 
           XY : Matrix (residues p)
-          XY = product (residues p) k (table p x 0 x-stride m k) (table p y y-start y-stride k n)
+          XY = product (residues p) k (matrixOf p x m k) (matrixAt p y Y k n)
 
           rows-inside : m * n ≤ length z′
           rows-inside = omega (arith, size-inside, cleared-long, multiplied .kept .same-length)
@@ -127,10 +128,6 @@ module _ {p m k n : ℕ} {x : List ℕ} {x-stride : ℕ} {y : List ℕ} {y-start
               ∙ ap (λ r. negated (reduce p r)) (getD-take (m * n) z′ (0 + i * n + j) 0 inside))
               ∙ ap (negative (residues p)) is-product
 
-          pub negative-product-done :
-              (length (front ++ drop (m * n) z′) ≡ length z)
-              × Below p (front ++ drop (m * n) z′)
-              × (table p (front ++ drop (m * n) z′) 0 n m n
-              ≡ negative (residues p) (product (residues p) k (table p x 0 x-stride m k) (table p y y-start y-stride k n)))
+          pub negative-product-done : IsNegativeProduct p (sizes m k n) x y Y z (front ++ drop (m * n) z′)
           unfolding XY
-          negative-product-done = (negated-long, negated-below, is-negative)
+          negative-product-done = record { same-length = negated-long; below = negated-below; result = is-negative }

@@ -1,1 +1,2 @@
 pub mod Eliminated
+pub mod Steps

@@ -2,13 +2,12 @@
 ghost use mathlib.Core.Path.{_≡_};
 ghost use Prim.Native.Nat.{ℕ, _+_, _*_, _≤_, _<_};
 ghost use lib.ListN.{length, getD};
-ghost use Rattle.algebra.specs.Matrix.{negative, product};
-ghost use Rattle.field.specs.Residue.{residues};
-ghost use Rattle.field.specs.View.{table};
-ghost use Rattle.words.specs.Words.{Below, Blank};
 ghost use Rattle.field.specs.Four.{Passes};
-ghost use Rattle.matrix_mul.specs.Places.{Factors, Used};
-ghost use Rattle.matrix_inverse.specs.Eliminated.{noMarks, Eliminable, Eliminated, BothMarked, Reduced, Joined, Halves};
+ghost use Rattle.matrix_mul.specs.Places.{place, Factors};
+ghost use Rattle.matrix_inverse.specs.Eliminated.{noMarks, Eliminable, Eliminated, BothMarked};
+ghost use Rattle.matrix_inverse.specs.Steps.{IsNegativeProduct, Reducible, Reduced, Joinable, Joined};
+use matrix_mul::Place;
+use matrix_mul::Sizes;
 use matrix_mul::add_product;
 use matrix_mul::add_product_within;
 use words::row_room;
@@ -67,98 +66,144 @@ fn add_marks(n: usize, xs: &[u32], marks: &mut [u32])
     }
 }
 
-// -(X Y) for Z, m rows of n numbers one behind the other, where X has k columns. The list leads over rows of Y that are zeros.
-fn negative_product(
-    p: u32,
-    m: usize,
-    k: usize,
-    n: usize,
-    x: &[u32],
-    x_stride: usize,
-    next: &[u32],
-    y: &[u32],
-    y_start: usize,
-    y_stride: usize,
-    z: &mut [u32],
-)
-    requires { ⌜ Factors p m k n (now x) 0 «x_stride» (now y) «y_start» «y_stride» (now z) 0 n × Passes k (now next) «y_start» «y_stride» n (now y) ⌝ }
-    ensures { λ _. ⌜ (length (now (z .exit)) ≡ length (now (z .entry))) × Below p (now (z .exit)) × (table p (now (z .exit)) 0 n m n ≡ negative (residues p) (product (residues p) k (table p (now (x .entry)) 0 «x_stride» m k) (table p (now (y .entry)) «y_start» «y_stride» k n))) ⌝ }
-{
-    let size = m * n;
-    words::clear(&mut z[..size]);
-    add_product(
-        p,
-        m,
-        k,
-        n,
-        x,
-        0,
-        x_stride,
-        next,
-        y,
-        y_start,
-        y_stride,
-        z,
-        0,
-        n,
-    );
-    matrix_mul::negate(p, &mut z[..size]);
+// The two halves of the rows of a table: how many rows each has, and how many numbers a row has.
+struct Split {
+    upper: usize,
+    lower: usize,
+    width: usize,
 }
 
-// T = K E and C = K - T B, for the upper rows B and the lower rows K: t becomes -T and c becomes C. The rows of E that are not
-// marked are zeros.
+// -(X Y) for Z, where the rows of X and those of Z lie one behind the other. The list leads over rows of Y that are zeros.
+fn negative_product(
+    p: u32,
+    size: Sizes,
+    x: &[u32],
+    next: &[u32],
+    y: &[u32],
+    right: Place,
+    z: &mut [u32],
+)
+    requires { ⌜ Factors p size (now x) (place 0 (size .inner)) (now y) right (now z) (place 0 (size .columns)) × Passes (size .inner) (now next) (right .start) (right .stride) (size .columns) (now y) ⌝ }
+    ensures { λ _. ⌜ IsNegativeProduct p size (now (x .entry)) (now (y .entry)) right (now (z .entry)) (now (z .exit)) ⌝ }
+{
+    let m = size.rows;
+    let k = size.inner;
+    let n = size.columns;
+    let end = m * n;
+    words::clear(&mut z[..end]);
+    let left = Place {
+        start: 0,
+        stride: k,
+    };
+    let target = Place {
+        start: 0,
+        stride: n,
+    };
+    add_product(p, size, x, left, next, y, right, z, target);
+    matrix_mul::negate(p, &mut z[..end]);
+}
+
+// T = K E and C = K - T B, for the upper rows B and the lower rows K: t becomes -T and c becomes C. E lies in d at the place
+// `block`; its rows that are not marked are zeros.
 fn reduce_rows(
     p: u32,
-    m1: usize,
-    m2: usize,
-    n: usize,
+    split: Split,
     a: &[u32],
     lower: &[u32],
     marks: &[u32],
     d: &[u32],
-    at: usize,
-    stride: usize,
+    block: Place,
     t: &mut [u32],
     c: &mut [u32],
 )
-    requires { ⌜ Halves p m1 m2 n (now a) (now d) at stride (now t) (now c) × (length (now lower) ≡ m2 * n) × Below p (now lower) × Blank (now t) × Blank (now c) × Used n m1 (now d) at stride (now marks) ⌝ }
-    ensures { λ _. ⌜ Reduced p m1 m2 n (now (a .entry)) (now (lower .entry)) (now (d .entry)) at stride (now (t .entry)) (now (c .entry)) (now (t .exit)) (now (c .exit)) ⌝ }
+    requires { ⌜ Reducible p split (now a) (now lower) (now marks) (now d) block (now t) (now c) ⌝ }
+    ensures { λ _. ⌜ Reduced p split (now (a .entry)) (now (lower .entry)) (now (d .entry)) block (now (t .entry)) (now (c .entry)) (now (t .exit)) (now (c .exit)) ⌝ }
 {
+    let m1 = split.upper;
+    let m2 = split.lower;
+    let n = split.width;
     let mut next = row_room();
     matrix_mul::list_marked(&marks[..n], &mut next);
-    negative_product(p, m2, n, m1, lower, n, &next, d, at, stride, t);
-    let size = m2 * n;
-    words::copy(lower, 0, size, c);
+    let first = Sizes {
+        rows: m2,
+        inner: n,
+        columns: m1,
+    };
+    negative_product(p, first, lower, &next, d, block, t);
+    let end = m2 * n;
+    words::copy(lower, 0, end, c);
     let each = field::sums::each_row();
-    add_product(p, m2, m1, n, t, 0, m1, &each, a, 0, n, c, 0, n);
+    let second = Sizes {
+        rows: m2,
+        inner: m1,
+        columns: n,
+    };
+    let left = Place {
+        start: 0,
+        stride: m1,
+    };
+    let rows = Place {
+        start: 0,
+        stride: n,
+    };
+    add_product(p, second, t, left, &each, a, rows, c, rows);
 }
 
-// G = F - E (B F) for F, then E - G T for E, with -T in t; c is room for -(B F). The rows of E and F that are not marked, in
-// `upper` and `marks`, are zeros; in the end `marks` has both.
+// G = F - E (B F) for F, then E - G T for E, with -T in t; c is room for -(B F). E lies in d at the place `block`, F right of
+// it. The rows of E and F that are not marked, in `upper` and `marks`, are zeros; in the end `marks` has both.
 fn join_halves(
     p: u32,
-    m1: usize,
-    m2: usize,
-    n: usize,
+    split: Split,
     a: &[u32],
     t: &[u32],
     c: &mut [u32],
     upper: &[u32],
     marks: &mut [u32],
     d: &mut [u32],
-    at: usize,
-    stride: usize,
+    block: Place,
 )
-    requires { ⌜ Halves p m1 m2 n (now a) (now d) at stride (now t) (now c) × Below p (now t) × Below p (now c) × Used n m1 (now d) at stride (now upper) × Used n m2 (now d) (at + m1) stride (now marks) ⌝ }
-    ensures { λ _. ⌜ Joined p m1 m2 n (now (a .entry)) (now (t .entry)) (now (d .entry)) (now (d .exit)) at stride × BothMarked n (now (upper .entry)) (now (marks .entry)) (now (marks .exit)) ⌝ }
+    requires { ⌜ Joinable p split (now a) (now t) (now c) (now upper) (now marks) (now d) block ⌝ }
+    ensures { λ _. ⌜ Joined p split (now (a .entry)) (now (t .entry)) (now (d .entry)) (now (d .exit)) block × BothMarked (split .width) (now (upper .entry)) (now (marks .entry)) (now (marks .exit)) ⌝ }
 {
+    let m1 = split.upper;
+    let m2 = split.lower;
+    let n = split.width;
+    let at = block.start;
     let middle = at + m1;
+    let stride = block.stride;
+    let right = Place {
+        start: middle,
+        stride,
+    };
     let mut next = row_room();
     matrix_mul::list_marked(&marks[..n], &mut next);
-    negative_product(p, m1, n, m2, a, n, &next, d, middle, stride, c);
-    add_product_within(p, n, m1, m2, upper, at, c, 0, m2, d, middle, stride);
+    let first = Sizes {
+        rows: m1,
+        inner: n,
+        columns: m2,
+    };
+    negative_product(p, first, a, &next, d, right, c);
+    let second = Sizes {
+        rows: n,
+        inner: m1,
+        columns: m2,
+    };
+    let in_c = Place {
+        start: 0,
+        stride: m2,
+    };
+    add_product_within(p, second, upper, at, c, in_c, d, right);
     add_marks(n, upper, marks);
-    add_product_within(p, n, m2, m1, marks, middle, t, 0, m1, d, at, stride);
+    let third = Sizes {
+        rows: n,
+        inner: m2,
+        columns: m1,
+    };
+    let in_t = Place {
+        start: 0,
+        stride: m1,
+    };
+    add_product_within(p, third, marks, middle, t, in_t, d, block);
 }
 
 // One of the two halves: a row, or halves again. Answers the column marks.
@@ -198,42 +243,22 @@ fn halves(
 {
     let m1 = m / 2;
     let m2 = m - m1;
+    let split = Split {
+        upper: m1,
+        lower: m2,
+        width: n,
+    };
+    let block = Place { start: at, stride };
     let cut = m1 * n;
     let upper = half(p, m1, n, &a[..cut], d, at, stride, &mut rows[..m1]);
     let lower = &a[cut..];
     let mut t = words::quarter_table();
     let mut c = words::half_table();
-    reduce_rows(
-        p,
-        m1,
-        m2,
-        n,
-        a,
-        lower,
-        &upper,
-        d,
-        at,
-        stride,
-        &mut t,
-        &mut c,
-    );
+    reduce_rows(p, split, a, lower, &upper, d, block, &mut t, &mut c);
     let middle = at + m1;
-    let size = m2 * n;
-    let mut marks = half(p, m2, n, &c[..size], d, middle, stride, &mut rows[m1..]);
-    join_halves(
-        p,
-        m1,
-        m2,
-        n,
-        a,
-        &t,
-        &mut c,
-        &upper,
-        &mut marks,
-        d,
-        at,
-        stride,
-    );
+    let end = m2 * n;
+    let mut marks = half(p, m2, n, &c[..end], d, middle, stride, &mut rows[m1..]);
+    join_halves(p, split, a, &t, &mut c, &upper, &mut marks, d, block);
     marks
 }
 

@@ -6,8 +6,21 @@ ghost use Rattle.algebra.specs.Answers.{Tells};
 ghost use Rattle.field.specs.Residue.{reduce, negated};
 ghost use Rattle.words.specs.Words.{Below, Blank, Zeros};
 ghost use Rattle.field.specs.Four.{Passes};
-ghost use Rattle.matrix_mul.specs.Places.{Factors, Multiplied, Used, Listed};
+ghost use Rattle.matrix_mul.specs.Places.{place, sizes, Factors, Multiplied, Within, Listed};
 ghost use Rattle.words.specs.Words.{Copied};
+
+// Where a block of numbers begins, and how far the starts of its rows are apart.
+pub struct Place {
+    pub start: usize,
+    pub stride: usize,
+}
+
+// The sizes of a product X Y: X has `rows` rows and `inner` columns, Y has `inner` rows and `columns` columns.
+pub struct Sizes {
+    pub rows: usize,
+    pub inner: usize,
+    pub columns: usize,
+}
 
 // Makes each number its negative modulo p.
 pub fn negate(p: u32, xs: &mut [u32])
@@ -47,13 +60,12 @@ fn add_row(
     x_at: usize,
     next: &[u32],
     y: &[u32],
-    y_start: usize,
-    y_stride: usize,
+    right: Place,
     z: &mut [u32],
     z_at: usize,
 )
-    requires { ⌜ Factors p 1 k n (now x) «x_at» k (now y) «y_start» «y_stride» (now z) «z_at» n × Passes k (now next) «y_start» «y_stride» n (now y) ⌝ }
-    ensures { λ _. ⌜ Multiplied p 1 k n (now (x .entry)) «x_at» k (now (y .entry)) «y_start» «y_stride» (now (z .entry)) (now (z .exit)) «z_at» n ⌝ }
+    requires { ⌜ Factors p (sizes 1 k n) (now x) (place «x_at» k) (now y) right (now z) (place «z_at» n) × Passes k (now next) (right .start) (right .stride) n (now y) ⌝ }
+    ensures { λ _. ⌜ Multiplied p (sizes 1 k n) (now (x .entry)) (place «x_at» k) (now (y .entry)) right (now (z .entry)) (now (z .exit)) (place «z_at» n) ⌝ }
 {
     let x_end = x_at + k;
     let by = &x[x_at..x_end];
@@ -61,34 +73,50 @@ fn add_row(
         return;
     }
     let z_end = z_at + n;
-    field::sums::combine_listed(p, by, next, y, y_start, y_stride, &mut z[z_at..z_end]);
+    field::sums::combine_listed(
+        p,
+        by,
+        next,
+        y,
+        right.start,
+        right.stride,
+        &mut z[z_at..z_end],
+    );
 }
 
-// Z + X Y for Z, where X, m rows and k columns, Y and Z lie in different places; the list leads over rows of Y that are zeros.
+// Z + X Y for Z, where X, Y and Z lie in different memory, at the places `left`, `right` and `target`; the list leads over rows
+// of Y that are zeros.
 pub fn add_product(
     p: u32,
-    m: usize,
-    k: usize,
-    n: usize,
+    size: Sizes,
     x: &[u32],
-    x_start: usize,
-    x_stride: usize,
+    left: Place,
     next: &[u32],
     y: &[u32],
-    y_start: usize,
-    y_stride: usize,
+    right: Place,
     z: &mut [u32],
-    z_start: usize,
-    z_stride: usize,
+    target: Place,
 )
-    requires { ⌜ Factors p m k n (now x) «x_start» «x_stride» (now y) «y_start» «y_stride» (now z) «z_start» «z_stride» × Passes k (now next) «y_start» «y_stride» n (now y) ⌝ }
-    ensures { λ _. ⌜ Multiplied p m k n (now (x .entry)) «x_start» «x_stride» (now (y .entry)) «y_start» «y_stride» (now (z .entry)) (now (z .exit)) «z_start» «z_stride» ⌝ }
+    requires { ⌜ Factors p size (now x) left (now y) right (now z) target × Passes (size .inner) (now next) (right .start) (right .stride) (size .columns) (now y) ⌝ }
+    ensures { λ _. ⌜ Multiplied p size (now (x .entry)) left (now (y .entry)) right (now (z .entry)) (now (z .exit)) target ⌝ }
 {
+    let m = size.rows;
     let mut i = 0;
     while i < m {
-        let x_at = x_start + i * x_stride;
-        let z_at = z_start + i * z_stride;
-        add_row(p, k, n, x, x_at, next, y, y_start, y_stride, z, z_at);
+        let x_at = left.start + i * left.stride;
+        let z_at = target.start + i * target.stride;
+        add_row(
+            p,
+            size.inner,
+            size.columns,
+            x,
+            x_at,
+            next,
+            y,
+            right,
+            z,
+            z_at,
+        );
         i += 1;
     }
 }
@@ -102,48 +130,55 @@ fn add_row_within(
     x_at: usize,
     next: &[u32],
     y: &[u32],
-    y_start: usize,
-    y_stride: usize,
+    right: Place,
     z: &mut [u32],
     z_at: usize,
 )
-    requires { ⌜ Factors p 1 k n (now z) «x_at» k (now y) «y_start» «y_stride» (now z) «z_at» n × Passes k (now next) «y_start» «y_stride» n (now y) × (mark ≡ 0 → (t : ℕ) → t < k → getD (now z) («x_at» + t) 0 ≡ 0) ⌝ }
-    ensures { λ _. ⌜ Multiplied p 1 k n (now (z .entry)) «x_at» k (now (y .entry)) «y_start» «y_stride» (now (z .entry)) (now (z .exit)) «z_at» n ⌝ }
+    requires { ⌜ Factors p (sizes 1 k n) (now z) (place «x_at» k) (now y) right (now z) (place «z_at» n) × Passes k (now next) (right .start) (right .stride) n (now y) × (mark ≡ 0 → (t : ℕ) → t < k → getD (now z) («x_at» + t) 0 ≡ 0) ⌝ }
+    ensures { λ _. ⌜ Multiplied p (sizes 1 k n) (now (z .entry)) (place «x_at» k) (now (y .entry)) right (now (z .entry)) (now (z .exit)) (place «z_at» n) ⌝ }
 {
     if mark == 0 {
         return;
     }
     let mut by = words::row_room();
     words::copy(z, x_at, k, &mut by);
-    add_row(p, k, n, &by, 0, next, y, y_start, y_stride, z, z_at);
+    add_row(p, k, n, &by, 0, next, y, right, z, z_at);
 }
 
-// The same as `add_product` where X lies in the memory of Z, with the same stride and in other columns; the rows of X whose
-// marks are 0 are zeros.
+// The same as `add_product` where X lies in the memory of Z, from `x_start` on, with the same stride and in other columns; the
+// rows of X whose marks are 0 are zeros.
 pub fn add_product_within(
     p: u32,
-    m: usize,
-    k: usize,
-    n: usize,
+    size: Sizes,
     marks: &[u32],
     x_start: usize,
     y: &[u32],
-    y_start: usize,
-    y_stride: usize,
+    right: Place,
     z: &mut [u32],
-    z_start: usize,
-    stride: usize,
+    target: Place,
 )
-    requires { ⌜ Factors p m k n (now z) «x_start» stride (now y) «y_start» «y_stride» (now z) «z_start» stride × ((i j l : ℕ) → i < m → j < k → l < n → «x_start» + j ≡ «z_start» + l → ⊥) × («x_start» + k ≤ stride) × («z_start» + n ≤ stride) × Used m k (now z) «x_start» stride (now marks) ⌝ }
-    ensures { λ _. ⌜ Multiplied p m k n (now (z .entry)) «x_start» stride (now (y .entry)) «y_start» «y_stride» (now (z .entry)) (now (z .exit)) «z_start» stride ⌝ }
+    requires { ⌜ Within p size (now marks) «x_start» (now y) right (now z) target ⌝ }
+    ensures { λ _. ⌜ Multiplied p size (now (z .entry)) (place «x_start» (target .stride)) (now (y .entry)) right (now (z .entry)) (now (z .exit)) target ⌝ }
 {
     let next = field::sums::each_row();
+    let m = size.rows;
     let mut i = 0;
     while i < m {
         let mark = marks[i];
-        let x_at = x_start + i * stride;
-        let z_at = z_start + i * stride;
-        add_row_within(p, k, n, mark, x_at, &next, y, y_start, y_stride, z, z_at);
+        let x_at = x_start + i * target.stride;
+        let z_at = target.start + i * target.stride;
+        add_row_within(
+            p,
+            size.inner,
+            size.columns,
+            mark,
+            x_at,
+            &next,
+            y,
+            right,
+            z,
+            z_at,
+        );
         i += 1;
     }
 }

@@ -2,6 +2,7 @@
 -- that stood in z.
 use native.Mathlib.Omega.{arith}
 use borrow.Author.Needs.{needs}
+use Rattle.matrix_mul.specs.Places.{place}
 use Rattle.matrix_mul.proofs.Places.{copied-below}
 use Rattle.matrix_mul.proofs.PlaceRows.{row-fits, row-skipped, factors-front, copied-row, multiplied-left}
 use Rattle.matrix_mul.proofs.add_row_within.Statement.{statement}
@@ -43,7 +44,7 @@ same-length c = search needs
 returns-2 : tie.Need-returns-2
 returns-2 c =
     let s = c .before .before .before .before .before .before .before .before .before .before .before .before .before .before in
-    multiplied-left (s .args .z .now) (s .args .x-at) (s .args .k)
+    multiplied-left (s .args .z .now) (place (s .args .x-at) (s .args .k))
     (copied-row (s .args .p) (s .args .k) (c .before .before .before .before .before .before .copy .ensures))
     (c .before .before .add-row .ensures)
 

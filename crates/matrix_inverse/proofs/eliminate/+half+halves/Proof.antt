@@ -9,11 +9,11 @@ use lib.ListN.{length}
 use borrow.Author.Needs.{needs}
 use borrow.Fn.Kinds.{In}
 use borrow.Fn.PlainCycle.{Measures, is, falls, and}
-use Rattle.matrix_mul.specs.Places.{Used}
-use Rattle.matrix_inverse.specs.Eliminated.{Halves}
+use Rattle.matrix_mul.specs.Places.{place, Used}
+use Rattle.matrix_inverse.specs.Steps.{split, Halves}
 use Rattle.matrix_inverse.proofs.ElimMarks.{fresh-long}
 use Rattle.matrix_inverse.proofs.ElimColumns.{fresh-columns, columns-joined, marked-used, used-kept}
-use Rattle.matrix_inverse.proofs.ElimHalves.{Split, halved, cut, upper-size, lower-size, upper-inside, upper-call, lower-long, lower-below, rows-whole, between, reduced-inside, lower-call, after, joined-halves}
+use Rattle.matrix_inverse.proofs.ElimHalves.{Splits, halved, cut, upper-size, lower-size, upper-inside, upper-call, lower-long, lower-below, rows-whole, between, reduced-inside, lower-call, after, joined-halves}
 use Rattle.matrix_inverse.proofs.eliminate.half.Reads as half
 use Rattle.matrix_inverse.proofs.eliminate.half.Kinds as half-kinds
 use Rattle.matrix_inverse.proofs.eliminate.+half+halves.Lts-half as half-lts
@@ -106,8 +106,8 @@ module _ (t : ℕ) where
   abbrev rooms-of : halves-lts.After-reduce-rows (halves-claims t) (halves-at t) halves.Post → halves-lts.After-half-table (halves-claims t) (halves-at t) halves.Post
   rooms-of c = c .before .before .before .before .before
 
-  split : (s : halves-lts.Start (halves-claims t) (halves-at t) halves.Post) → Split (s .args .m) (s .args .m / 2) (s .args .m - s .args .m / 2)
-  split s = halved (s .args .m) (s .pre .1 .0 .m-most)
+  splits : (s : halves-lts.Start (halves-claims t) (halves-at t) halves.Post) → Splits (s .args .m) (s .args .m / 2) (s .args .m - s .args .m / 2)
+  splits s = halved (s .args .m) (s .pre .1 .0 .m-most)
 
   -- the upper half of the rows
   sub-m2 : halves-lts.Need-sub-m2 (halves-claims t) (halves-at t) halves.Post
@@ -116,27 +116,27 @@ module _ (t : ℕ) where
   mul-cut : halves-lts.Need-mul-cut (halves-claims t) (halves-at t) halves.Post
   mul-cut c =
       let s = c .before .before .before in
-      omega (arith, upper-size (s .pre .1 .0) (split s))
+      omega (arith, upper-size (s .pre .1 .0) (splits s))
 
   slice-aggregate-half : halves-lts.Need-slice-aggregate-half (halves-claims t) (halves-at t) halves.Post
   slice-aggregate-half c =
       let s = c .before .before .before .before in
-      sym (upper-call (s .pre .1 .0) (split s) .a-long)
+      sym (upper-call (s .pre .1 .0) (splits s) .a-long)
 
   slice-relend-prefix-half : halves-lts.Need-slice-relend-prefix-half (halves-claims t) (halves-at t) halves.Post
   slice-relend-prefix-half c =
       let s = c .before .before .before .before .before in
-      upper-inside (s .pre .1 .0) (split s)
+      upper-inside (s .pre .1 .0) (splits s)
 
   slice-aggregate-half-2 : halves-lts.Need-slice-aggregate-half-2 (halves-claims t) (halves-at t) halves.Post
   slice-aggregate-half-2 c =
       let s = c .before .before .before .before .before .before in
-      sym (upper-call (s .pre .1 .0) (split s) .rows-long)
+      sym (upper-call (s .pre .1 .0) (splits s) .rows-long)
 
   half-requires : halves-lts.Need-half-requires (halves-claims t) (halves-at t) halves.Post
   half-requires c κs =
       let s = c .before .before .before .before .before .before in
-      (omega arith, (upper-call (s .pre .1 .0) (split s), omega arith))
+      (omega arith, (upper-call (s .pre .1 .0) (splits s), omega arith))
 
   -- its column marks, and that they tell which rows of E are zeros
   upper-marks : (c : halves-lts.After-half (halves-claims t) (halves-at t) halves.Post) → length (c .half .result) ≡ 64
@@ -144,7 +144,7 @@ module _ (t : ℕ) where
 
   upper-used : (c : halves-lts.After-half (halves-claims t) (halves-at t) halves.Post) →
       let s = start-of c in
-      Used (s .args .n) (s .args .m / 2) (c .half .last .1 .1 .1 .1 .0) (s .args .at) (s .args .stride) (c .half .result)
+      Used (s .args .n) (s .args .m / 2) (c .half .last .1 .1 .1 .1 .0) (place (s .args .at) (s .args .stride)) (c .half .result)
   upper-used c =
       let s = start-of c in
       let E = c .half .ensures in
@@ -154,17 +154,17 @@ module _ (t : ℕ) where
   mul-lower : halves-lts.Need-mul-lower (halves-claims t) (halves-at t) halves.Post
   mul-lower c =
       let s = c .before .before .before .before .before .before .before .before .before .before .before in
-      omega (arith, upper-size (s .pre .1 .0) (split s))
+      omega (arith, upper-size (s .pre .1 .0) (splits s))
 
   sub-lower : halves-lts.Need-sub-lower (halves-claims t) (halves-at t) halves.Post
   sub-lower c =
       let s = c .before .before .before .before .before .before .before .before .before .before .before in
-      omega (arith, cut (s .pre .1 .0) (split s))
+      omega (arith, cut (s .pre .1 .0) (splits s))
 
   part-lower-start : halves-lts.Need-part-lower-start (halves-claims t) (halves-at t) halves.Post
   part-lower-start c =
       let s = c .before .before .before .before .before .before .before .before .before .before .before in
-      omega (arith, cut (s .pre .1 .0) (split s))
+      omega (arith, cut (s .pre .1 .0) (splits s))
 
   part-lower-end : halves-lts.Need-part-lower-end (halves-claims t) (halves-at t) halves.Post
   part-lower-end c = le-refl _
@@ -190,14 +190,15 @@ module _ (t : ℕ) where
       let upper = upper-of rooms in
       let s = start-of upper in
       let t-zeros = rooms .before .quarter-table .ensures in
-      let c-zeros = rooms .half-table .ensures in (
-        between (s .pre .1 .0) (split s) (upper .half .ensures) _ _ (t-zeros .0) (c-zeros .0),
-        lower-long (s .pre .1 .0) (split s),
-        lower-below (s .pre .1 .0) (split s),
-        t-zeros .1,
-        c-zeros .1,
-        upper-used upper,
-      )
+      let c-zeros = rooms .half-table .ensures in
+      record {
+        halves = between (s .pre .1 .0) (splits s) (upper .half .ensures) _ _ (t-zeros .0) (c-zeros .0);
+        lower-long = lower-long (s .pre .1 .0) (splits s);
+        lower-below = lower-below (s .pre .1 .0) (splits s);
+        t-blank = t-zeros .1;
+        c-blank = c-zeros .1;
+        used = upper-used upper;
+      }
 
   -- the reduced lower rows
   add-middle : halves-lts.Need-add-middle (halves-claims t) (halves-at t) halves.Post
@@ -205,10 +206,10 @@ module _ (t : ℕ) where
       let s = c .before .before .before .before .before .before .before .before .before .before .before .before .before .before .before .before .before .before .before .before .before in
       omega (arith, s .pre .1 .0 .fits, s .pre .1 .0 .stride-most)
 
-  mul-size : halves-lts.Need-mul-size (halves-claims t) (halves-at t) halves.Post
-  mul-size c =
+  mul-end : halves-lts.Need-mul-end (halves-claims t) (halves-at t) halves.Post
+  mul-end c =
       let s = c .before .before .before .before .before .before .before .before .before .before .before .before .before .before .before .before .before .before .before .before .before in
-      omega (arith, lower-size (s .pre .1 .0) (split s))
+      omega (arith, lower-size (s .pre .1 .0) (splits s))
 
   array-share-prefix-c : halves-lts.Need-array-share-prefix-c (halves-claims t) (halves-at t) halves.Post
   array-share-prefix-c c =
@@ -216,7 +217,7 @@ module _ (t : ℕ) where
       let rooms = rooms-of reduced in
       let upper = upper-of rooms in
       let s = start-of upper in
-      reduced-inside (s .pre .1 .0) (split s) (upper .half .ensures)
+      reduced-inside (s .pre .1 .0) (splits s) (upper .half .ensures)
       (rooms .before .quarter-table .ensures .0)
       (rooms .half-table .ensures .0)
       (reduced .reduce-rows .ensures)
@@ -227,7 +228,7 @@ module _ (t : ℕ) where
       let rooms = rooms-of reduced in
       let upper = upper-of rooms in
       let s = start-of upper in
-      sym (lower-call (s .pre .1 .0) (split s) (upper .half .ensures)
+      sym (lower-call (s .pre .1 .0) (splits s) (upper .half .ensures)
       (rooms .before .quarter-table .ensures .0)
       (rooms .half-table .ensures .0)
       (reduced .reduce-rows .ensures) .a-long)
@@ -235,19 +236,19 @@ module _ (t : ℕ) where
   mul-half : halves-lts.Need-mul-half (halves-claims t) (halves-at t) halves.Post
   mul-half c =
       let s = c .before .before .before .before .before .before .before .before .before .before .before .before .before .before .before .before .before .before .before .before .before .before .before in
-      omega (arith, split s .upper-most)
+      omega (arith, splits s .upper-most)
 
   sub-half : halves-lts.Need-sub-half (halves-claims t) (halves-at t) halves.Post
   sub-half c =
       let upper = c .before .before .before .before .before .before .before .before .before .before .before .before .before .before .before .before in
       let s = start-of upper in
-      omega (arith, upper-inside (s .pre .1 .0) (split s), rows-whole (s .pre .1 .0) (split s) (upper .half .ensures))
+      omega (arith, upper-inside (s .pre .1 .0) (splits s), rows-whole (s .pre .1 .0) (splits s) (upper .half .ensures))
 
   part-half-start : halves-lts.Need-part-half-start (halves-claims t) (halves-at t) halves.Post
   part-half-start c =
       let upper = c .before .before .before .before .before .before .before .before .before .before .before .before .before .before .before .before in
       let s = start-of upper in
-      omega (arith, upper-inside (s .pre .1 .0) (split s), rows-whole (s .pre .1 .0) (split s) (upper .half .ensures))
+      omega (arith, upper-inside (s .pre .1 .0) (splits s), rows-whole (s .pre .1 .0) (splits s) (upper .half .ensures))
 
   part-half-end : halves-lts.Need-part-half-end (halves-claims t) (halves-at t) halves.Post
   part-half-end c = le-refl _
@@ -260,7 +261,7 @@ module _ (t : ℕ) where
       let s = start-of upper in (
         omega (arith, s .pre .0, s .pre .1 .1),
         (
-          fresh-columns (lower-call (s .pre .1 .0) (split s) (upper .half .ensures)
+          fresh-columns (lower-call (s .pre .1 .0) (splits s) (upper .half .ensures)
               (rooms .before .quarter-table .ensures .0)
               (rooms .half-table .ensures .0)
               (reduced .reduce-rows .ensures)),
@@ -273,14 +274,15 @@ module _ (t : ℕ) where
     joinable :
         let reduced = lower .before .before .before .before .before .before in
         let s = start-of (upper-of (rooms-of reduced)) in
-        Halves (s .args .p) (s .args .m / 2) (s .args .m - s .args .m / 2) (s .args .n) (s .args .a .now) (lower .half2 .last .1 .1 .1 .1 .0) (s .args .at) (s .args .stride)
-        (reduced .reduce-rows .last .1 .1 .1 .1 .1 .1 .1 .1 .1 .1 .0) (reduced .reduce-rows .last .1 .1 .1 .1 .1 .1 .1 .1 .1 .1 .1 .0)
+        Halves (s .args .p) (split (s .args .m / 2) (s .args .m - s .args .m / 2) (s .args .n)) (s .args .a .now)
+        (lower .half2 .last .1 .1 .1 .1 .0) (place (s .args .at) (s .args .stride))
+        (reduced .reduce-rows .last .1 .1 .1 .1 .1 .1 .1 .0) (reduced .reduce-rows .last .1 .1 .1 .1 .1 .1 .1 .1 .0)
     joinable =
         let reduced = lower .before .before .before .before .before .before in
         let rooms = rooms-of reduced in
         let upper = upper-of rooms in
         let s = start-of upper in
-        after (s .pre .1 .0) (split s) (upper .half .ensures)
+        after (s .pre .1 .0) (splits s) (upper .half .ensures)
         (rooms .before .quarter-table .ensures .0)
         (rooms .half-table .ensures .0)
         (reduced .reduce-rows .ensures)
@@ -306,13 +308,14 @@ module _ (t : ℕ) where
       let upper = upper-of (rooms-of reduced) in
       let s = start-of upper in
       let h = joinable lower in
-      let E = lower .half2 .ensures in (
-        h,
-        reduced .reduce-rows .ensures .t-below,
-        reduced .reduce-rows .ensures .c-below,
-        used-kept (h .fits) (E .kept) (upper-used upper),
-        marked-used E (h .d-long) (omega (arith, h .fits)) (h .n-most),
-      )
+      let E = lower .half2 .ensures in
+      record {
+        halves = h;
+        t-below = reduced .reduce-rows .ensures .t-below;
+        c-below = reduced .reduce-rows .ensures .c-below;
+        upper-used = used-kept (h .fits) (E .kept) (upper-used upper);
+        lower-used = marked-used E (h .d-long) (omega (arith, h .fits)) (h .n-most);
+      }
 
   -- the whole table
   returns : halves-lts.Need-returns (halves-claims t) (halves-at t) halves.Post
@@ -324,7 +327,7 @@ module _ (t : ℕ) where
       let upper = upper-of rooms in
       let s = start-of upper in
       let e = joined .join-halves .ensures in
-      joined-halves (s .pre .1 .0) (split s) (upper .half .ensures)
+      joined-halves (s .pre .1 .0) (splits s) (upper .half .ensures)
       (rooms .before .quarter-table .ensures .0)
       (rooms .half-table .ensures .0)
       (reduced .reduce-rows .ensures)
@@ -366,7 +369,7 @@ pub +half+halves-spec : {M : Type 1} → statement M
     (slice-aggregate-reduce-rows-3 t)
     (reduce-rows-requires t)
     (add-middle t)
-    (mul-size t)
+    (mul-end t)
     (array-share-prefix-c t)
     (slice-aggregate-half-3 t)
     (mul-half t)

@@ -19,10 +19,10 @@ row-room-requires : tie.Need-row-room-requires
 row-room-requires c κs = search needs
 
 slice-reshare-prefix-list-marked : tie.Need-slice-reshare-prefix-list-marked
-slice-reshare-prefix-list-marked c = c .before .before .before .before .before .before .before .pre .4 .long
+slice-reshare-prefix-list-marked c = c .before .before .before .before .before .before .before .pre .lower-used .long
 
 slice-aggregate-list-marked : tie.Need-slice-aggregate-list-marked
-slice-aggregate-list-marked c = sym (length-take-le _ _ (c .before .before .before .before .before .before .before .before .pre .4 .long))
+slice-aggregate-list-marked c = sym (length-take-le _ _ (c .before .before .before .before .before .before .before .before .pre .lower-used .long))
 
 slice-aggregate-list-marked-2 : tie.Need-slice-aggregate-list-marked-2
 slice-aggregate-list-marked-2 c = sym (c .before .before .row-room .ensures .0)
@@ -31,8 +31,8 @@ list-marked-requires : tie.Need-list-marked-requires
 list-marked-requires c κs =
     let s = c .before .before .before .before .before .before .before .before .before in
     let pre = s .pre in
-    let long = length-take-le (s .args .n) (s .args .marks .now) (pre .4 .long) in
-    (omega (arith, long, pre .0 .n-most), omega (arith, long, pre .0 .n-most, c .before .before .row-room .ensures .0))
+    let long = length-take-le (s .args .split .width) (s .args .marks .now) (pre .lower-used .long) in
+    (omega (arith, long, pre .halves .n-most), omega (arith, long, pre .halves .n-most, c .before .before .row-room .ensures .0))
 
 slice-aggregate-negative-product : tie.Need-slice-aggregate-negative-product
 slice-aggregate-negative-product c = sym (c .before .before .list-marked .ensures .0 ∙ c .before .before .before .before .before .row-room .ensures .0)
@@ -40,20 +40,19 @@ slice-aggregate-negative-product c = sym (c .before .before .list-marked .ensure
 negative-product-requires : tie.Need-negative-product-requires
 negative-product-requires c κs =
     let pre = c .before .before .before .before .before .before .before .before .before .before .before .before .before .before .pre in
-    (join-first (pre .0) (pre .2), listed-passes (pre .4) (c .before .before .before .before .list-marked .ensures .1))
+    (join-first (pre .halves) (pre .c-below), listed-passes (pre .lower-used) (c .before .before .before .before .list-marked .ensures .1))
 
 add-product-within-requires : tie.Need-add-product-within-requires
 add-product-within-requires c κs =
     let negative = c .before .before .before .before in
     let pre = negative .before .before .before .before .before .before .before .before .before .before .before .before .before .before .before .pre in
     let e = negative .negative-product .ensures in
-    let second = join-second (pre .0) _ (e .0) (e .1) in
-    (second .0, second .1, second .2, second .3, pre .3)
+    join-second (pre .halves) _ (e .same-length) (e .below) (pre .upper-used)
 
 add-marks-requires : tie.Need-add-marks-requires
 add-marks-requires c κs =
     let pre = c .before .before .before .before .before .before .before .before .before .before .before .before .before .before .before .before .before .before .before .before .before .before .before .pre in
-    (pre .3 .long, pre .4 .long)
+    (pre .upper-used .long, pre .lower-used .long)
 
 add-product-within-requires-2 : tie.Need-add-product-within-requires-2
 add-product-within-requires-2 c κs =
@@ -61,14 +60,10 @@ add-product-within-requires-2 c κs =
     let both = c .before .before .before .before .add-marks .ensures in
     let pre = within .before .before .before .before .before .before .before .before .before .before .before .before .before .before .before .before .before .before .before .before .pre in
     let e = within .add-product-within .ensures in
-    let third = join-third (pre .0) (pre .1) _ (e .kept) in (
-      third .0,
-      third .1,
-      third .2,
-      third .3,
-      used-product (modulus-positive (pre .0)) (lower-block (pre .0)) e (pre .3) (pre .4) (omega (arith, pre .4 .long, both .same-length))
-          (both-zero both),
-    )
+    join-third (pre .halves) (pre .t-below) _ (e .kept)
+    (used-product (modulus-positive (pre .halves)) (lower-block (pre .halves)) e (pre .upper-used) (pre .lower-used)
+    (omega (arith, pre .lower-used .long, both .same-length))
+    (both-zero both))
 
 same-length : tie.Need-same-length
 same-length c = search needs
@@ -84,7 +79,7 @@ returns c =
     let first = c .before .before .before .before .before .before .before .before .before .before .before in
     let negative = c .before .before .before .before .before .before .before .before .before .before .before .before .before .before .before .before in
     let pre = negative .before .before .before .before .before .before .before .before .before .before .before .before .before .before .before .pre in (
-      joined (pre .0) (negative .negative-product .ensures .2) (first .add-product-within .ensures)
+      joined (pre .halves) (negative .negative-product .ensures) (first .add-product-within .ensures)
           (c .before .before .add-product-within2 .ensures),
       c .before .before .before .before .before .before .before .add-marks .ensures,
     )

@@ -10,8 +10,8 @@ use Rattle.matrix_inverse.proofs.StepNegative.{size-inside, cleared-lon
 use Rattle.matrix_inverse.proofs.eliminate.negative_product.Statement.{statement}
 use Rattle.matrix_inverse.proofs.eliminate.negative_product.Tie as tie
 
-mul-size : tie.Need-mul-size
-mul-size c =
+mul-end : tie.Need-mul-end
+mul-end c =
     let s = c .before .before .before .before in
     let h = size-inside (s .pre .0) in
     omega (arith, s .good)
@@ -35,7 +35,7 @@ add-product-requires c κs =
 rows-inside :
     (c : tie.After-slice-known3) →
     let s = c .before .before .before .before .before .before .before .before .before .before .before .before in
-    s .args .m * s .args .n ≤ length (c .before .before .add-product .last .1 .1 .1 .1 .1 .1 .1 .1 .1 .1 .1 .0)
+    s .args .size .rows * s .args .size .columns ≤ length (c .before .before .add-product .last .1 .1 .1 .1 .1 .1 .1 .0)
 rows-inside c =
     let cleared = c .before .before .before .before .before .before in
     let f = cleared .before .before .before .before .before .before .pre .0 in
@@ -58,7 +58,7 @@ negate-requires c κs =
     let added = c .before .before .before .add-product in (
       s .pre .0 .positive,
       s .pre .0 .in-range,
-      taken-below _ (added .last .1 .1 .1 .1 .1 .1 .1 .1 .1 .1 .1 .0) (s .args .m * s .args .n) (added .ensures .kept .below),
+      taken-below _ (added .last .1 .1 .1 .1 .1 .1 .1 .0) (s .args .size .rows * s .args .size .columns) (added .ensures .kept .below),
     )
 
 same-length : tie.Need-same-length
@@ -79,7 +79,7 @@ pub negative-product-spec : {M : Type 1} → statement M
 negative-product-spec =
     tie.close
     (tie.spec
-    mul-size
+    mul-end
     slice-relend-prefix-clear
     slice-aggregate-clear
     clear-requires

@@ -14,7 +14,7 @@ row-room-requires : tie.Need-row-room-requires
 row-room-requires c κs = search needs
 
 slice-aggregate-list-marked : tie.Need-slice-aggregate-list-marked
-slice-aggregate-list-marked c = sym (length-take-le _ _ (c .before .before .before .before .before .before .before .before .pre .5 .long))
+slice-aggregate-list-marked c = sym (length-take-le _ _ (c .before .before .before .before .before .before .before .before .pre .used .long))
 
 slice-aggregate-list-marked-2 : tie.Need-slice-aggregate-list-marked-2
 slice-aggregate-list-marked-2 c = sym (c .before .before .row-room .ensures .0)
@@ -23,8 +23,8 @@ list-marked-requires : tie.Need-list-marked-requires
 list-marked-requires c κs =
     let s = c .before .before .before .before .before .before .before .before .before in
     let pre = s .pre in
-    let long = length-take-le (s .args .n) (s .args .marks .now) (pre .5 .long) in
-    (omega (arith, long, pre .0 .n-most), omega (arith, long, pre .0 .n-most, c .before .before .row-room .ensures .0))
+    let long = length-take-le (s .args .split .width) (s .args .marks .now) (pre .used .long) in
+    (omega (arith, long, pre .halves .n-most), omega (arith, long, pre .halves .n-most, c .before .before .row-room .ensures .0))
 
 slice-aggregate-negative-product : tie.Need-slice-aggregate-negative-product
 slice-aggregate-negative-product c = sym (c .before .before .list-marked .ensures .0 ∙ c .before .before .before .before .before .row-room .ensures .0)
@@ -32,17 +32,17 @@ slice-aggregate-negative-product c = sym (c .before .before .list-marked .ensure
 negative-product-requires : tie.Need-negative-product-requires
 negative-product-requires c κs =
     let pre = c .before .before .before .before .before .before .before .before .before .before .before .before .before .pre in (
-      reduce-first _ (pre .0) (pre .1) (pre .2) (pre .3) (pre .4),
-      listed-passes (pre .5) (c .before .before .before .list-marked .ensures .1),
+      reduce-first pre,
+      listed-passes (pre .used) (c .before .before .before .list-marked .ensures .1),
     )
 
-mul-size : tie.Need-mul-size
-mul-size c = search needs
+mul-end : tie.Need-mul-end
+mul-end c = search needs
 
 copy-requires : tie.Need-copy-requires
 copy-requires c κs =
     let pre = c .before .before .before .before .before .before .before .before .before .before .before .before .before .before .before .before .before .pre in
-    (omega (arith, pre .1), half-room (pre .0))
+    (omega (arith, pre .lower-long), half-room (pre .halves))
 
 each-row-requires : tie.Need-each-row-requires
 each-row-requires c κs = search needs
@@ -54,10 +54,9 @@ add-product-requires : tie.Need-add-product-requires
 add-product-requires c κs =
     let each = c .before .before .before .each-row .ensures in
     let negative = c .before .before .before .before .before .before .before .before .before .before in
-    let pre = negative .before .before .before .before .before .before .before .before .before .before .before .before .before .before .pre in
-    let e = negative .negative-product .ensures in (
-      reduce-second _ (pre .0) (pre .1) (pre .2) (pre .3) (pre .4) _ (e .0) (e .1) _ (c .before .before .before .before .before .before .copy .ensures),
-      each-passes _ _ _ _ _ _ (omega (arith, pre .0 .upper-most)) (each .0) (each .1),
+    let pre = negative .before .before .before .before .before .before .before .before .before .before .before .before .before .before .pre in (
+      reduce-second pre (negative .negative-product .ensures) (c .before .before .before .before .before .before .copy .ensures),
+      each-passes _ _ _ _ _ _ (omega (arith, pre .halves .upper-most)) (each .0) (each .1),
     )
 
 same-length : tie.Need-same-length
@@ -70,8 +69,7 @@ returns : tie.Need-returns
 returns c =
     let negative = c .before .before .before .before .before .before .before .before .before .before .before .before .before in
     let pre = negative .before .before .before .before .before .before .before .before .before .before .before .before .before .before .pre in
-    let e = negative .negative-product .ensures in
-    reduced _ (pre .0) (pre .1) (pre .2) (pre .3) (pre .4) _ (e .0) (e .1) _ (c .before .before .before .before .before .before .before .before .before .copy .ensures) (e .2)
+    reduced pre (negative .negative-product .ensures) (c .before .before .before .before .before .before .before .before .before .copy .ensures)
     (c .before .before .add-product .ensures)
 
 pub reduce-rows-spec : {M : Type 1} → statement M
@@ -84,7 +82,7 @@ reduce-rows-spec =
     list-marked-requires
     slice-aggregate-negative-product
     negative-product-requires
-    mul-size
+    mul-end
     copy-requires
     each-row-requires
     slice-aggregate-add-product
