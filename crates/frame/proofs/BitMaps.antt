@@ -1,7 +1,7 @@
 -- The map of eight bytes and the bytes that it was built from: the same bits where the bytes reach and none past them. So
 -- none stands at n or above exactly if the bytes are unpadded, and then all standing bits are those of the records.
 use mathlib.Core.Path.{_≡_, refl, sym, ap, _∙_}
-use mathlib.Core.Bool.{true, false}
+use mathlib.Core.Bool.{false}
 use mathlib.Core.List.{List, _++_}
 use Prim.Native.Nat.{ℕ, zero, suc, _+_, _*_, _-_, _/_, _≤_, _<_}
 use native.Mathlib.Nat.{add-zero, zero-add, zero-div}
@@ -11,9 +11,9 @@ use native.Mathlib.Omega.{arith}
 use lib.ListN.{length, getD, set, take, replicate, List·getD-append}
 use lib.Seq.{length-take-le, take-suc, append-snoc, set-at, getD-append-add, getD-take}
 use Rattle.frame.specs.Format.{mapLength}
-use Rattle.frame.specs.Reading.{bitAt, standing, recordBits, Unpadded}
-use Rattle.frame.specs.Bitmap.{mapFrom, standingFrom}
-use Rattle.frame.proofs.Bits.{count, count-record-bits, count-small, count-runs, count-clear, stands-counts, clear-of-count, bits-agree}
+use Rattle.checks.specs.Largest.{largest}
+use Rattle.frame.specs.Bitmap.{bitAt, standing, recordBits, ClearFrom, Unpadded, mapFrom, mapBits}
+use Rattle.frame.proofs.Bits.{count, count-record-bits, count-small, count-runs, count-clear, bits-agree}
 
 -- ---- building the map
 
@@ -62,25 +62,15 @@ module _ (len : ℕ) (bytes : List ℕ) (fits : len ≤ length bytes) where
 
 -- ---- its standing bits
 
-pub standing-small : (map : List ℕ) → standingFrom 0 map ≤ 64
-unfolding standingFrom count
-standing-small map = count-small map 0 64
-
--- none stands at n or above: none is counted there, and one that stands is
-pub none-from : (n : ℕ) (map : List ℕ) → ((j : ℕ) → j < 64 → n ≤ j → bitAt map j ≡ false) → standingFrom n map ≡ 0
-unfolding standingFrom count
-none-from n map clear = count-clear map n (64 - n) (λ j h l. clear j (omega arith) h)
-
-pub one-from : (n : ℕ) (map : List ℕ) (j : ℕ) → j < 64 → n ≤ j → bitAt map j ≡ true → standingFrom n map ≡ 0 → ⊥
-unfolding standingFrom count
-one-from n map j h l = stands-counts map n (64 - n) j l (omega arith)
+pub standing-small : (map : List ℕ) → standing (mapBits map) ≤ largest
+standing-small map = rw count-record-bits (count-small map 0 64)
 
 -- where none stands at n or above, the standing bits of the map are those of the first n
-pub standing-first : (n : ℕ) (map : List ℕ) → n ≤ 64 → standingFrom n map ≡ 0 → standingFrom 0 map ≡ standing (recordBits n map)
-unfolding standingFrom count
-standing-first n map small none =
+pub standing-first : (n : ℕ) (map : List ℕ) → n ≤ largest → ClearFrom n largest map → standing (mapBits map) ≡ standing (recordBits n map)
+standing-first n map small clear =
     let all : 64 ≡ n + (64 - n) = omega arith in
-    ap (count map 0) all ∙ count-runs map 0 n (64 - n) ∙ rw (zero-add n, none, add-zero, count-record-bits)
+    let none = count-clear map n (64 - n) (λ j h l. clear j (omega arith) h) in
+    rw (count-record-bits, count-record-bits) (ap (count map 0) all ∙ count-runs map 0 n (64 - n) ∙ rw (zero-add n, none, add-zero))
 
 -- ---- the map of the front of a frame of n records
 
@@ -93,15 +83,13 @@ module _ (n : ℕ) (bytes : List ℕ) (fits : mapLength n ≤ length bytes) wher
       (λ i _ h. bit-of-map (mapLength n) bytes fits i (omega arith))
 
   -- none stands at n or above exactly if the bytes are unpadded
-  pub none-unpadded : n ≤ 64 → standingFrom n (mapFrom (mapLength n) bytes) ≡ 0 → Unpadded n bytes
-  unfolding mapLength standingFrom count
-  none-unpadded small none j h l =
-      sym (bit-of-map (mapLength n) bytes fits j h)
-      ∙ clear-of-count (mapFrom (mapLength n) bytes) n (64 - n) j none l (omega arith)
+  pub clear-unpadded : n ≤ largest → ClearFrom n largest (mapFrom (mapLength n) bytes) → Unpadded n bytes
+  unfolding mapLength
+  clear-unpadded small clear j h l = sym (bit-of-map (mapLength n) bytes fits j h) ∙ clear j (omega arith) l
 
-  pub unpadded-none : Unpadded n bytes → standingFrom n (mapFrom (mapLength n) bytes) ≡ 0
-  unpadded-none clear = none-from n (mapFrom (mapLength n) bytes) (λ j _ l. by-place j l (decLt j (8 * mapLength n)))
+  pub unpadded-clear : Unpadded n bytes → ClearFrom n largest (mapFrom (mapLength n) bytes)
+  unpadded-clear clear j _ l = by-place (decLt j (8 * mapLength n))
     where
-      by-place : (j : ℕ) → n ≤ j → Dec (j < 8 * mapLength n) → bitAt (mapFrom (mapLength n) bytes) j ≡ false
-      by-place j l (yes k) = bit-of-map (mapLength n) bytes fits j k ∙ clear j k l
-      by-place j l (no k) = bit-past-map (mapLength n) bytes fits j (omega arith)
+      by-place : Dec (j < 8 * mapLength n) → bitAt (mapFrom (mapLength n) bytes) j ≡ false
+      by-place (yes k) = bit-of-map (mapLength n) bytes fits j k ∙ clear j k l
+      by-place (no k) = bit-past-map (mapLength n) bytes fits j (omega arith)

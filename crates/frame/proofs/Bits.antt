@@ -1,17 +1,16 @@
 -- The bits of a map, and how many of a run of them stand. Runs are counted apart, the eight bits of a byte are its binary
--- digits, and a run counts 0 exactly if none of it stands.
+-- digits, and a run of which none stands counts 0.
 use mathlib.Core.Path.{_≡_, refl, sym, ap, ap₂, _∙_}
 use mathlib.Core.Bool.{Bool, true, false}
 use mathlib.Core.List.{List, [], _∷_}
 use Prim.Native.Nat.{ℕ, zero, suc, _+_, _*_, _/_, _%_, _^_, _≤_, _<_}
 use native.Mathlib.Nat.{add-zero, zero-add, div-div-eq-div-mul, pow-suc, mod-lt}
-use native.Mathlib.Decide.{ℕ-discrete}
 use native.Mathlib.Omega.{arith}
 use lib.ListN.{getD}
 use lib.Dec.{eqb}
 use lib.Count.{ones, ones-step, ones-le}
 use Rattle.algebra.specs.Choice.{choose}
-use Rattle.frame.specs.Reading.{bitAt, bitsFrom, standing, recordBits}
+use Rattle.frame.specs.Bitmap.{bitAt, bitsFrom, standing, recordBits}
 
 -- ---- the equations of the bits and of their number
 
@@ -111,25 +110,9 @@ bits-agree xs ys j (suc k) h =
     ∙ ap₂ _∷_ (h j (omega arith) (omega arith)) (bits-agree xs ys (suc j) k (λ i a b. h i (omega arith) (omega arith)))
     ∙ sym (bits-more ys j k)
 
--- none is counted exactly if none stands
+-- none is counted where none stands
 pub count-clear : (bytes : List ℕ) (j k : ℕ) → ((i : ℕ) → j ≤ i → i < j + k → bitAt bytes i ≡ false) → count bytes j k ≡ 0
 count-clear bytes j zero h = count-none bytes j
 count-clear bytes j (suc k) h =
     count-more bytes j k
     ∙ rw (h j (omega arith) (omega arith), zero-add) (count-clear bytes (suc j) k (λ i a b. h i (omega arith) (omega arith)))
-
-pub stands-counts : (bytes : List ℕ) (j k i : ℕ) → j ≤ i → i < j + k → bitAt bytes i ≡ true → count bytes j k ≡ 0 → ⊥
-stands-counts bytes j zero i h l e none = omega arith
-stands-counts bytes j (suc k) i h l e none =
-    here (ℕ-discrete i j) (λ n. stands-counts bytes (suc j) k i (omega arith) (omega arith) e)
-  where
-    here : Dec (i ≡ j) → ((i ≡ j → ⊥) → count bytes (suc j) k ≡ 0 → ⊥) → ⊥
-    here (yes same) rest = omega (arith, rw (rw same at e) at (count-more bytes j k))
-    here (no n) rest = rest n (omega (arith, count-more bytes j k))
-
-pub clear-of-count : (bytes : List ℕ) (j k i : ℕ) → count bytes j k ≡ 0 → j ≤ i → i < j + k → bitAt bytes i ≡ false
-clear-of-count bytes j k i none h l = by-bit (bitAt bytes i) refl
-  where
-    by-bit : (b : Bool) → bitAt bytes i ≡ b → bitAt bytes i ≡ false
-    by-bit false e = e
-    by-bit true e = absurd (stands-counts bytes j k i h l e none)

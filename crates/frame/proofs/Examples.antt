@@ -20,18 +20,21 @@ written-reads :
     (e : FrameExample) → e .modulus ≤ 2147483647 → Writes (e .modulus) (e .size) (e .multipliers) (e .value) (e .bytes) → Reads e
 written-reads e range w =
     rw (← (w .bytes-are))
-    (written-reads-back (e .modulus) (e .size) (e .multipliers) (e .value) range (w .long) (w .below) (w .value-below))
+    (written-reads-back (e .modulus) (e .size) (e .multipliers) (e .value) range (w .numbers .long) (w .numbers .below) (w .numbers .value-below))
 
 -- the frame of (1 2 0) and 5, computed
 writes-120-5 : Writes 7 3 (1 ∷ 2 ∷ 0 ∷ []) 5 (3 ∷ 0 ∷ 0 ∷ 0 ∷ 1 ∷ 0 ∷ 0 ∷ 0 ∷ 2 ∷ 0 ∷ 0 ∷ 0 ∷ 5 ∷ [])
 unfolding frameOf mapBytes mapByte mapLength stands packed valueBytes bytesOf width tabulate
 writes-120-5 =
     record {
-      long = refl;
-      below =
-          below-cons 7 1 (2 ∷ 0 ∷ []) (omega arith)
-          (below-cons 7 2 (0 ∷ []) (omega arith) (below-cons 7 0 [] (omega arith) (λ i h. absurd (omega arith))));
-      value-below = omega arith;
+      numbers =
+          record {
+            long = refl;
+            below =
+                below-cons 7 1 (2 ∷ 0 ∷ []) (omega arith)
+                (below-cons 7 2 (0 ∷ []) (omega arith) (below-cons 7 0 [] (omega arith) (λ i h. absurd (omega arith))));
+            value-below = omega arith;
+          };
       bytes-are = refl;
     }
 

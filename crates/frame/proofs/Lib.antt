@@ -3,7 +3,7 @@ pub mod BitMaps
 pub mod ReadNumbers
 pub mod ReadJudging
 pub mod ReadFilling
-pub mod ReadCalls
+pub mod ReadChecks
 pub mod Bytes
 pub mod RoundMap
 pub mod RoundNumbers
@@ -12,7 +12,6 @@ pub mod WritePut
 pub mod WriteMap
 pub mod WriteNumbers
 pub mod WriteFrame
-pub mod WriteCalls
 pub mod SealSums
-pub mod SealCalls
+pub mod Calls
 pub mod Examples

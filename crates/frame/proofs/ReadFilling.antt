@@ -11,7 +11,8 @@ use lib.ListN.{length, set, take, length-set}
 use lib.Seq.{take-suc-set, take-all, append-snoc}
 use Rattle.algebra.specs.Choice.{choose}
 use Rattle.frame.specs.Format.{width}
-use Rattle.frame.specs.Reading.{bitAt, bitsFrom, standing, recordBits, spread}
+use Rattle.frame.specs.Bitmap.{bitAt, bitsFrom, standing, recordBits}
+use Rattle.frame.specs.Reading.{spread}
 use Rattle.frame.specs.Stages.{numberAt, multipliersFrom}
 use Rattle.frame.proofs.Bits.{bits-more, count, count-more, count-record-bits}
 use Rattle.frame.proofs.ReadNumbers.{numbers-more}

@@ -1,6 +1,6 @@
 -- The numbers of a frame by places in its bytes: four bytes make one, and the numbers from a place on are the one that
 -- stands there and those from the next place on.
-use mathlib.Core.Path.{_≡_, _∙_}
+use mathlib.Core.Path.{_≡_, refl, _∙_}
 use mathlib.Core.List.{List, [], _∷_}
 use Prim.Native.Nat.{ℕ, suc, _+_, _*_, _≤_}
 use native.Mathlib.Nat.{add-zero, zero-add}
@@ -26,6 +26,10 @@ number-of-bytes bytes at h =
     four-bytes (drop at bytes) (rw length-drop (omega arith)) ∙ simp (getD-drop, add-zero)
 
 -- the numbers that stand from a place on
+pub numbers-none : (bytes : List ℕ) → numbersIn 0 bytes ≡ []
+unfolding numbersIn
+numbers-none bytes = refl
+
 pub numbers-more : (bytes : List ℕ) (at k : ℕ) → numbersIn (suc k) (drop at bytes) ≡ numberAt bytes at ∷ numbersIn k (drop (at + width) bytes)
 unfolding numbersIn numberAt
 numbers-more bytes at k = rw drop-drop

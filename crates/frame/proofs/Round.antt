@@ -5,15 +5,14 @@ use mathlib.Core.Path.{_≡_, _∙_}
 use mathlib.Core.Logic.{_↔_}
 use mathlib.Core.List.{List, [], _∷_, _++_, append-assoc}
 use Prim.Native.Nat.{ℕ, _+_, _*_, _^_, _<_, _≤_}
-use native.Mathlib.Decide.{decLe, ℕ-discrete}
 use native.Mathlib.Omega.{arith}
 use lib.ListN.{length, getD, take, drop, length-append, length-drop, take-append-drop}
 use lib.Seq.{drop-at, drop-drop}
-use Rattle.algebra.proofs.Choice.{pick-yes}
-use Rattle.checks.specs.declared.Refusal.the-variants.{FrameLength, Padding}
+use Rattle.checks.proofs.InOrder.{holds-and, in-order-done, in-order-elim}
 use Rattle.words.specs.Words.{Below}
 use Rattle.frame.specs.Format.{width, mapLength, longest, bytesOf, stands, mapBytes, valueBytes, frameOf}
-use Rattle.frame.specs.Reading.{standing, spread, accepted, Unpadded, unpadded?, recordBits, frameLength, frameNumbers, frameValue, readNumbers, readFrame}
+use Rattle.frame.specs.Bitmap.{standing, recordBits, Unpadded}
+use Rattle.frame.specs.Reading.{accepted, frameLength, frameNumbers, frameMultipliers, frameValue, readFrame}
 use Rattle.frame.proofs.Bytes.{
   bytes-length,
   number-of-bytes,
@@ -40,10 +39,9 @@ use Rattle.frame.proofs.RoundNumbers.{
   spread-length,
   spread-below,
   spread-stands,
-  accepted-if,
   Passed,
-  judge-passed,
-  judge-accepts,
+  numbers-passed,
+  numbers-pass,
 }
 
 -- ---- a frame of one value, in three parts
@@ -65,16 +63,6 @@ frame-length n xs v =
     rw (frame-parts, length-append, length-append, map-length, value-bytes-length, bytes-length width v) (omega arith)
 
 -- ---- written frames are read
-
--- a frame whose map and length are right is judged by its numbers
-read-judged :
-    (p n : ℕ) (bytes : List ℕ) → mapLength n ≤ length bytes → Unpadded n bytes → length bytes ≡ frameLength n bytes
-    → readFrame p n bytes ≡ readNumbers p n bytes
-unfolding readFrame
-read-judged p n bytes h u e =
-    pick-yes (decLe (mapLength n) (length bytes)) _ _ h
-    ∙ pick-yes (unpadded? n bytes) _ _ u
-    ∙ pick-yes (ℕ-discrete (length bytes) (frameLength n bytes)) _ _ e
 
 module _ (n : ℕ) (xs : List ℕ) (v : ℕ) (long : length xs ≡ n) where
   written-bits : recordBits n (frameOf n xs (v ∷ [])) ≡ stands xs
@@ -104,41 +92,70 @@ module _ (n : ℕ) (xs : List ℕ) (v : ℕ) (long : length xs ≡ n) where
       let dropped = drop-at front (bytesOf width v) (mapLength n + width * length (kept xs)) long in
       rw (written-bits, standing-kept, frame-parts, ← joined, dropped) (number-of-bytes width v fit)
 
--- what is written for multipliers and a value below p reads as these multipliers and this value
+-- n multipliers and a value, all below p
+pub record Numbers (p n : ℕ) (xs : List ℕ) (v : ℕ) : Type 0 where
+  pub long : length xs ≡ n
+  pub below : Below p xs
+  pub value-below : v < p
+
+-- what is written for multipliers and a value below p passes all checks, and reads as these multipliers and this value
 pub written-reads-back :
     (p n : ℕ) (xs : List ℕ) (v : ℕ) → p ≤ 2147483647 → length xs ≡ n → Below p xs → v < p
     → readFrame p n (frameOf n xs (v ∷ [])) ≡ accepted xs v
-unfolding readNumbers
+unfolding readFrame frameMultipliers
 written-reads-back p n xs v range long below value =
     let numbers = written-numbers n xs v long (λ i h. number-fits p (getD xs i 0) range (below i h)) in
     let last = written-value n xs v long (number-fits p v range value) in
-    read-judged p n (frameOf n xs (v ∷ [])) (omega (arith, frame-length n xs v)) (written-unpadded n xs v long) (written-length n xs v long)
-    ∙ rw (numbers, last, written-bits n xs v long, spread-kept)
-    (judge-accepts p (kept xs) xs v (kept-positive xs) (kept-below p xs below) value)
+    let good = numbers-pass p (kept xs) v (record { positive = kept-positive xs; below = kept-below p xs below; value-below = value }) in
+    in-order-done _ _ _
+    (holds-and (omega (arith, frame-length n xs v))
+    (λ _. holds-and (written-unpadded n xs v long) (λ _. holds-and (written-length n xs v long) (λ _. rw (numbers, last) good))))
+    (λ _. rw (numbers, last, written-bits n xs v long, spread-kept))
 
 -- ---- frames that are read are written
 
 -- the bytes are what n multipliers and a value, all below p, write
 pub record Writes (p n : ℕ) (xs : List ℕ) (v : ℕ) (bytes : List ℕ) : Type 0 where
-  pub long : length xs ≡ n
-  pub below : Below p xs
-  pub value-below : v < p
+  pub numbers : Numbers p n xs v
   pub bytes-are : frameOf n xs (v ∷ []) ≡ bytes
 
--- what an accepted frame has passed
+-- what an accepted frame has passed, and what is found in it
 record Sound (p n : ℕ) (bytes xs : List ℕ) (v : ℕ) : Type 0 where
   map-fits : mapLength n ≤ length bytes
   unpadded : Unpadded n bytes
   right-length : length bytes ≡ frameLength n bytes
-  passed : Passed p (frameNumbers n bytes) (spread (recordBits n bytes) (frameNumbers n bytes)) (frameValue n bytes) xs v
+  passed : Passed p (frameNumbers n bytes) (frameValue n bytes)
+  multipliers : frameMultipliers n bytes ≡ xs
+  value : frameValue n bytes ≡ v
 
 accepted-sound : (p n : ℕ) (bytes xs : List ℕ) (v : ℕ) → readFrame p n bytes ≡ accepted xs v → Sound p n bytes xs v
-unfolding readFrame readNumbers
-accepted-sound p n bytes xs v e =
-    let (h, e1) = accepted-if (decLe (mapLength n) (length bytes)) _ FrameLength xs v e in
-    let (u, e2) = accepted-if (unpadded? n bytes) _ Padding xs v e1 in
-    let (l, e3) = accepted-if (ℕ-discrete (length bytes) (frameLength n bytes)) _ FrameLength xs v e2 in
-    record { map-fits = h; unpadded = u; right-length = l; passed = judge-passed p _ _ _ xs v e3 }
+unfolding readFrame
+accepted-sound p n bytes xs v =
+    in-order-elim _ _ (λ f. f ≡ accepted xs v → Sound p n bytes xs v)
+    (λ hs e.
+    record {
+      map-fits = hs .0;
+      unpadded = hs .1 .0;
+      right-length = hs .1 .1 .0;
+      passed = numbers-passed p (frameNumbers n bytes) (frameValue n bytes) (hs .1 .1 .1);
+      multipliers = cc;
+      value = cc;
+    })
+    (λ k _ e. absurd (let z : _≡_ {A = ℕ} 0 1 = cc in omega arith))
+
+-- reading accepts n multipliers and a value, all below p
+pub accepted-numbers : (p n : ℕ) (bytes xs : List ℕ) (v : ℕ) → readFrame p n bytes ≡ accepted xs v → Numbers p n xs v
+unfolding frameMultipliers
+accepted-numbers p n bytes xs v e =
+    let s = accepted-sound p n bytes xs v e in
+    let t = s .passed in
+    let bits = recordBits n bytes in
+    let ns = frameNumbers n bytes in
+    record {
+      long = rw (← (s .multipliers)) (spread-length bits ns ∙ record-bits-length n bytes);
+      below = rw (← (s .multipliers)) (spread-below p bits ns (omega (arith, t .value-below)) (t .below));
+      value-below = rw (← (s .value)) (t .value-below);
+    }
 
 -- the last bytes of a frame of the right length are those of its value
 value-bytes :
@@ -166,13 +183,12 @@ counted n bytes = numbers-length (standing (recordBits n bytes)) (drop (mapLengt
 -- a frame that reads as multipliers and a value is what they write
 pub accepted-rewrites :
     (p n : ℕ) (bytes xs : List ℕ) (v : ℕ) → Below 256 bytes → readFrame p n bytes ≡ accepted xs v → Writes p n xs v bytes
+unfolding frameMultipliers
 accepted-rewrites p n bytes xs v small e =
     let s = accepted-sound p n bytes xs v e in
-    let t = s .passed in
     let bits = recordBits n bytes in
     let ns = frameNumbers n bytes in
-    let count : length ns ≡ standing bits = counted n bytes in
-    let again = spread-stands bits ns count (t .positive) in
+    let again = spread-stands bits ns (counted n bytes) (s .passed .positive) in
     let m = mapLength n in
     let k = width * standing bits in
     let l = s .right-length in
@@ -180,12 +196,10 @@ accepted-rewrites p n bytes xs v small e =
     let whole : take m bytes ++ (take k (drop m bytes) ++ drop (m + k) bytes) ≡ bytes =
     rw (← (drop-drop k m bytes), take-append-drop k (drop m bytes)) (take-append-drop m bytes) in
     record {
-      long = rw (← (t .multipliers)) (spread-length bits ns ∙ record-bits-length n bytes);
-      below = rw (← (t .multipliers)) (spread-below p bits ns (omega (arith, t .value-below)) (t .below));
-      value-below = rw (← (t .value)) (t .value-below);
+      numbers = accepted-numbers p n bytes xs v e;
       bytes-are =
           frame-parts n xs v
-          ∙ rw (← (t .multipliers), ← (t .value), again .0, again .1, map, number-bytes n bytes small l, value-bytes n bytes small l) whole;
+          ∙ rw (← (s .multipliers), ← (s .value), again .0, again .1, map, number-bytes n bytes small l, value-bytes n bytes small l) whole;
     }
 
 -- reading accepts exactly what is written, and finds exactly what it is written from
@@ -193,7 +207,7 @@ pub accepted-as :
     (p n : ℕ) (bytes xs : List ℕ) (v : ℕ) → p ≤ 2147483647 → Below 256 bytes → (readFrame p n bytes ≡ accepted xs v) ↔ Writes p n xs v bytes
 accepted-as p n bytes xs v range small = (
   accepted-rewrites p n bytes xs v small,
-  λ w. rw (← (w .bytes-are)) (written-reads-back p n xs v range (w .long) (w .below) (w .value-below)),
+  λ w. rw (← (w .bytes-are)) (written-reads-back p n xs v range (w .numbers .long) (w .numbers .below) (w .numbers .value-below)),
 )
 
 -- a frame is accepted exactly if it is what some multipliers and a value write

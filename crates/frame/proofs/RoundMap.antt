@@ -15,7 +15,7 @@ use Rattle.words.specs.Words.{Below}
 use Rattle.field.specs.Written.{tabulate}
 use Rattle.field.proofs.Written.{length-tabulate, getD-tabulate, is-tabulate}
 use Rattle.frame.specs.Format.{mapLength, mapByte, mapBytes}
-use Rattle.frame.specs.Reading.{bitAt, bitsFrom, recordBits, Unpadded}
+use Rattle.frame.specs.Bitmap.{bitAt, bitsFrom, recordBits, Unpadded}
 
 -- ---- a number packed from bits
 

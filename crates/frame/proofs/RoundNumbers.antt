@@ -1,21 +1,19 @@
--- The numbers of a frame: which multipliers are written, that they are spread over the standing bits again, and when reading
--- accepts them. Decisions are never opened; an accepted choice says that its decision held.
-use mathlib.Core.Path.{_≡_, refl, sym, ap, _∙_}
+-- The numbers of a frame: which multipliers are written, that they are spread over the standing bits again, and that
+-- the checks of reading ask of them what they are.
+use mathlib.Core.Path.{_≡_, refl, sym, ap}
 use mathlib.Core.Bool.{Bool, true, false}
 use mathlib.Core.List.{List, [], _∷_}
 use Prim.Native.Nat.{ℕ, zero, suc, _<_, _≤_}
 use native.Mathlib.Nat.{not-suc-le-zero}
-use native.Mathlib.Decide.{decLt, ℕ-discrete}
 use native.Mathlib.Omega.{arith}
 use lib.Dec.{eqb·suc-zero}
 use lib.ListN.{length, getD}
-use Rattle.algebra.specs.Choice.{pick}
-use Rattle.algebra.proofs.Choice.{pick-yes, pick-no, pick-elim}
-use Rattle.checks.specs.declared.Refusal.{Refusal}
-use Rattle.checks.specs.declared.Refusal.the-variants.{Number, ZeroMultiplier}
+use Rattle.checks.specs.InOrder.{Given, AllHold}
+use Rattle.checks.proofs.InOrder.{none-left, holds-and}
 use Rattle.words.specs.Words.{Below}
 use Rattle.frame.specs.Format.{stands, packed, valueBytes}
-use Rattle.frame.specs.Reading.{standing, spread, Found, accepted, rejected, judgeValue, judge}
+use Rattle.frame.specs.Bitmap.{standing}
+use Rattle.frame.specs.Reading.{spread, numberChecks}
 use Rattle.frame.proofs.Bytes.{values-none, values-more, below-head, below-tail, below-cons}
 
 -- ---- the multipliers that are written
@@ -118,65 +116,37 @@ spread-stands (false ∷ bits) ns e h =
 
 -- ---- what is accepted
 
-never-accepted : {A : Type 0} (k : Refusal) (xs : List ℕ) (v : ℕ) → rejected k ≡ accepted xs v → A
-never-accepted k xs v e = absurd (let z : _≡_ {A = ℕ} 0 1 = cc in omega arith)
-
--- what is rejected unless P and yet accepted holds P, and is accepted under it
-pub accepted-if :
-    {P : Type 0} (d : Dec P) (f : Found) (k : Refusal) (xs : List ℕ) (v : ℕ) → pick d f (rejected k) ≡ accepted xs v
-    → P × (f ≡ accepted xs v)
-accepted-if {P} d f k xs v =
-    pick-elim (λ g. g ≡ accepted xs v → P × (f ≡ accepted xs v)) d f (rejected k) (λ h e. (h, e)) (λ _ e. never-accepted k xs v e)
-
--- and the same of what is rejected if P
-pub accepted-unless :
-    {P : Type 0} (d : Dec P) (f : Found) (k : Refusal) (xs : List ℕ) (v : ℕ) → pick d (rejected k) f ≡ accepted xs v
-    → (P → ⊥) × (f ≡ accepted xs v)
-accepted-unless {P} d f k xs v =
-    pick-elim (λ g. g ≡ accepted xs v → (P → ⊥) × (f ≡ accepted xs v)) d (rejected k) f (λ _ e. never-accepted k xs v e) (λ n e. (n, e))
-
--- what an accepted judgement says of the numbers that were judged
-pub record Passed (p : ℕ) (ns xs : List ℕ) (v : ℕ) (ys : List ℕ) (w : ℕ) : Type 0 where
+-- numbers that pass their checks are from 1 to p - 1, and the value is below p
+pub record Passed (p : ℕ) (ns : List ℕ) (v : ℕ) : Type 0 where
   pub positive : Positive ns
   pub below : Below p ns
   pub value-below : v < p
-  pub multipliers : xs ≡ ys
-  pub value : v ≡ w
 
-pub judge-passed :
-    (p : ℕ) (ns xs : List ℕ) (v : ℕ) (ys : List ℕ) (w : ℕ) → judge p ns xs v ≡ accepted ys w → Passed p ns xs v ys w
-unfolding judge judgeValue
-judge-passed p [] xs v ys w e =
-    let (h, s) = accepted-if (decLt v p) (accepted xs v) Number ys w e in
+pub numbers-passed : (p : ℕ) (ns : List ℕ) (v : ℕ) → Given (numberChecks p ns v) → Passed p ns v
+numbers-passed p [] v hs =
+    record { positive = λ i l. absurd (not-suc-le-zero l); below = λ i l. absurd (not-suc-le-zero l); value-below = hs .0 }
+numbers-passed p (x ∷ ns) v hs =
+    let rest = numbers-passed p ns v (hs .1 .1) in
     record {
-      positive = λ i l. absurd (not-suc-le-zero l);
-      below = λ i l. absurd (not-suc-le-zero l);
-      value-below = h;
-      multipliers = cc;
-      value = cc;
-    }
-judge-passed p (x ∷ ns) xs v ys w e =
-    let (nz, e1) = accepted-unless (ℕ-discrete x 0) _ ZeroMultiplier ys w e in
-    let (lt, e2) = accepted-if (decLt x p) (judge p ns xs v) Number ys w e1 in
-    let rest = judge-passed p ns xs v ys w e2 in
-    record {
-      positive = positive-cons x ns (omega arith) (rest .positive);
-      below = below-cons p x ns lt (rest .below);
+      positive = positive-cons x ns (hs .0) (rest .positive);
+      below = below-cons p x ns (hs .1 .0) (rest .below);
       value-below = rest .value-below;
-      multipliers = rest .multipliers;
-      value = rest .value;
     }
   where
     positive-cons : (x : ℕ) (xs : List ℕ) → 0 < x → Positive xs → Positive (x ∷ xs)
     positive-cons x xs h t zero l = h
     positive-cons x xs h t (suc i) l = t i (omega arith)
 
--- numbers from 1 to p - 1 and a value below p are accepted
-pub judge-accepts :
-    (p : ℕ) (ns xs : List ℕ) (v : ℕ) → Positive ns → Below p ns → v < p → judge p ns xs v ≡ accepted xs v
-unfolding judge judgeValue
-judge-accepts p [] xs v h b l = pick-yes (decLt v p) _ _ l
-judge-accepts p (x ∷ ns) xs v h b l =
-    pick-no (ℕ-discrete x 0) _ _ (λ e. omega (arith, h 0 (omega arith)))
-    ∙ pick-yes (decLt x p) _ _ (below-head p x ns b)
-    ∙ judge-accepts p ns xs v (λ i k. h (suc i) (omega arith)) (below-tail p x ns b) l
+pub numbers-pass : (p : ℕ) (ns : List ℕ) (v : ℕ) → Passed p ns v → AllHold (numberChecks p ns v)
+numbers-pass p [] v t = holds-and (t .value-below) (λ _. none-left)
+numbers-pass p (x ∷ ns) v t =
+    holds-and (t .positive 0 (omega arith))
+    (λ _.
+    holds-and (below-head p x ns (t .below))
+    (λ _.
+    numbers-pass p ns v
+    (record {
+      positive = λ i k. t .positive (suc i) (omega arith);
+      below = below-tail p x ns (t .below);
+      value-below = t .value-below;
+    })))

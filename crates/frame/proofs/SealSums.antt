@@ -11,7 +11,7 @@ use Rattle.algebra.proofs.Sums.{sum-same}
 use Rattle.field.specs.Residue.{Residue, residues, _⊗_}
 use Rattle.field.specs.View.{line}
 use Rattle.signed.specs.Reading.{residueOf}
-use Rattle.frame.specs.Calls.{sealed}
+use Rattle.frame.specs.Sealing.{sealed}
 
 pub seal-sum :
     (p n : ℕ) (zs : List ℤ) (xs rs : List ℕ) → n ≤ length rs → ((i : ℕ) → i < n → getD rs i 0 ≡ residueOf p (getD zs i (pos 0)))

@@ -1,73 +1,67 @@
--- What read, write and seal answer and leave in lent memory, for every input.
+-- The checks of read, write and seal in order, and what each call comes to. 01: "For these, n is 1 to 64, and the order is 1, 2,
+-- 3, then the checks above (writing: multipliers, then value; sealing: multipliers, then records)."
 use mathlib.Core.List.{List, [], _∷_, _++_}
-use Prim.Native.Nat.{ℕ, _+_}
-use native.Mathlib.Decide.{decLt, ℕ-discrete}
+use Prim.Native.Nat.{ℕ}
+use native.Mathlib.Decide.{decLt}
 use lib.IntN.{ℤ, pos}
-use lib.ListN.{length, getD, drop}
-use Rattle.algebra.specs.Choice.{pick}
-use Rattle.algebra.specs.Matrix.{sum}
-use Rattle.checks.specs.declared.Refusal.the-variants.{Modulus, Size, Length, Number}
-use Rattle.checks.specs.Told.{Told, refused}
-use Rattle.checks.specs.Outcome.{Outcome, outcome}
-use Rattle.checks.specs.Decide.{modulus?}
-use Rattle.field.specs.Residue.{reduce, residues, _⊗_}
-use Rattle.signed.specs.Reading.{residueOf}
+use lib.ListN.{length, drop}
+use Rattle.checks.specs.declared.Refusal.{Refusal}
+use Rattle.checks.specs.declared.Refusal.the-variants.{Length, Number}
+use Rattle.checks.specs.Told.{gives, results}
+use Rattle.checks.specs.Outcome.{Outcome, outcome, untouched}
+use Rattle.checks.specs.InOrder.{Checks, passed, _else_, _⨾_, andThen, inOrder}
+use Rattle.checks.specs.Decide.{long?}
+use Rattle.checks.specs.Sizes.{frameSizes}
+use Rattle.words.specs.Decide.{below?}
 use Rattle.frame.specs.Format.{longest, frameOf}
 use Rattle.frame.specs.Reading.{Found, accepted, rejected, readFrame}
-use Rattle.words.specs.Decide.{below?}
-use Rattle.frame.specs.Checks.{records?}
-use Rattle.checks.specs.Decide.{frameSize?}
+use Rattle.frame.specs.Sealing.{sealed}
+use Rattle.frame.specs.Decide.{records?}
 
 -- what is told of a frame that was read, and what becomes of the lent multipliers
 unfoldable pub readOutcome : List ℕ → Found → Outcome (List ℕ)
-readOutcome lent (accepted xs v) = record { told = record { number = 0; values = pos v ∷ [] }; lent = xs }
-readOutcome lent (rejected k) = record { told = refused k; lent = lent }
+readOutcome lent (accepted xs v) = outcome (gives (pos v)) xs
+readOutcome lent (rejected k) = untouched lent k
 
--- reading a frame of n records modulo p, with the multipliers lent
+-- reading a frame of n records modulo p, with the multipliers lent: past the lengths, the frame's own checks
+abbrev pub readRest : (n : ℕ) (multipliers : List ℕ) → Checks Refusal
+readRest n lent = long? lent n else Length ⨾ passed
+
+abbrev pub readChecks : (p n : ℕ) (multipliers : List ℕ) → Checks Refusal
+readChecks p n lent = andThen (frameSizes p n) (λ _. readRest n lent)
+
 unfoldable pub readCall : (p n : ℕ) (bytes multipliers : List ℕ) → Outcome (List ℕ)
-readCall p n bytes lent =
-    pick (modulus? p)
-    (pick (frameSize? n)
-    (pick (ℕ-discrete (length lent) n) (readOutcome lent (readFrame p n bytes)) (record { told = refused Length; lent = lent }))
-    (record { told = refused Size; lent = lent }))
-    (record { told = refused Modulus; lent = lent })
+readCall p n bytes lent = inOrder (readChecks p n lent) (λ _. readOutcome lent (readFrame p n bytes)) (untouched lent)
 
 -- writing the frame of n multipliers and a value to the front of the lent bytes; bytes after it keep their contents
-unfoldable pub writeCall : (p n : ℕ) (multipliers : List ℕ) (value : ℕ) (bytes : List ℕ) → Outcome (List ℕ)
-writeCall p n xs v lent =
-    pick (modulus? p)
-    (pick (frameSize? n)
-    (pick (ℕ-discrete (length xs) n)
-    (pick (ℕ-discrete (length lent) longest)
-    (pick (below? p xs)
-    (pick (decLt v p)
-    (let frame = frameOf n xs (v ∷ []) in
-    record {
-      told = record { number = 200 + length frame; values = pos (length frame) ∷ [] };
-      lent = frame ++ drop (length frame) lent;
-    })
-    (record { told = refused Number; lent = lent }))
-    (record { told = refused Number; lent = lent }))
-    (record { told = refused Length; lent = lent }))
-    (record { told = refused Length; lent = lent }))
-    (record { told = refused Size; lent = lent }))
-    (record { told = refused Modulus; lent = lent })
+abbrev pub writeRest : (p n : ℕ) (multipliers : List ℕ) (value : ℕ) (bytes : List ℕ) → Checks Refusal
+writeRest p n xs v lent =
+    long? xs n else Length
+    ⨾ long? lent longest else Length
+    ⨾ below? p xs else Number
+    ⨾ decLt v p else Number
+    ⨾ passed
 
--- the sum of products of n records and n multipliers modulo p
-unfoldable pub sealed : (p n : ℕ) → List ℤ → List ℕ → ℕ
-sealed p n zs xs = (sum (residues p) n (λ t. reduce p (residueOf p (getD zs t (pos 0))) ⊗ reduce p (getD xs t 0))) .value
+abbrev pub writeChecks : (p n : ℕ) (multipliers : List ℕ) (value : ℕ) (bytes : List ℕ) → Checks Refusal
+writeChecks p n xs v lent = andThen (frameSizes p n) (λ _. writeRest p n xs v lent)
+
+abbrev pub written : (frame lent : List ℕ) → Outcome (List ℕ)
+written frame lent = outcome (results (length frame)) (frame ++ drop (length frame) lent)
+
+unfoldable pub writeCall : (p n : ℕ) (multipliers : List ℕ) (value : ℕ) (bytes : List ℕ) → Outcome (List ℕ)
+writeCall p n xs v lent = inOrder (writeChecks p n xs v lent) (λ _. written (frameOf n xs (v ∷ [])) lent) (untouched lent)
 
 -- sealing: nothing is lent to be written
-unfoldable pub sealCall : (p n : ℕ) (records : List ℤ) (multipliers : List ℕ) → Told
-sealCall p n zs xs =
-    pick (modulus? p)
-    (pick (frameSize? n)
-    (pick (ℕ-discrete (length zs) n)
-    (pick (ℕ-discrete (length xs) n)
-    (pick (below? p xs)
-    (pick (records? p zs) (record { number = 0; values = pos (sealed p n zs xs) ∷ [] }) (refused Number))
-    (refused Number))
-    (refused Length))
-    (refused Length))
-    (refused Size))
-    (refused Modulus)
+abbrev pub sealRest : (p n : ℕ) (records : List ℤ) (multipliers : List ℕ) → Checks Refusal
+sealRest p n zs xs =
+    long? zs n else Length
+    ⨾ long? xs n else Length
+    ⨾ below? p xs else Number
+    ⨾ records? p zs else Number
+    ⨾ passed
+
+abbrev pub sealChecks : (p n : ℕ) (records : List ℤ) (multipliers : List ℕ) → Checks Refusal
+sealChecks p n zs xs = andThen (frameSizes p n) (λ _. sealRest p n zs xs)
+
+unfoldable pub sealCall : (p n : ℕ) (records : List ℤ) (multipliers : List ℕ) → Outcome (Unit {0})
+sealCall p n zs xs = inOrder (sealChecks p n zs xs) (λ _. outcome (gives (pos (sealed p n zs xs))) tt) (untouched tt)

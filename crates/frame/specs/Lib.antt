@@ -1,9 +1,10 @@
 pub mod Format
-pub mod Reading
 pub mod Bitmap
+pub mod Sealing
+pub mod Decide
+pub mod Reading
 pub mod Stages
 pub mod Put
 pub mod Told
-pub mod Checks
 pub mod Calls
 pub mod Examples

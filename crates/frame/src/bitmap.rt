@@ -2,9 +2,9 @@
 ghost use mathlib.Core.Path.{_≡_};
 ghost use Prim.Native.Nat.{_<_, _≤_};
 ghost use lib.ListN.{length};
-ghost use lib.Dec.{eqb};
-ghost use Rattle.frame.specs.Reading.{bitAt};
-ghost use Rattle.frame.specs.Bitmap.{mapFrom, standingFrom};
+ghost use Rattle.algebra.specs.Answers.{Tells};
+ghost use Rattle.checks.specs.Largest.{largest};
+ghost use Rattle.frame.specs.Bitmap.{bitAt, standing, ClearFrom, mapFrom, mapBits};
 
 // The map of the first len bytes; the bytes after them are 0.
 pub fn from_bytes(bytes: &[u8], len: usize) -> [u8; 8]
@@ -22,7 +22,7 @@ pub fn from_bytes(bytes: &[u8], len: usize) -> [u8; 8]
 
 // Whether bit j stands.
 pub fn stands(map: [u8; 8], j: usize) -> bool
-    requires { ⌜ j < 64 ⌝ }
+    requires { ⌜ j < largest ⌝ }
     ensures { λ r. ⌜ r ≡ bitAt map j ⌝ }
 {
     (map[j / 8] >> (j % 8)) % 2 == 1
@@ -30,7 +30,7 @@ pub fn stands(map: [u8; 8], j: usize) -> bool
 
 // The number of standing bits.
 pub fn standing(map: [u8; 8]) -> usize
-    ensures { λ r. ⌜ r ≡ standingFrom 0 map ⌝ }
+    ensures { λ r. ⌜ r ≡ standing (mapBits map) ⌝ }
 {
     let mut total: usize = 0;
     let mut b = 0;
@@ -43,7 +43,7 @@ pub fn standing(map: [u8; 8]) -> usize
 
 // Whether no bit stands at n or above.
 pub fn unpadded(map: [u8; 8], n: usize) -> bool
-    ensures { λ r. ⌜ r ≡ eqb (standingFrom n map) 0 ⌝ }
+    ensures { λ r. ⌜ Tells r (ClearFrom n largest map) ⌝ }
 {
     let mut j = n;
     while j < 64 {

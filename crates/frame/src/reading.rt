@@ -1,11 +1,11 @@
 // Reading a frame: the bit map, then the numbers, one read at its place, all judged in byte order, and the multipliers filled in.
 ghost use mathlib.Core.Path.{_≡_};
-ghost use mathlib.Core.List.{List};
-ghost use Prim.Native.Nat.{ℕ, _+_, _*_, _≤_, _<_};
+ghost use Prim.Native.Nat.{_+_, _*_, _≤_, _<_};
 ghost use lib.ListN.{length};
 ghost use Rattle.frame.specs.Format.{width};
-ghost use Rattle.frame.specs.Reading.{recordBits, standing, readFrame};
-ghost use Rattle.frame.specs.Stages.{numberAt, judgeFrom, multipliersFrom, found};
+ghost use Rattle.frame.specs.Bitmap.{recordBits, standing};
+ghost use Rattle.frame.specs.Reading.{readFrame};
+ghost use Rattle.frame.specs.Stages.{numberAt, valueAfter, checksFrom, Judged, multipliersFrom};
 ghost use Rattle.frame.specs.Told.{readTold};
 ghost use Rattle.frame.specs.Calls.{readOutcome};
 ghost use Rattle.checks.specs.Outcome.{outcome};
@@ -28,7 +28,7 @@ fn number_at(bytes: &[u8], at: usize) -> u32
 // Judges the multipliers that stand from the place on, and the value behind them: the value, or why the first bad one is refused.
 fn judged(p: u32, bytes: &[u8], start: usize, count: usize) -> ReadAnswer
     requires { ⌜ length (now bytes) ≡ start + width * count + width ⌝ }
-    ensures { λ r. ⌜ ((xs : List ℕ) → found xs r ≡ judgeFrom p (now (bytes .entry)) start count xs) ⌝ }
+    ensures { λ r. ⌜ Judged (checksFrom p (now (bytes .entry)) start count) (valueAfter (now (bytes .entry)) start count) r ⌝ }
 {
     let mut at = start;
     let mut left = count;
@@ -68,28 +68,8 @@ fn fill(map: [u8; 8], bytes: &[u8], start: usize, multipliers: &mut [u32])
     }
 }
 
-// Reads the numbers from the place on: only where all of them are good are the multipliers written.
-pub fn read_numbers(
-    p: u32,
-    map: [u8; 8],
-    bytes: &[u8],
-    start: usize,
-    count: usize,
-    multipliers: &mut [u32],
-) -> ReadAnswer
-    requires { ⌜ (length (now multipliers) ≤ 64) × (count ≡ standing (recordBits (length (now multipliers)) map)) × (length (now bytes) ≡ start + width * count + width) ⌝ }
-    ensures { λ r. ⌜ outcome (readTold r) (now (multipliers .exit)) ≡ readOutcome (now (multipliers .entry)) (judgeFrom p (now (bytes .entry)) start count (multipliersFrom map (now (bytes .entry)) start 0 (length (now (multipliers .entry))))) ⌝ }
-{
-    match judged(p, bytes, start, count) {
-        ReadAnswer::Value(value) => {
-            fill(map, bytes, start, multipliers);
-            ReadAnswer::Value(value)
-        }
-        ReadAnswer::Refused(kind) => ReadAnswer::Refused(kind),
-    }
-}
-
-// Reads a frame whose modulus and sizes are known to be right: for the board, which has checked them.
+// Reads a frame whose modulus and sizes are known to be right: for the board, which has checked them. Only where all numbers
+// are good are the multipliers written.
 pub fn read_frame(p: u32, n: usize, bytes: &[u8], multipliers: &mut [u32]) -> ReadAnswer
     requires { ⌜ (0 < p) × (1 ≤ n) × (n ≤ 64) × (length (now multipliers) ≡ n) ⌝ }
     ensures { λ r. ⌜ outcome (readTold r) (now (multipliers .exit)) ≡ readOutcome (now (multipliers .entry)) (readFrame p n (now (bytes .entry))) ⌝ }
@@ -106,5 +86,11 @@ pub fn read_frame(p: u32, n: usize, bytes: &[u8], multipliers: &mut [u32]) -> Re
     if bytes.len() != len + 4 * count + 4 {
         return ReadAnswer::Refused(Refusal::FrameLength);
     }
-    read_numbers(p, map, bytes, len, count, multipliers)
+    match judged(p, bytes, len, count) {
+        ReadAnswer::Value(value) => {
+            fill(map, bytes, len, multipliers);
+            ReadAnswer::Value(value)
+        }
+        ReadAnswer::Refused(kind) => ReadAnswer::Refused(kind),
+    }
 }

@@ -1,14 +1,12 @@
 // What sealing checks of the records that it is given.
-ghost use mathlib.Core.Path.{_≡_};
-ghost use mathlib.Core.Bool.{true, false};
 ghost use Prim.Native.Nat.{_≤_, _<_};
-ghost use Rattle.algebra.specs.Choice.{pick};
-ghost use Rattle.frame.specs.Checks.{records?};
+ghost use Rattle.algebra.specs.Answers.{Tells};
+ghost use Rattle.frame.specs.Sealing.{Records};
 
 // Whether every number is a signed record modulo p.
 pub fn all_records(p: u32, numbers: &[i32]) -> bool
     requires { ⌜ (0 < p) × (p ≤ 2147483647) ⌝ }
-    ensures { λ r. ⌜ r ≡ pick (records? p (now (numbers .entry))) true false ⌝ }
+    ensures { λ r. ⌜ Tells r (Records p (now (numbers .entry))) ⌝ }
 {
     let low = signed::low_end(p);
     let mut i = 0;

@@ -7,6 +7,9 @@ ghost use Rattle.field.specs.Written.{tabulate};
 ghost use Rattle.frame.specs.Format.{width, longest, bytesOf, stands, mapByte, packed, frameOf};
 ghost use Rattle.frame.specs.Put.{placed};
 
+// The bytes of the longest frame.
+pub const LONGEST: usize = 268;
+
 // Puts the four bytes of x, most significant first, in the place of those from `at` on.
 fn put_number(bytes: &mut [u8], at: usize, x: u32)
     requires { ⌜ at + width ≤ length (now bytes) ⌝ }

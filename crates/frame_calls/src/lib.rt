@@ -8,11 +8,13 @@ ghost use Rattle.checks.specs.Outcome.{outcome};
 mod sealer;
 
 use checks::Refusal;
+use checks::Verdict;
 pub use frame::ReadAnswer;
 pub use frame::SealAnswer;
 pub use frame::WriteAnswer;
 use frame::reading::read_frame;
 use frame::records::all_records;
+use frame::writer::LONGEST;
 use frame::writer::write_frame;
 use words::all_below;
 
@@ -21,14 +23,8 @@ use words::all_below;
 pub fn read(p: u32, n: u32, bytes: &[u8], multipliers: &mut [u32]) -> ReadAnswer
     ensures { λ r. ⌜ outcome (readTold r) (now (multipliers .exit)) ≡ readCall p n (now (bytes .entry)) (now (multipliers .entry)) ⌝ }
 {
-    if !checks::is_modulus(p) {
-        return ReadAnswer::Refused(Refusal::Modulus);
-    }
-    if n < 1 {
-        return ReadAnswer::Refused(Refusal::Size);
-    }
-    if 64 < n {
-        return ReadAnswer::Refused(Refusal::Size);
+    if let Verdict::Refused(kind) = checks::frame_sizes(p, n) {
+        return ReadAnswer::Refused(kind);
     }
     let size = n as usize;
     if multipliers.len() != size {
@@ -43,19 +39,13 @@ pub fn read(p: u32, n: u32, bytes: &[u8], multipliers: &mut [u32]) -> ReadAnswer
 pub fn write(p: u32, n: u32, multipliers: &[u32], value: u32, bytes: &mut [u8]) -> WriteAnswer
     ensures { λ r. ⌜ outcome (writeTold r) (now (bytes .exit)) ≡ writeCall p n (now (multipliers .entry)) value (now (bytes .entry)) ⌝ }
 {
-    if !checks::is_modulus(p) {
-        return WriteAnswer::Refused(Refusal::Modulus);
-    }
-    if n < 1 {
-        return WriteAnswer::Refused(Refusal::Size);
-    }
-    if 64 < n {
-        return WriteAnswer::Refused(Refusal::Size);
+    if let Verdict::Refused(kind) = checks::frame_sizes(p, n) {
+        return WriteAnswer::Refused(kind);
     }
     if multipliers.len() != n as usize {
         return WriteAnswer::Refused(Refusal::Length);
     }
-    if bytes.len() != 268 {
+    if bytes.len() != LONGEST {
         return WriteAnswer::Refused(Refusal::Length);
     }
     if !all_below(p, multipliers) {
@@ -70,16 +60,10 @@ pub fn write(p: u32, n: u32, multipliers: &[u32], value: u32, bytes: &mut [u8]) 
 // The value of the frame of n records and n multipliers modulo p. Refused are 1, p no modulus; 2, n not 1 to 64; 3, not n
 // records or not n multipliers; 4, a multiplier not below p or then a record out of range.
 pub fn seal(p: u32, n: u32, records: &[i32], multipliers: &[u32]) -> SealAnswer
-    ensures { λ r. ⌜ sealTold r ≡ sealCall p n (now (records .entry)) (now (multipliers .entry)) ⌝ }
+    ensures { λ r. ⌜ outcome (sealTold r) tt ≡ sealCall p n (now (records .entry)) (now (multipliers .entry)) ⌝ }
 {
-    if !checks::is_modulus(p) {
-        return SealAnswer::Refused(Refusal::Modulus);
-    }
-    if n < 1 {
-        return SealAnswer::Refused(Refusal::Size);
-    }
-    if 64 < n {
-        return SealAnswer::Refused(Refusal::Size);
+    if let Verdict::Refused(kind) = checks::frame_sizes(p, n) {
+        return SealAnswer::Refused(kind);
     }
     if records.len() != n as usize {
         return SealAnswer::Refused(Refusal::Length);

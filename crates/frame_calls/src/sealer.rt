@@ -4,8 +4,7 @@ ghost use Prim.Native.Nat.{ℕ, _≤_, _<_};
 ghost use lib.IntN.{pos};
 ghost use lib.ListN.{length, getD};
 ghost use Rattle.signed.specs.Reading.{residueOf};
-ghost use Rattle.frame.specs.Checks.{Records};
-ghost use Rattle.frame.specs.Calls.{sealed};
+ghost use Rattle.frame.specs.Sealing.{Records, sealed};
 
 // Writes the residue of each record to its place.
 fn put_residues(p: u32, records: &[i32], residues: &mut [u32])

@@ -1,45 +1,29 @@
--- What signed and residue answer, case by case: refused by the modulus, refused by the number, done. The calls are
--- definitions by decisions, and these laws go by what is decided.
-use mathlib.Core.Path.{_≡_, _∙_}
-use mathlib.Core.List.{[], _∷_}
-use Prim.Native.Nat.{ℕ, _<_, _≤_}
-use native.Mathlib.Decide.{decLt}
-use native.Mathlib.Omega.{arith}
+-- What signed and residue come to: refused by the first check that fails, or done.
+use mathlib.Core.Path.{_≡_, refl, sym}
+use Prim.Native.Nat.{ℕ}
 use lib.IntN.{ℤ, pos}
-use Rattle.algebra.proofs.Choice.{pick-yes, pick-no}
-use Rattle.checks.specs.declared.Refusal.the-variants.{Modulus, Number}
-use Rattle.checks.specs.Told.{refused}
-use Rattle.checks.specs.Prime.{IsModulus}
-use Rattle.checks.specs.Decide.{modulus?}
-use Rattle.signed.specs.Reading.{reading, residueOf, IsRecord}
-use Rattle.signed.specs.Decide.{record?}
-use Rattle.signed.specs.Calls.{signedCall, residueCall}
+use Rattle.checks.specs.declared.Refusal.{Refusal}
+use Rattle.checks.specs.Told.{gives}
+use Rattle.checks.specs.Outcome.{outcome, untouched}
+use Rattle.checks.specs.InOrder.{AllHold, FirstFailing}
+use Rattle.checks.proofs.InOrder.{in-order-done, in-order-refused}
+use Rattle.signed.specs.Reading.{reading, residueOf}
+use Rattle.signed.specs.Calls.{signedChecks, signedCall, residueChecks, residueCall}
 
--- ---- signed
+module _ (p v : ℕ) where
+  pub signed-refused : {k : Refusal} → FirstFailing (signedChecks p v) k → untouched tt k ≡ signedCall p v
+  unfolding signedCall
+  signed-refused f = sym (in-order-refused _ _ f)
 
-pub signed-no-modulus : (p v : ℕ) → (IsModulus p → ⊥) → signedCall p v ≡ refused Modulus
-unfolding signedCall
-signed-no-modulus p v n = pick-no (modulus? p) _ _ n
+  pub signed-done : AllHold (signedChecks p v) → outcome (gives (reading p v)) tt ≡ signedCall p v
+  unfolding signedCall
+  signed-done a = sym (in-order-done _ _ _ a (λ _. refl))
 
-pub signed-no-residue : (p v : ℕ) → IsModulus p → p ≤ v → signedCall p v ≡ refused Number
-unfolding signedCall
-signed-no-residue p v m h = pick-yes (modulus? p) _ _ m ∙ pick-no (decLt v p) _ _ (λ l. omega arith)
+module _ (p : ℕ) (z : ℤ) where
+  pub residue-refused : {k : Refusal} → FirstFailing (residueChecks p z) k → untouched tt k ≡ residueCall p z
+  unfolding residueCall
+  residue-refused f = sym (in-order-refused _ _ f)
 
-pub signed-done : (p v : ℕ) → IsModulus p → v < p → signedCall p v ≡ record { number = 0; values = reading p v ∷ [] }
-unfolding signedCall
-signed-done p v m l = pick-yes (modulus? p) _ _ m ∙ pick-yes (decLt v p) _ _ l
-
--- ---- residue
-
-pub residue-no-modulus : (p : ℕ) (z : ℤ) → (IsModulus p → ⊥) → residueCall p z ≡ refused Modulus
-unfolding residueCall
-residue-no-modulus p z n = pick-no (modulus? p) _ _ n
-
-pub residue-no-record : (p : ℕ) (z : ℤ) → IsModulus p → (IsRecord p z → ⊥) → residueCall p z ≡ refused Number
-unfolding residueCall
-residue-no-record p z m n = pick-yes (modulus? p) _ _ m ∙ pick-no (record? p z) _ _ n
-
-pub residue-done :
-    (p : ℕ) (z : ℤ) → IsModulus p → IsRecord p z → residueCall p z ≡ record { number = 0; values = pos (residueOf p z) ∷ [] }
-unfolding residueCall
-residue-done p z m r = pick-yes (modulus? p) _ _ m ∙ pick-yes (record? p z) _ _ r
+  pub residue-done : AllHold (residueChecks p z) → outcome (gives (pos (residueOf p z))) tt ≡ residueCall p z
+  unfolding residueCall
+  residue-done a = sym (in-order-done _ _ _ a (λ _. refl))

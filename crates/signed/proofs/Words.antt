@@ -12,6 +12,8 @@ use lib.Signed.{_≤ℤ_, ltZ, ltZ-no, ltZ-yes, clashℤ, nonNeg}
 use mir.Syntax.{w32}
 use mir.Val.{SFits, toZ, ofZ}
 use mir.ValLaws.{toZ-pos, toZ-ofZ}
+use Rattle.algebra.specs.Answers.{Tells}
+use Rattle.algebra.proofs.Answers.{tells-yes, tells-no}
 use Rattle.signed.specs.Reading.{residueOf, InRange}
 use Rattle.signed.proofs.Readings.{le-of-pos, le-of-neg}
 
@@ -83,3 +85,10 @@ from-zero p low (negsuc n) r k e = absurd (lt-false (negsuc n) (pos 0) e .le)
 -- the negation of an i32
 pub negated-record : (z : ℤ) → SFits w32 z → SFits w32 (negℤ z) → toZ w32 (ofZ w32 (pos 0 -ℤ toZ w32 (ofZ w32 z))) ≡ negℤ z
 negated-record z f g = rw (toZ-ofZ w32 z f, +ℤ-idl (negℤ z)) (toZ-ofZ w32 (negℤ z) g)
+
+-- ---- a test
+
+-- a test that passes exactly if P holds tells whether it does
+pub tells-test : {P : Type 0} {t : Bool} → (P → T t) → (T t → P) → Tells t P
+tells-test {t = true} f g = tells-yes (g tt)
+tells-test {t = false} f g = tells-no f

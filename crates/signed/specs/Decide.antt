@@ -4,7 +4,7 @@ use Prim.Native.Nat.{ℕ, _-_, _/_}
 use lib.Dec.{T}
 use lib.IntN.{ℤ, pos, negℤ}
 use lib.Signed.{_≤ℤ_, leZ}
-use Rattle.signed.specs.Reading.{IsRecord, InRange}
+use Rattle.signed.specs.Reading.{IsRecord}
 
 T? : (b : Bool) → Dec (T b)
 T? true = yes tt
@@ -21,15 +21,6 @@ pub record? : (p : ℕ) (z : ℤ) → Dec (IsRecord p z)
 record? p z = go (le? (negℤ (pos ((p - 1) / 2))) z) (le? z (pos (p / 2)))
   where
     go : Dec (negℤ (pos ((p - 1) / 2)) ≤ℤ z) → Dec (z ≤ℤ pos (p / 2)) → Dec (IsRecord p z)
-    go (no f) g = no (λ h. f (h .least))
-    go (yes l) (no f) = no (λ h. f (h .greatest))
-    go (yes l) (yes g) = yes (record { least = l; greatest = g })
-
--- the same with a low end
-pub inRange? : (p low : ℕ) (z : ℤ) → Dec (InRange p low z)
-inRange? p low z = go (le? (negℤ (pos low)) z) (le? z (pos (p - 1 - low)))
-  where
-    go : Dec (negℤ (pos low) ≤ℤ z) → Dec (z ≤ℤ pos (p - 1 - low)) → Dec (InRange p low z)
     go (no f) g = no (λ h. f (h .least))
     go (yes l) (no f) = no (λ h. f (h .greatest))
     go (yes l) (yes g) = yes (record { least = l; greatest = g })

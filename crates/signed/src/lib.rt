@@ -1,10 +1,9 @@
 // The signed reading of residues, and its inverse: what a record is on the sheet and what travels in its place.
 ghost use mathlib.Core.Path.{_≡_};
-ghost use mathlib.Core.Bool.{true, false};
 ghost use Prim.Native.Nat.{_<_, _≤_};
-ghost use Rattle.algebra.specs.Choice.{pick};
+ghost use Rattle.algebra.specs.Answers.{Tells};
+ghost use Rattle.checks.specs.Outcome.{outcome};
 ghost use Rattle.signed.specs.Reading.{lowEnd, readFrom, residueOf, InRange};
-ghost use Rattle.signed.specs.Decide.{inRange?};
 ghost use Rattle.signed.specs.Told.{signedTold, residueTold};
 ghost use Rattle.signed.specs.Calls.{signedCall, residueCall};
 use checks::Refusal;
@@ -42,7 +41,7 @@ pub fn read_from(p: u32, low: u32, v: u32) -> i32
 // Whether the record lies from -low to p - 1 - low.
 pub fn in_range(p: u32, low: u32, record: i32) -> bool
     requires { ⌜ (low < p) × (p ≤ 2147483647) ⌝ }
-    ensures { λ r. ⌜ r ≡ pick (inRange? p low «record») true false ⌝ }
+    ensures { λ r. ⌜ Tells r (InRange p low «record») ⌝ }
 {
     if record < -(low as i32) {
         return false;
@@ -64,7 +63,7 @@ pub fn residue_from(p: u32, low: u32, record: i32) -> u32
 
 // The signed reading of the residue v modulo p. Refused are 1, p no modulus, and 4, v not below p.
 pub fn signed(p: u32, v: u32) -> SignedAnswer
-    ensures { λ r. ⌜ signedTold r ≡ signedCall p v ⌝ }
+    ensures { λ r. ⌜ outcome (signedTold r) tt ≡ signedCall p v ⌝ }
 {
     if !checks::is_modulus(p) {
         return SignedAnswer::Refused(Refusal::Modulus);
@@ -77,7 +76,7 @@ pub fn signed(p: u32, v: u32) -> SignedAnswer
 
 // The residue that the record modulo p is read from. Refused are 1, p no modulus, and 4, the record out of range.
 pub fn residue(p: u32, record: i32) -> ResidueAnswer
-    ensures { λ r. ⌜ residueTold r ≡ residueCall p «record» ⌝ }
+    ensures { λ r. ⌜ outcome (residueTold r) tt ≡ residueCall p «record» ⌝ }
 {
     if !checks::is_modulus(p) {
         return ResidueAnswer::Refused(Refusal::Modulus);

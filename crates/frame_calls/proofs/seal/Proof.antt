@@ -1,152 +1,115 @@
--- `frame_calls::seal` meets its contract: what the checks leave decides which of the call's answers holds.
-use mathlib.Core.Path.{_≡_, sym, _∙_}
-use Prim.Native.Nat.{_<_}
+-- `frame_calls::seal` meets its contract: each return is by the first check that fails, and past the checks the sum is taken.
+use mathlib.Core.Path.{_≡_, sym, _∙_, subst}
 use native.Mathlib.Omega.{arith}
 use borrow.Author.Needs.{needs}
-use borrow.Author.Tests.{not-true, not-false}
 use lib.ListN.{length}
-use Rattle.algebra.proofs.Choice.{pick-true, pick-false}
-use Rattle.checks.specs.Prime.{IsModulus}
-use Rattle.checks.proofs.Guards.{no-modulus, is-modulus}
-use Rattle.words.specs.Words.{Below}
 use Rattle.algebra.proofs.Answers.{guard-left, guard-taken}
-use Rattle.frame.specs.Checks.{Records, records?}
-use Rattle.checks.specs.Largest.{FrameSize}
-use Rattle.frame.proofs.SealCalls.{seal-no-modulus, seal-no-size, seal-other-records, seal-other-multipliers, seal-not-below, seal-no-records, seal-done}
+use Rattle.checks.specs.InOrder.{AllHold}
+use Rattle.checks.specs.Sizes.{frameSizes, Judges}
+use Rattle.checks.proofs.InOrder.{none-left, holds-and, fails-here, fails-later, given}
+use Rattle.words.specs.Words.{Below}
+use Rattle.frame.specs.Sealing.{Records}
+use Rattle.frame.proofs.Calls.{seal-no-sizes, seal-refused, seal-done}
 use Rattle.frame_calls.proofs.seal.Statement.{statement}
 use Rattle.frame_calls.proofs.seal.Tie as tie
 
+abbrev start : tie.After-enum-told → tie.Start
+start c = c .before .before .before .before
+
 -- what each check leaves
-modulus : (c : tie.Else1) → IsModulus (c .before .before .before .args .p)
-modulus c = is-modulus _ _ (c .before .is-modulus .ensures) (c .if1 .left)
+sized : (c : tie.After-enum-told) → let a = start c .args in AllHold (frameSizes (a .p) (a .n))
+sized c = subst (Judges (frameSizes _ _)) (c .enum-told .given .1) (c .before .before .frame-sizes .ensures)
 
-positive : (c : tie.Else1) → 0 < c .before .before .before .args .p
-positive c = omega (arith, modulus c .prime .two-or-more)
+recorded : (c : tie.Else1) → let a = start (c .before) .args in length (a .records .now) ≡ a .n
+recorded c = c .if1 .left
 
-size : (c : tie.Else3) → FrameSize (c .before .before .before .before .before .args .n)
-size c = omega arith
+counted : (c : tie.Else2) → let a = start (c .before .before) .args in length (a .multipliers .now) ≡ a .n
+counted c = c .if2 .left
 
-recorded : (c : tie.Else4) → let a = c .before .before .before .before .before .before .args in length (a .records .now) ≡ a .n
-recorded c = omega arith
+below : (c : tie.Else3) → let a = start (c .before .before .before .before) .args in Below (a .p) (a .multipliers .now)
+below c = guard-left (c .before .all-below .ensures) (c .if3 .left)
 
-counted : (c : tie.Else5) → let a = c .before .before .before .before .before .before .before .args in length (a .multipliers .now) ≡ a .n
-counted c = omega arith
+in-range : (c : tie.Else4) → let a = start (c .before .before .before .before .before .before) .args in Records (a .p) (a .records .now)
+in-range c = guard-left (c .before .all-records .ensures) (c .if4 .left)
 
-below :
-    (c : tie.Else6) →
-    let a = c .before .before .before .before .before .before .before .before .before .args in
-    Below (a .p) (a .multipliers .now)
-below c =
-    let a = c .before .before .before .before .before .before .before .before .before .args in
-    guard-left (c .before .all-below .ensures) (c .if6 .left)
+frame-sizes-requires : tie.Need-frame-sizes-requires
+frame-sizes-requires c κs = search needs
 
-in-range :
-    (c : tie.Else7) →
-    let a = c .before .before .before .before .before .before .before .before .before .before .before .args in
-    Records (a .p) (a .records .now)
-in-range c =
-    let a = c .before .before .before .before .before .before .before .before .before .before .before .args in
-    pick-true (records? (a .p) (a .records .now)) (sym (c .before .all-records .ensures) ∙ not-false _ (c .if7 .left))
-
-is-modulus-requires : tie.Need-is-modulus-requires
-is-modulus-requires c κs = search needs
+enum-known-kind : tie.Need-enum-known-kind
+enum-known-kind c = search needs
 
 returns : tie.Need-returns
 returns c =
-    let a = c .before .before .before .args in
-    sym (seal-no-modulus (a .p) (a .n) (a .records .now) (a .multipliers .now) (no-modulus _ _ (c .before .is-modulus .ensures) (c .if1 .taken)))
+    let k = c .before in
+    seal-no-sizes _ _ _ _ (subst (Judges (frameSizes _ _)) (k .kind .given .1) (k .before .before .frame-sizes .ensures))
+
+enum-told : tie.Need-enum-told
+enum-told c = search needs
 
 returns-2 : tie.Need-returns-2
-returns-2 c =
-    let e = c .before in
-    let a = e .before .before .before .args in
-    sym (seal-no-size (a .p) (a .n) (a .records .now) (a .multipliers .now) (modulus e) (λ s. omega (arith, s)))
+returns-2 c = seal-refused _ _ _ _ (sized (c .before)) (fails-here (c .if1 .taken))
 
 returns-3 : tie.Need-returns-3
 returns-3 c =
-    let e = c .before .before in
-    let a = e .before .before .before .args in
-    sym (seal-no-size (a .p) (a .n) (a .records .now) (a .multipliers .now) (modulus e) (λ s. omega (arith, s)))
-
-returns-4 : tie.Need-returns-4
-returns-4 c =
-    let f = c .before in
-    let e = f .before .before in
-    let a = e .before .before .before .args in
-    sym (seal-other-records (a .p) (a .n) (a .records .now) (a .multipliers .now) (modulus e) (size f) (c .if4 .taken))
-
-returns-5 : tie.Need-returns-5
-returns-5 c =
-    let g = c .before in
-    let f = g .before in
-    let e = f .before .before in
-    let a = e .before .before .before .args in
-    sym
-    (seal-other-multipliers (a .p) (a .n) (a .records .now) (a .multipliers .now) (modulus e) (size f) (recorded g) (c .if5 .taken))
+    let e = c .before in
+    seal-refused _ _ _ _ (sized (e .before)) (fails-later (recorded e) (λ _. fails-here (c .if2 .taken)))
 
 all-below-requires : tie.Need-all-below-requires
 all-below-requires c κs = search needs
 
-returns-6 : tie.Need-returns-6
-returns-6 c =
-    let h = c .before .before in
-    let g = h .before in
-    let f = g .before in
-    let e = f .before .before in
-    let a = e .before .before .before .args in
-    sym
-    (seal-not-below (a .p) (a .n) (a .records .now) (a .multipliers .now) (modulus e) (size f) (recorded g) (counted h)
-    (guard-taken (c .before .all-below .ensures) (c .if6 .taken)))
+returns-4 : tie.Need-returns-4
+returns-4 c =
+    let f = c .before .before in
+    let e = f .before in
+    let bad = guard-taken (c .before .all-below .ensures) (c .if3 .taken) in
+    seal-refused _ _ _ _ (sized (e .before))
+    (fails-later (recorded e) (λ _. fails-later (counted f) (λ _. fails-here bad)))
 
 all-records-requires : tie.Need-all-records-requires
 all-records-requires c κs =
-    let e = c .before .before .before .before .before .before in
-    (positive e, modulus e .in-range)
+    let hs = given (sized (c .before .before .before .before)) in
+    (omega (arith, hs .0 .prime .two-or-more), hs .0 .in-range)
 
-returns-7 : tie.Need-returns-7
-returns-7 c =
-    let k = c .before .before in
-    let h = k .before .before in
-    let g = h .before in
-    let f = g .before in
-    let e = f .before .before in
-    let a = e .before .before .before .args in
-    sym
-    (seal-no-records (a .p) (a .n) (a .records .now) (a .multipliers .now) (modulus e) (size f) (recorded g) (counted h) (below k)
-    (pick-false (records? (a .p) (a .records .now)) (sym (c .before .all-records .ensures) ∙ not-true _ (c .if7 .taken))))
+returns-5 : tie.Need-returns-5
+returns-5 c =
+    let g = c .before .before in
+    let f = g .before .before in
+    let e = f .before in
+    let bad = guard-taken (c .before .all-records .ensures) (c .if4 .taken) in
+    seal-refused _ _ _ _ (sized (e .before))
+    (fails-later (recorded e) (λ _. fails-later (counted f) (λ _. fails-later (below g) (λ _. fails-here bad))))
 
 value-of-requires : tie.Need-value-of-requires
 value-of-requires c κs =
-    let h = c .before .before .before .before in
-    let g = h .before in
-    let e = g .before .before .before in
-    (positive e, modulus e .in-range, in-range c, omega (arith, recorded g, size (g .before)), counted h ∙ sym (recorded g))
+    let f = c .before .before .before .before in
+    let e = f .before in
+    let hs = given (sized (e .before)) in
+    let two = hs .0 .prime .two-or-more in
+    (omega (arith, two), hs .0 .in-range, in-range c, omega (arith, recorded e, hs .1 .0 .1), counted f ∙ sym (recorded e))
 
-returns-8 : tie.Need-returns-8
-returns-8 c =
-    let k = c .before .before .before in
-    let h = k .before .before in
-    let g = h .before in
-    let f = g .before in
-    let e = f .before .before in
-    let a = e .before .before .before .args in
-    rw (c .value-of .ensures, recorded g)
-    (sym
-    (seal-done (a .p) (a .n) (a .records .now) (a .multipliers .now) (modulus e) (size f) (recorded g) (counted h) (below k) (in-range (c .before))))
+returns-6 : tie.Need-returns-6
+returns-6 c =
+    let h = c .before in
+    let g = h .before .before in
+    let f = g .before .before in
+    let e = f .before in
+    rw (c .value-of .ensures, recorded e)
+    (seal-done _ _ _ _ (sized (e .before))
+    (holds-and (recorded e) (λ _. holds-and (counted f) (λ _. holds-and (below g) (λ _. holds-and (in-range h) (λ _. none-left))))))
 
 pub seal-spec : {M : Type 1} → statement M
 seal-spec =
     tie.close
     (tie.spec
-    is-modulus-requires
+    frame-sizes-requires
+    enum-known-kind
     returns
+    enum-told
     returns-2
     returns-3
-    returns-4
-    returns-5
     all-below-requires
-    returns-6
+    returns-4
     all-records-requires
-    returns-7
+    returns-5
     value-of-requires
-    returns-8)
+    returns-6)

@@ -1,152 +1,122 @@
--- `frame_calls::write` meets its contract: what the checks leave decides which of the call's answers holds.
-use mathlib.Core.Path.{_≡_, sym, _∙_}
+-- `frame_calls::write` meets its contract: each return is by the first check that fails, and past the checks the frame is written.
+use mathlib.Core.Path.{_≡_, subst}
 use native.Mathlib.Omega.{arith}
 use borrow.Author.Needs.{needs}
-use borrow.Author.Tests.{not-true, not-false}
 use lib.ListN.{length}
-use Rattle.checks.specs.Prime.{IsModulus}
-use Rattle.checks.proofs.Guards.{no-modulus, is-modulus}
+use Rattle.algebra.proofs.Answers.{guard-left, guard-taken}
+use Rattle.checks.specs.InOrder.{AllHold}
+use Rattle.checks.specs.Sizes.{frameSizes, Judges}
+use Rattle.checks.proofs.InOrder.{none-left, holds-and, fails-here, fails-later, given}
 use Rattle.words.specs.Words.{Below}
 use Rattle.frame.specs.Format.{longest}
-use Rattle.algebra.proofs.Answers.{guard-left, guard-taken}
-use Rattle.checks.specs.Largest.{FrameSize}
 use Rattle.frame.proofs.Round.{longest-frame}
-use Rattle.frame.proofs.WriteCalls.{write-no-modulus, write-no-size, write-other-count, write-other-room, write-not-below, write-no-value, write-done}
+use Rattle.frame.proofs.Calls.{write-no-sizes, write-refused, write-done}
 use Rattle.frame_calls.proofs.write.Statement.{statement}
 use Rattle.frame_calls.proofs.write.Tie as tie
 
+abbrev start : tie.After-enum-told → tie.Start
+start c = c .before .before .before .before .before
+
 -- what each check leaves
-modulus : (c : tie.Else1) → IsModulus (c .before .before .before .before .args .p)
-modulus c = is-modulus _ _ (c .before .is-modulus .ensures) (c .if1 .left)
+sized : (c : tie.After-enum-told) → let a = start c .args in AllHold (frameSizes (a .p) (a .n))
+sized c = subst (Judges (frameSizes _ _)) (c .enum-told .given .1) (c .before .before .frame-sizes .ensures)
 
-size : (c : tie.Else3) → FrameSize (c .before .before .before .before .before .before .args .n)
-size c = omega arith
+counted : (c : tie.Else1) → let a = start (c .before) .args in length (a .multipliers .now) ≡ a .n
+counted c = c .if1 .left
 
-counted :
-    (c : tie.Else4) →
-    let a = c .before .before .before .before .before .before .before .args in
-    length (a .multipliers .now) ≡ a .n
-counted c = omega arith
-
-room : (c : tie.Else5) → length (c .before .before .before .before .before .before .before .before .args .bytes .now) ≡ longest
+room : (c : tie.Else2) → length (start (c .before .before) .args .bytes .now) ≡ longest
 unfolding longest
-room c = omega arith
+room c = c .if2 .left
 
-below :
-    (c : tie.Else6) →
-    let a = c .before .before .before .before .before .before .before .before .before .before .args in
-    Below (a .p) (a .multipliers .now)
-below c =
-    let a = c .before .before .before .before .before .before .before .before .before .before .args in
-    guard-left (c .before .all-below .ensures) (c .if6 .left)
+below : (c : tie.Else3) → let a = start (c .before .before .before .before) .args in Below (a .p) (a .multipliers .now)
+below c = guard-left (c .before .all-below .ensures) (c .if3 .left)
 
-is-modulus-requires : tie.Need-is-modulus-requires
-is-modulus-requires c κs = search needs
+frame-sizes-requires : tie.Need-frame-sizes-requires
+frame-sizes-requires c κs = search needs
+
+enum-known-kind : tie.Need-enum-known-kind
+enum-known-kind c = search needs
 
 returns : tie.Need-returns
 returns c =
-    let a = c .before .before .before .before .args in
-    sym (write-no-modulus (a .p) (a .n) (a .multipliers .now) (a .value) (a .bytes .now) (no-modulus _ _ (c .before .is-modulus .ensures) (c .if1 .taken)))
+    let k = c .before in
+    write-no-sizes _ _ _ _ _ (subst (Judges (frameSizes _ _)) (k .kind .given .1) (k .before .before .frame-sizes .ensures))
+
+enum-told : tie.Need-enum-told
+enum-told c = search needs
 
 returns-2 : tie.Need-returns-2
-returns-2 c =
-    let e = c .before in
-    let a = e .before .before .before .before .args in
-    sym (write-no-size (a .p) (a .n) (a .multipliers .now) (a .value) (a .bytes .now) (modulus e) (λ s. omega (arith, s)))
+returns-2 c = write-refused _ _ _ _ _ (sized (c .before)) (fails-here (c .if1 .taken))
 
 returns-3 : tie.Need-returns-3
-returns-3 c =
-    let e = c .before .before in
-    let a = e .before .before .before .before .args in
-    sym (write-no-size (a .p) (a .n) (a .multipliers .now) (a .value) (a .bytes .now) (modulus e) (λ s. omega (arith, s)))
-
-returns-4 : tie.Need-returns-4
-returns-4 c =
-    let f = c .before in
-    let e = f .before .before in
-    let a = e .before .before .before .before .args in
-    sym (write-other-count (a .p) (a .n) (a .multipliers .now) (a .value) (a .bytes .now) (modulus e) (size f) (c .if4 .taken))
-
-returns-5 : tie.Need-returns-5
 unfolding longest
-returns-5 c =
-    let g = c .before in
-    let f = g .before in
-    let e = f .before .before in
-    let a = e .before .before .before .before .args in
-    sym (write-other-room (a .p) (a .n) (a .multipliers .now) (a .value) (a .bytes .now) (modulus e) (size f) (counted g) (c .if5 .taken))
+returns-3 c =
+    let e = c .before in
+    write-refused _ _ _ _ _ (sized (e .before)) (fails-later (counted e) (λ _. fails-here (c .if2 .taken)))
 
 all-below-requires : tie.Need-all-below-requires
 all-below-requires c κs = search needs
 
-returns-6 : tie.Need-returns-6
-returns-6 c =
-    let h = c .before .before in
-    let g = h .before in
-    let f = g .before in
-    let e = f .before .before in
-    let a = e .before .before .before .before .args in
-    sym
-    (write-not-below (a .p) (a .n) (a .multipliers .now) (a .value) (a .bytes .now) (modulus e) (size f) (counted g) (room h)
-    (guard-taken (c .before .all-below .ensures) (c .if6 .taken)))
+returns-4 : tie.Need-returns-4
+returns-4 c =
+    let f = c .before .before in
+    let e = f .before in
+    let bad = guard-taken (c .before .all-below .ensures) (c .if3 .taken) in
+    write-refused _ _ _ _ _ (sized (e .before))
+    (fails-later (counted e) (λ _. fails-later (room f) (λ _. fails-here bad)))
 
-returns-7 : tie.Need-returns-7
-returns-7 c =
-    let h = c .before .before .before in
-    let g = h .before in
-    let f = g .before in
-    let e = f .before .before in
-    let a = e .before .before .before .before .args in
-    sym
-    (write-no-value (a .p) (a .n) (a .multipliers .now) (a .value) (a .bytes .now) (modulus e) (size f) (counted g) (room h) (below (c .before))
-    (λ l. omega arith))
+returns-5 : tie.Need-returns-5
+returns-5 c =
+    let g = c .before in
+    let f = g .before .before in
+    let e = f .before in
+    write-refused _ _ _ _ _ (sized (e .before))
+    (fails-later (counted e) (λ _. fails-later (room f) (λ _. fails-later (below g) (λ _. fails-here (λ l. omega arith)))))
 
 write-frame-requires : tie.Need-write-frame-requires
 write-frame-requires c κs =
-    let h = c .before .before .before .before in
-    let g = h .before in
-    let s = size (g .before) in
-    (s .0, s .1, counted g, room h)
+    let f = c .before .before .before .before in
+    let e = f .before in
+    let s = given (sized (e .before)) .1 .0 in
+    (s .0, s .1, counted e, room f)
 
-cast-t19 : tie.Need-cast-t19
+cast-t18 : tie.Need-cast-t18
 unfolding longest
-cast-t19 c =
+cast-t18 c =
     let w = c .before .before in
-    let g = w .before .before .before .before .before .before in
-    let a = g .before .before .before .before .before .before .before .args in
-    omega (arith, w .write-frame .ensures .0, longest-frame (a .n) (a .multipliers .now) (a .value) (counted g) (size (g .before) .1))
+    let e = w .before .before .before .before .before .before in
+    let a = start (e .before) .args in
+    let s = given (sized (e .before)) .1 .0 in
+    omega (arith, w .write-frame .ensures .0, longest-frame (a .n) (a .multipliers .now) (a .value) (counted e) (s .1))
 
 same-length : tie.Need-same-length
 same-length c = search needs
 
-returns-8 : tie.Need-returns-8
-returns-8 c =
+returns-6 : tie.Need-returns-6
+returns-6 c =
     let w = c .before .before in
-    let k = w .before .before .before in
-    let h = k .before .before in
+    let h = w .before .before in
     let g = h .before in
-    let f = g .before in
-    let e = f .before .before in
-    let a = e .before .before .before .before .args in
+    let f = g .before .before in
+    let e = f .before in
     rw (w .write-frame .ensures .0, w .write-frame .ensures .1)
-    (sym
-    (write-done (a .p) (a .n) (a .multipliers .now) (a .value) (a .bytes .now) (modulus e) (size f) (counted g) (room h) (below k)
-    (omega arith)))
+    (write-done _ _ _ _ _ (sized (e .before))
+    (holds-and (counted e) (λ _. holds-and (room f) (λ _. holds-and (below g) (λ _. holds-and (omega arith) (λ _. none-left))))))
 
 pub write-spec : {M : Type 1} → statement M
 write-spec =
     tie.close
     (tie.spec
-    is-modulus-requires
+    frame-sizes-requires
+    enum-known-kind
     returns
+    enum-told
     returns-2
     returns-3
+    all-below-requires
     returns-4
     returns-5
-    all-below-requires
-    returns-6
-    returns-7
     write-frame-requires
-    cast-t19
+    cast-t18
     same-length
-    returns-8)
+    returns-6)

@@ -1,16 +1,13 @@
 -- `signed::in_range` meets its contract: a record that the first test finds is below -low, and any other lies in the range
 -- exactly if the second test passes.
-use mathlib.Core.Path.{sym}
-use mathlib.Core.Bool.{true, false}
 use Prim.Native.Nat.{_-_}
 use native.Mathlib.Omega.{arith}
 use borrow.Author.Needs.{needs}
 use lib.Signed.{leZ-yes}
 use mir.Syntax.{w32}
 use mir.ValLaws.{toZ-ofZ}
-use Rattle.algebra.proofs.Choice.{pick-no, test-is-pick}
-use Rattle.signed.specs.Decide.{inRange?}
-use Rattle.signed.proofs.Words.{cast-word, negated-fits, below-negated, from-negated}
+use Rattle.algebra.proofs.Answers.{tells-no}
+use Rattle.signed.proofs.Words.{cast-word, negated-fits, below-negated, from-negated, tells-test}
 use Rattle.signed.proofs.in_range.Statement.{statement}
 use Rattle.signed.proofs.in_range.Tie as tie
 
@@ -24,9 +21,7 @@ returns : tie.Need-returns
 returns c =
     let a = c .before .args in
     let z = a .«record» in
-    sym
-    (pick-no (inRange? (a .p) (a .low) z) true false
-    (λ r. below-negated z (a .low) (c .before .fits .«record») (omega arith) (c .if1 .taken) (r .least)))
+    tells-no (λ r. below-negated z (a .low) (c .before .fits .«record») (omega arith) (c .if1 .taken) (r .least))
 
 sub-result : tie.Need-sub-result
 sub-result c = omega arith
@@ -43,9 +38,7 @@ returns-2 c =
     let z = a .«record» in
     let f = c .before .fits .«record» in
     rw (toZ-ofZ w32 z f, cast-word (a .p - 1 - a .low) (omega arith))
-    (test-is-pick
-    (inRange? (a .p) (a .low) z)
-    (λ r. search needs)
+    (tells-test (λ r. search needs)
     (λ t. record { least = from-negated z (a .low) f (omega arith) (c .if1 .left); greatest = leZ-yes t }))
 
 pub in-range-spec : {M : Type 1} → statement M

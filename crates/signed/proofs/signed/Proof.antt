@@ -1,6 +1,5 @@
--- `signed::signed` meets its contract: what the checks leave decides which of the call's three answers holds, and the reading
+-- `signed::signed` meets its contract: each return is by the first check that fails, or done, and the reading
 -- with 01's low end is 01's reading.
-use mathlib.Core.Path.{sym}
 use Prim.Native.Nat.{_<_}
 use native.Mathlib.Omega.{arith}
 use borrow.Author.Needs.{needs}
@@ -8,15 +7,16 @@ use mir.Syntax.{w32}
 use mir.Val.{SFits}
 use mir.ValLaws.{toZ-ofZ}
 use Rattle.checks.specs.Prime.{IsModulus}
-use Rattle.checks.proofs.Guards.{no-modulus, is-modulus}
+use Rattle.algebra.proofs.Answers.{guard-left, guard-taken}
+use Rattle.checks.proofs.InOrder.{none-left, holds-and, fails-here, fails-later}
 use Rattle.signed.proofs.Readings.{low-end-below, reading-from-low}
-use Rattle.signed.proofs.Calls.{signed-no-modulus, signed-no-residue, signed-done}
+use Rattle.signed.proofs.Calls.{signed-refused, signed-done}
 use Rattle.signed.proofs.signed.Statement.{statement}
 use Rattle.signed.proofs.signed.Tie as tie
 
 -- past check 1, p is a modulus
 modulus : (c : tie.Else1) → IsModulus (c .before .before .args .p)
-modulus c = is-modulus _ _ (c .before .is-modulus .ensures) (c .if1 .left)
+modulus c = guard-left (c .before .is-modulus .ensures) (c .if1 .left)
 
 positive : (c : tie.Else1) → 0 < c .before .before .args .p
 positive c = omega (arith, modulus c .prime .two-or-more)
@@ -25,14 +25,10 @@ is-modulus-requires : tie.Need-is-modulus-requires
 is-modulus-requires c κs = search needs
 
 returns : tie.Need-returns
-returns c =
-    let a = c .before .before .args in
-    sym (signed-no-modulus (a .p) (a .v) (no-modulus _ _ (c .before .is-modulus .ensures) (c .if1 .taken)))
+returns c = signed-refused _ _ (fails-here (guard-taken (c .before .is-modulus .ensures) (c .if1 .taken)))
 
 returns-2 : tie.Need-returns-2
-returns-2 c =
-    let a = c .before .before .before .args in
-    sym (signed-no-residue (a .p) (a .v) (modulus (c .before)) (omega arith))
+returns-2 c = signed-refused _ _ (fails-later (modulus (c .before)) (λ _. fails-here (λ l. omega arith)))
 
 low-end-requires : tie.Need-low-end-requires
 low-end-requires c κs = positive (c .before)
@@ -51,7 +47,7 @@ returns-3 c =
     let l : a .v < a .p = omega arith in
     let read = rw (c .before .low-end .ensures, reading-from-low (a .p) (a .v) h l) at (c .read-from .ensures) in
     let fits : SFits w32 (c .read-from .result) = record { sfits = c .read-from .ok } in
-    rw (toZ-ofZ w32 (c .read-from .result) fits, read) (sym (signed-done (a .p) (a .v) (modulus e) l))
+    rw (toZ-ofZ w32 (c .read-from .result) fits, read) (signed-done _ _ (holds-and (modulus e) (λ _. holds-and l (λ _. none-left))))
 
 pub signed-spec : {M : Type 1} → statement M
 signed-spec =

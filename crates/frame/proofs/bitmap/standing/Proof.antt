@@ -7,8 +7,7 @@ use lib.Count.{ones, ones-le}
 use borrow.Author.Needs.{needs}
 use mir.Syntax.{w8}
 use mir.Val.{Fits}
-use Rattle.frame.specs.Bitmap.{standingFrom}
-use Rattle.frame.proofs.Bits.{count, count-none, count-one-more}
+use Rattle.frame.proofs.Bits.{count, count-none, count-one-more, count-record-bits}
 use Rattle.frame.proofs.bitmap.standing.Statement.{statement}
 use Rattle.frame.proofs.bitmap.standing.Tie as tie
 
@@ -50,11 +49,10 @@ loop-again c =
     (omega arith, omega (arith, more), omega (arith, ones-small c))
 
 returns : tie.Need-returns Inv-loop μ-loop
-unfolding standingFrom count
 returns c =
     let l = c .before .loop in
     let all : 8 * l .b ≡ 64 = omega arith in
-    l .inv .1 ∙ ap (count _ 0) all
+    rw count-record-bits (l .inv .1 ∙ ap (count _ 0) all)
 
 pub standing-spec : {M : Type 1} → statement M
 standing-spec =

@@ -1,7 +1,7 @@
 -- `frame::bitmap::stands` meets its contract: the code shifts and tests as the definition of the bit says.
 use mathlib.Core.Path.{refl}
 use borrow.Author.Needs.{needs}
-use Rattle.frame.specs.Reading.{bitAt}
+use Rattle.frame.specs.Bitmap.{bitAt}
 use Rattle.frame.proofs.bitmap.stands.Statement.{statement}
 use Rattle.frame.proofs.bitmap.stands.Tie as tie
 

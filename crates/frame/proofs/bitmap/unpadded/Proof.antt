@@ -1,12 +1,11 @@
 -- `frame::bitmap::unpadded` meets its contract. The loop's invariant: no bit stands from n up to j.
 use mathlib.Core.Path.{_≡_, _∙_, sym}
-use mathlib.Core.Bool.{false}
+use mathlib.Core.Bool.{false, true≢false}
 use Prim.Native.Nat.{ℕ, _≤_, _<_, _-_}
 use native.Mathlib.Omega.{arith}
 use borrow.Author.Count.{below-more}
-use borrow.Author.Tests.{eq-eqb, ne-eqb}
-use Rattle.frame.specs.Reading.{bitAt}
-use Rattle.frame.proofs.BitMaps.{none-from, one-from}
+use Rattle.algebra.proofs.Answers.{tells-yes, tells-no}
+use Rattle.frame.specs.Bitmap.{bitAt}
 use Rattle.frame.proofs.bitmap.unpadded.Statement.{statement}
 use Rattle.frame.proofs.bitmap.unpadded.Tie as tie
 
@@ -25,9 +24,8 @@ stands-requires c κs = omega arith
 returns : tie.Need-returns Inv-loop μ-loop
 returns c =
     let l = c .before .before .before .loop in
-    let s = c .before .before .before .before in
     let stands = sym (c .before .stands .ensures) ∙ c .if1 .taken in
-    sym (ne-eqb _ _ (one-from (s .args .n) (s .args .map) (l .j) (omega arith) (l .inv .0) stands))
+    tells-no (λ clear. true≢false (sym stands ∙ clear (l .j) (omega arith) (l .inv .0)))
 
 add-j : tie.Need-add-j Inv-loop μ-loop
 add-j c = omega arith
@@ -41,9 +39,7 @@ loop-again c =
     (omega arith, below-more (λ i. _ ≤ i → bitAt _ i ≡ false) (l .j) (l .inv .1) (λ _. sym (c .before .stands .ensures) ∙ c .if1 .left))
 
 returns-2 : tie.Need-returns-2 Inv-loop μ-loop
-returns-2 c =
-    let a = c .before .before .args in
-    sym (eq-eqb _ _ (none-from (a .n) (a .map) (λ j h n. c .before .loop .inv .1 j (omega arith) n)))
+returns-2 c = tells-yes (λ j h n. c .before .loop .inv .1 j (omega arith) n)
 
 pub unpadded-spec : {M : Type 1} → statement M
 unpadded-spec =

@@ -28,14 +28,14 @@ number-at-requires : tie.Need-number-at-requires Inv-loop μ-loop
 number-at-requires c κs = judging-room _ _ _ _ _ _ (c .before .loop .inv)
 
 returns : tie.Need-returns Inv-loop μ-loop
-returns c xs =
+returns c =
     let l = c .before .before .before .loop in
-    judging-zero _ _ _ _ _ _ (l .inv) _ (c .before .number-at .ensures) (omega arith) xs (omega arith)
+    judging-zero _ _ _ _ _ _ (l .inv) _ (c .before .number-at .ensures) (omega arith) (omega arith)
 
 returns-2 : tie.Need-returns-2 Inv-loop μ-loop
-returns-2 c xs =
+returns-2 c =
     let l = c .before .before .before .before .loop in
-    judging-large _ _ _ _ _ _ (l .inv) _ (c .before .before .number-at .ensures) (omega arith) xs (omega arith) (omega arith)
+    judging-large _ _ _ _ _ _ (l .inv) _ (c .before .before .number-at .ensures) (omega arith) (omega arith) (omega arith)
 
 add-at : tie.Need-add-at Inv-loop μ-loop
 unfolding width
@@ -57,14 +57,14 @@ number-at-requires-2 : tie.Need-number-at-requires-2 Inv-loop μ-loop
 number-at-requires-2 c κs = judging-room _ _ _ _ _ _ (c .before .loop .inv)
 
 returns-3 : tie.Need-returns-3 Inv-loop μ-loop
-returns-3 c xs =
+returns-3 c =
     let l = c .before .before .before .loop in
-    judging-value-large _ _ _ _ _ _ (l .inv) _ (c .before .number-at2 .ensures) (omega arith) xs (omega arith)
+    judging-value-large _ _ _ _ _ _ (l .inv) _ (c .before .number-at2 .ensures) (omega arith) (omega arith)
 
 returns-4 : tie.Need-returns-4 Inv-loop μ-loop
-returns-4 c xs =
+returns-4 c =
     let l = c .before .before .before .loop in
-    judging-value _ _ _ _ _ _ (l .inv) _ (c .before .number-at2 .ensures) (omega arith) xs (omega arith)
+    judging-value _ _ _ _ _ _ (l .inv) _ (c .before .number-at2 .ensures) (omega arith) (omega arith) (c .before .before .before .before .before .pre)
 
 pub judged-spec : {M : Type 1} → statement M
 judged-spec =

@@ -1,13 +1,26 @@
--- `frame::reading::read_frame` meets its contract: what the checks leave decides which of the frame's answers holds, and past them the
--- numbers decide.
-use mathlib.Core.Path.{sym, _∙_}
+-- `frame::reading::read_frame` meets its contract: each return is by the first check of the frame that fails, or all
+-- hold and the multipliers are filled in.
+use mathlib.Core.Path.{_∙_, subst}
 use Prim.Native.Nat.{_≤_}
 use native.Mathlib.Omega.{arith}
 use borrow.Author.Needs.{needs}
-use borrow.Author.Tests.{eqb-true, eqb-false, not-true, not-false}
+use Rattle.algebra.proofs.Answers.{guard-left, guard-taken}
 use Rattle.frame.specs.Format.{width, mapLength}
+use Rattle.frame.specs.Stages.{Judged}
 use Rattle.frame.proofs.BitMaps.{standing-small, standing-first}
-use Rattle.frame.proofs.ReadCalls.{Mapped, Counted, told-rejected, frame-short, frame-padded, frame-other-length, frame-judged}
+use Rattle.frame.proofs.ReadChecks.{
+  Mapped,
+  Counted,
+  frame-short,
+  frame-padded,
+  frame-other-length,
+  frame-number,
+  frame-good,
+  value-read,
+  multipliers-read,
+  frame-refused,
+  frame-accepted,
+}
 use Rattle.frame.proofs.reading.read_frame.Statement.{statement}
 use Rattle.frame.proofs.reading.read_frame.Tie as tie
 
@@ -31,7 +44,7 @@ counted c =
     record {
       mapped = mapped (u .before);
       small = s .pre .2;
-      none = eqb-true _ _ (sym (u .unpadded .ensures) ∙ not-false _ (c .before .if2 .left));
+      clear = guard-left (u .unpadded .ensures) (c .before .if2 .left);
       counted = c .standing .ensures;
     }
 
@@ -45,7 +58,7 @@ returns : tie.Need-returns
 unfolding mapLength
 returns c =
     let a = c .before .before .before .args in
-    told-rejected (a .multipliers .now) _ _ (frame-short _ _ _ (c .if1 .taken))
+    frame-refused _ _ _ _ (frame-short (a .p) (a .n) (a .bytes .now) (c .if1 .taken))
 
 from-bytes-requires : tie.Need-from-bytes-requires
 from-bytes-requires c κs = search needs
@@ -56,9 +69,7 @@ unpadded-requires c κs = search needs
 returns-2 : tie.Need-returns-2
 returns-2 c =
     let m = c .before .before in
-    let a = m .before .before .before .before .args in
-    let padded = eqb-false _ _ (sym (c .before .unpadded .ensures) ∙ not-true _ (c .if2 .taken)) in
-    told-rejected (a .multipliers .now) _ _ (frame-padded (a .p) _ _ _ (mapped m) padded)
+    frame-refused _ _ _ _ (frame-padded _ _ _ _ (mapped m) (guard-taken (c .before .unpadded .ensures) (c .if2 .taken)))
 
 standing-requires : tie.Need-standing-requires
 standing-requires c κs = search needs
@@ -74,16 +85,25 @@ add-if3-2 c = omega (arith, few c)
 
 returns-3 : tie.Need-returns-3
 unfolding mapLength width
-returns-3 c =
-    let a = c .before .before .before .before .before .before .before .before .args in
-    told-rejected (a .multipliers .now) _ _ (frame-other-length (a .p) _ _ _ _ (counted (c .before)) (c .if3 .taken))
+returns-3 c = frame-refused _ _ _ _ (frame-other-length _ _ _ _ _ (counted (c .before)) (c .if3 .taken))
 
-read-numbers-requires : tie.Need-read-numbers-requires
-unfolding mapLength width
-read-numbers-requires c κs =
-    let t = counted (c .before .before) in
-    let s = c .before .before .before .before .before .before .before .before .before in
-    (omega arith, rw (s .pre .3) (t .counted ∙ standing-first _ _ (t .small) (t .none)), c .before .if3 .left)
+judged-requires : tie.Need-judged-requires
+unfolding width
+judged-requires c κs = c .if3 .left
+
+enum-known-value : tie.Need-enum-known-value
+enum-known-value c = search needs
+
+fill-requires : tie.Need-fill-requires
+unfolding width
+fill-requires c κs =
+    let e = c .before .before .before .before .before in
+    let t = counted (e .before) in
+    let s = e .before .before .before .before .before .before .before .before in
+    (omega arith, rw (s .pre .3, ← (standing-first _ _ (t .small) (t .clear)), ← (t .counted)) (omega (arith, e .if3 .left)))
+
+enum-known-kind : tie.Need-enum-known-kind
+enum-known-kind c = search needs
 
 same-length : tie.Need-same-length
 same-length c = search needs
@@ -91,10 +111,22 @@ same-length c = search needs
 returns-4 : tie.Need-returns-4
 unfolding mapLength width
 returns-4 c =
-    let l = c .before .before .before .before in
-    let s = l .before .before .before .before .before .before .before .before in
-    rw (← frame-judged (s .args .p) _ _ _ _ (counted (l .before)) (l .if3 .left))
-    (rw (s .pre .3) at (c .before .before .read-numbers .ensures))
+    let f = c .before .before in
+    let v = f .before .before .before in
+    let j = v .before .before in
+    let t = counted (j .before .before) in
+    let good = subst (Judged _ _) (v .value .given .1) (j .judged .ensures) in
+    let s = j .before .before .before .before .before .before .before .before .before in
+    frame-accepted _ _ _ _ (frame-good _ _ _ _ _ t (j .before .if3 .left) (good .0)) (good .1 ∙ value-read (s .args .p) _ _ _ _ t)
+    (rw (s .pre .3) at (f .fill .ensures) ∙ multipliers-read (s .args .p) _ _ _ _ t)
+
+returns-5 : tie.Need-returns-5
+unfolding mapLength width
+returns-5 c =
+    let k = c .before in
+    let j = k .before .before in
+    let bad = subst (Judged _ _) (k .kind .given .1) (j .judged .ensures) in
+    frame-refused _ _ _ _ (frame-number _ _ _ _ _ (counted (j .before .before)) (j .before .if3 .left) bad)
 
 pub read-frame-spec : {M : Type 1} → statement M
 read-frame-spec =
@@ -110,6 +142,10 @@ read-frame-spec =
     add-if3
     add-if3-2
     returns-3
-    read-numbers-requires
+    judged-requires
+    enum-known-value
+    fill-requires
+    enum-known-kind
     same-length
-    returns-4)
+    returns-4
+    returns-5)

@@ -1,22 +1,17 @@
--- `frame::checks::all_records` meets its contract. The loop's invariant: every number passed is a record. The test of a turn is
+-- `frame::records::all_records` meets its contract. The loop's invariant: every number passed is a record. The test of a turn is
 -- that of the range with 01's low end.
-use mathlib.Core.Path.{_≡_, sym, _∙_}
-use mathlib.Core.Bool.{true, false}
 use Prim.Native.Nat.{ℕ, _≤_, _<_, _-_}
 use native.Mathlib.Omega.{arith}
 use borrow.Author.Count.{below-none, below-more}
-use borrow.Author.Tests.{not-true, not-false}
 use lib.IntN.{pos}
 use lib.ListN.{length, getD}
 use mir.Syntax.{w32}
 use mir.Val.{SFits}
 use mir.ValLaws.{toZ-ofZ}
-use Rattle.algebra.specs.Choice.{pick}
-use Rattle.algebra.proofs.Choice.{pick-yes, pick-no, pick-true, pick-false}
-use Rattle.signed.specs.Reading.{lowEnd, IsRecord}
-use Rattle.signed.specs.Decide.{inRange?}
+use Rattle.algebra.specs.Answers.{Tells}
+use Rattle.algebra.proofs.Answers.{guard-left, guard-taken, tells-yes, tells-no, tells-same}
+use Rattle.signed.specs.Reading.{IsRecord}
 use Rattle.signed.proofs.Readings.{low-end-below, record-in-range}
-use Rattle.frame.specs.Checks.{records?}
 use Rattle.frame.proofs.records.all_records.Statement.{statement}
 use Rattle.frame.proofs.records.all_records.Tie as tie
 
@@ -44,28 +39,23 @@ in-range-requires c κs =
     let s = e .before in
     (rw (e .low-end .ensures) (low-end-below (s .args .p) (s .pre .0)), s .pre .1)
 
--- the test of a turn decides whether the number lies in the range with 01's low end, which is 01's range
+-- the test of a turn tells whether the number is a record: the range with 01's low end is 01's range
 tested :
     (c : tie.After-in-range Inv-loop μ-loop) →
     let a = c .before .before .before .before .before .args in
-    let z = getD (a .numbers .now) (c .before .before .before .loop .i) (pos 0) in
-    c .in-range .result ≡ pick (inRange? (a .p) (lowEnd (a .p)) z) true false
+    Tells (c .in-range .result) (IsRecord (a .p) (getD (a .numbers .now) (c .before .before .before .loop .i) (pos 0)))
 tested c =
-    let a = c .before .before .before .before .before .args in
-    let z = getD (a .numbers .now) (c .before .before .before .loop .i) (pos 0) in
+    let s = c .before .before .before .before .before in
+    let z = getD (s .args .numbers .now) (c .before .before .before .loop .i) (pos 0) in
     let fits : SFits w32 z = record { sfits = c .before .in-range-arg .given } in
-    rw (c .before .before .before .before .low-end .ensures, toZ-ofZ w32 z fits) at (c .in-range .ensures)
+    let same = record-in-range (s .args .p) z (s .pre .0) in
+    tells-same (same .1) (same .0)
+    (rw (c .before .before .before .before .low-end .ensures, toZ-ofZ w32 z fits) at (c .in-range .ensures))
 
 returns : tie.Need-returns Inv-loop μ-loop
 returns c =
-    let s = c .before .before .before .before .before .before in
-    let a = s .args in
     let l = c .before .before .before .before .loop in
-    let z = getD (a .numbers .now) (l .i) (pos 0) in
-    let out = pick-false (inRange? (a .p) (lowEnd (a .p)) z) (sym (tested (c .before)) ∙ not-true _ (c .if1 .taken)) in
-    sym
-    (pick-no (records? (a .p) (a .numbers .now)) true false
-    (λ r. out (record-in-range (a .p) z (s .pre .0) .0 (r (l .i) (omega arith)))))
+    tells-no (λ r. guard-taken (tested (c .before)) (c .if1 .taken) (r (l .i) (omega arith)))
 
 add-i : tie.Need-add-i Inv-loop μ-loop
 add-i c = omega arith
@@ -75,17 +65,11 @@ loop-less c = omega arith
 
 loop-again : tie.Need-loop-again Inv-loop μ-loop
 loop-again c =
-    let s = c .before .before .before .before .before .before in
-    let a = s .args in
     let l = c .before .before .before .before .loop in
-    let z = getD (a .numbers .now) (l .i) (pos 0) in
-    let inside = pick-true (inRange? (a .p) (lowEnd (a .p)) z) (sym (tested (c .before)) ∙ not-false _ (c .if1 .left)) in
-    (omega arith, below-more _ (l .i) (l .inv .1) (record-in-range (a .p) z (s .pre .0) .1 inside))
+    (omega arith, below-more _ (l .i) (l .inv .1) (guard-left (tested (c .before)) (c .if1 .left)))
 
 returns-2 : tie.Need-returns-2 Inv-loop μ-loop
-returns-2 c =
-    let a = c .before .before .before .args in
-    sym (pick-yes (records? (a .p) (a .numbers .now)) true false (λ k h. c .before .loop .inv .1 k (omega arith)))
+returns-2 c = tells-yes (λ k h. c .before .loop .inv .1 k (omega arith))
 
 pub all-records-spec : {M : Type 1} → statement M
 all-records-spec =

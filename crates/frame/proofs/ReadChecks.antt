@@ -1,0 +1,131 @@
+-- Reading a frame by its checks in order: which one fails first, or that all hold, as the map that was built from the frame's
+-- front tells; what reading then comes to; and the kinds that it can refuse by.
+use mathlib.Core.Path.{_≡_, sym, ap, ap₂, refl, _∙_}
+use mathlib.Core.List.{List, [], _∷_}
+use Prim.Native.Nat.{ℕ, _+_, _*_, _≤_, _<_}
+use native.Mathlib.Omega.{arith}
+use lib.IntN.{pos}
+use lib.ListN.{length, drop}
+use Rattle.checks.specs.declared.Refusal.{Refusal}
+use Rattle.checks.specs.declared.Refusal.the-variants.{FrameLength, Padding}
+use Rattle.checks.specs.Told.{gives}
+use Rattle.checks.specs.Outcome.{outcome, untouched}
+use Rattle.checks.specs.InOrder.{AllHold, FirstFailing, EveryKind}
+use Rattle.checks.specs.Largest.{largest}
+use Rattle.checks.proofs.InOrder.{holds-and, fails-here, fails-later, in-order-done, in-order-refused, in-order-elim, kind-of-list}
+use Rattle.frame.specs.Format.{width, mapLength}
+use Rattle.frame.specs.Bitmap.{standing, recordBits, ClearFrom, Unpadded, mapFrom, mapBits}
+use Rattle.frame.specs.Reading.{
+  numbersIn,
+  spread,
+  frameLength,
+  frameNumbers,
+  frameMultipliers,
+  frameValue,
+  numberChecks,
+  frameChecks,
+  ReadingKind,
+  Found,
+  accepted,
+  rejected,
+  readFrame,
+}
+use Rattle.frame.specs.Stages.{valueAfter, checksFrom, multipliersFrom}
+use Rattle.frame.specs.Calls.{readOutcome}
+use Rattle.frame.proofs.BitMaps.{map-record-bits, clear-unpadded, unpadded-clear, standing-first}
+
+-- ---- the checks of a frame
+
+-- the map of eight bytes that was built from the front of the bytes
+pub record Mapped (n : ℕ) (bytes map : List ℕ) : Type 0 where
+  pub fits : mapLength n ≤ length bytes
+  pub built : map ≡ mapFrom (mapLength n) bytes
+
+-- no bit of it stands at n or above, and its standing bits are counted
+pub record Counted (n : ℕ) (bytes map : List ℕ) (count : ℕ) : Type 0 where
+  pub mapped : Mapped n bytes map
+  pub small : n ≤ largest
+  pub clear : ClearFrom n largest map
+  pub counted : count ≡ standing (mapBits map)
+
+module _ (p n : ℕ) (bytes : List ℕ) where
+  -- shorter than the map
+  pub frame-short : length bytes < mapLength n → FirstFailing (frameChecks p n bytes) FrameLength
+  frame-short h = fails-here (λ l. omega arith)
+
+  -- a bit stands at n or above
+  pub frame-padded : (map : List ℕ) → Mapped n bytes map → (ClearFrom n largest map → ⊥) → FirstFailing (frameChecks p n bytes) Padding
+  frame-padded map m h =
+      fails-later (m .fits) (λ _. fails-here (λ u. h (rw (m .built) (unpadded-clear n bytes (m .fits) u))))
+
+  module _ (map : List ℕ) (count : ℕ) (c : Counted n bytes map count) where
+    unpadded : Unpadded n bytes
+    unpadded = clear-unpadded n bytes (c .mapped .fits) (c .small) (rw (c .mapped .built) at (c .clear))
+
+    bits : recordBits n map ≡ recordBits n bytes
+    bits = rw (c .mapped .built) (map-record-bits n bytes (c .mapped .fits))
+
+    count-bytes : count ≡ standing (recordBits n bytes)
+    count-bytes = c .counted ∙ standing-first n map (c .small) (c .clear) ∙ ap standing bits
+
+    length-told : mapLength n + width * count + width ≡ frameLength n bytes
+    unfolding frameLength
+    length-told = rw count-bytes
+
+    -- another length than the map tells
+    pub frame-other-length : (length bytes ≡ mapLength n + width * count + width → ⊥) → FirstFailing (frameChecks p n bytes) FrameLength
+    frame-other-length h =
+        fails-later (c .mapped .fits) (λ _. fails-later unpadded (λ _. fails-here (λ e. h (e ∙ sym length-told))))
+
+    -- the length that the map tells: the numbers decide
+    module _ (long : length bytes ≡ mapLength n + width * count + width) where
+      pub frame-number : {k : Refusal} → FirstFailing (checksFrom p bytes (mapLength n) count) k → FirstFailing (frameChecks p n bytes) k
+      unfolding frameNumbers frameValue valueAfter
+      frame-number f =
+          fails-later (c .mapped .fits)
+          (λ _. fails-later unpadded (λ _. fails-later (long ∙ length-told) (λ _. rw count-bytes at f)))
+
+      pub frame-good : AllHold (checksFrom p bytes (mapLength n) count) → AllHold (frameChecks p n bytes)
+      unfolding frameNumbers frameValue valueAfter
+      frame-good a =
+          holds-and (c .mapped .fits)
+          (λ _. holds-and unpadded (λ _. holds-and (long ∙ length-told) (λ _. rw count-bytes at a)))
+
+    pub value-read : valueAfter bytes (mapLength n) count ≡ frameValue n bytes
+    unfolding frameValue valueAfter
+    value-read = rw count-bytes
+
+    pub multipliers-read : multipliersFrom map bytes (mapLength n) 0 n ≡ frameMultipliers n bytes
+    unfolding multipliersFrom frameMultipliers frameNumbers recordBits
+    multipliers-read = ap (λ bs. spread bs (numbersIn (standing bs) (drop (mapLength n) bytes))) bits
+
+-- ---- what reading comes to
+
+module _ (p n : ℕ) (bytes lent : List ℕ) where
+  pub frame-refused : {k : Refusal} → FirstFailing (frameChecks p n bytes) k → untouched lent k ≡ readOutcome lent (readFrame p n bytes)
+  unfolding readFrame readOutcome
+  frame-refused f = ap (readOutcome lent) (sym (in-order-refused _ _ f))
+
+  pub frame-accepted :
+      {v : ℕ} {xs : List ℕ} → AllHold (frameChecks p n bytes) → v ≡ frameValue n bytes → xs ≡ frameMultipliers n bytes
+      → outcome (gives (pos v)) xs ≡ readOutcome lent (readFrame p n bytes)
+  unfolding readFrame readOutcome
+  frame-accepted a e w = ap (readOutcome lent) (ap₂ accepted w e ∙ sym (in-order-done _ _ _ a (λ _. refl)))
+
+-- ---- the kinds
+
+number-kinds : (p : ℕ) (ns : List ℕ) (v : ℕ) → EveryKind ReadingKind (numberChecks p ns v)
+number-kinds p [] v = (omega arith, λ _. tt)
+number-kinds p (x ∷ ns) v = (omega arith, λ _. (omega arith, λ _. number-kinds p ns v))
+
+-- reading refuses by 4, 6, 7 or 8
+pub reading-kinds : (p n : ℕ) (bytes : List ℕ) → EveryKind ReadingKind (frameChecks p n bytes)
+reading-kinds p n bytes = (omega arith, λ _. (omega arith, λ _. (omega arith, λ _. number-kinds p (frameNumbers n bytes) _)))
+
+-- so whatever holds of any multipliers and value, and of those refusals, holds of what is found
+pub reading-elim :
+    (Q : Found → Type 0) (p n : ℕ) (bytes : List ℕ) → ((xs : List ℕ) (v : ℕ) → Q (accepted xs v))
+    → ((k : Refusal) → ReadingKind k → Q (rejected k)) → Q (readFrame p n bytes)
+unfolding readFrame
+reading-elim Q p n bytes a r =
+    in-order-elim _ _ Q (λ _. a _ _) (λ k f. r k (kind-of-list ReadingKind (reading-kinds p n bytes) f))
