@@ -50,6 +50,13 @@ unfolding pickType pickBy
 pick-cases Q (yes h) T B f a y n = y h (λ k t. t)
 pick-cases Q (no h) T B f a y n = n (λ k t. t)
 
+-- a pick that is mapped, by what each yes comes to
+pick-map : {H A B : Type 0} (f : A → B) (d : Dec H) (g : H → A) (g′ : H → B) (a : A) → ((h : H) → f (g h) ≡ g′ h)
+    → f (pickBy d g a) ≡ pickBy d g′ (f a)
+unfolding pickBy
+pick-map f (yes h) g g′ a e = e h
+pick-map f (no h) g g′ a e = refl
+
 -- ---- which way a list goes
 
 pub none-left : {K : Type 0} → AllHold {K = K} passed
@@ -160,6 +167,22 @@ module _ {K X : Type 0} where
     pub in-order-elim : (Q : X → Type 0) → ((hs : Given cs) → Q (done hs)) → ((k : K) → FirstFailing cs k → Q (refuse k))
         → Q (inOrder cs done refuse)
     in-order-elim Q y n = elim-by Q cs done refuse y (λ k t. n k (record { fails = t }))
+
+-- what is made of the outcome is made of what is done and of the refusal
+pub in-order-map : {K X Y : Type 0} (f : X → Y) (cs : Checks K) (done : Given cs → X) (refuse : K → X)
+    → f (inOrder cs done refuse) ≡ inOrder cs (λ hs. f (done hs)) (λ k. f (refuse k))
+unfolding inOrder
+in-order-map f passed done refuse = refl
+in-order-map f (first c rest) done refuse =
+    pick-map f (c .decide) _ _ _ (λ h. in-order-map f (rest h) (λ hs. done (h, hs)) refuse)
+
+-- a list and then another come to the first, and where it is passed to the other
+pub in-order-then : {K X : Type 0} (cs more : Checks K) (x : X) (refuse : K → X)
+    → inOrder (andThen cs (λ _. more)) (λ _. x) refuse ≡ inOrder cs (λ _. inOrder more (λ _. x) refuse) refuse
+unfolding inOrder
+in-order-then passed more x refuse = refl
+in-order-then (first c rest) more x refuse =
+    pick-map (λ y. y) (c .decide) _ _ _ (λ h. in-order-then (rest h) more x refuse)
 
 -- ---- the kinds of a list
 
