@@ -60,8 +60,11 @@ module _ (R : Ring) (L : IsCommutativeRing R) where
         fixes-column = λ i c e. absurd (counts.true-not-false e refl);
         fixes-row = λ y j e. absurd (counts.true-not-false e refl);
         absorbs =
-            matrices.entries R (product R n A (product R m (zeros R) A)) A
-            (λ i j. product-row R L n A (product R m (zeros R) A) i (λ t l. h i t) j ∙ sym (h i j));
+            record {
+              equation =
+                  matrices.entries R (product R n A (product R m (zeros R) A)) A
+                  (λ i j. product-row R L n A (product R m (zeros R) A) i (λ t l. h i t) j ∙ sym (h i j));
+            };
         upper = λ i c l. product-row R L m (zeros R) A i (λ t b. refl) c;
         lower = λ y j l. product-row R L n A (zeros R) y (λ t b. h y t) j;
         columns = λ c e. absurd (counts.true-not-false e refl);
@@ -69,7 +72,7 @@ module _ (R : Ring) (L : IsCommutativeRing R) where
         equally-many = count-none n ∙ sym (count-none m);
       }
 
-  -- entries of the quasiinverse of one row
+  -- entries of the D of one row
   single-other-row : (v : ℕ) (s : Carrier) (i j : ℕ) → (i ≡ v → ⊥) → single R v s i j ≡ 𝟘
   unfolding single
   single-other-row v s i j d = ap (λ b. choose b (choose (eqb j 0) s 𝟘) 𝟘) (ne-eqb i v d)
@@ -159,7 +162,7 @@ module _ (R : Ring) (L : IsCommutativeRing R) where
             column-outside = λ i j e. single-other-column v s i j (eqb-false j 0 e);
             fixes-column = fixes-column;
             fixes-row = fixes-row;
-            absorbs = absorbs;
+            absorbs = record { equation = absorbs };
             upper = upper;
             lower = λ y j l. product-column R L n A (single R v s) j (λ t b. single-other-column v s t j (λ e. ne-of-lt (pos y j l) (sym e))) y;
             columns = λ c e. subst (λ k. k < n) (sym (eqb-true c v e)) v-below;

@@ -1,4 +1,4 @@
--- The marks of a quasiinverse are document 01's I and J: a column is outside I exactly if it is a combination of the
+-- The marks of a pivot inverse are document 01's I and J: a column is outside I exactly if it is a combination of the
 -- columns before it, and so for rows and J. Outside I, A e_c = A (D A e_c) combines earlier columns, D A being upper
 -- triangular; in I, row c of D would send such a combination to 1 and to 0. Rows go by transposition.
 use mathlib.Core.Path.{_≡_, sym, ap, _∙_}
@@ -49,7 +49,7 @@ module _ (R : Ring) (L : IsCommutativeRing R) where
 
         combines : (j : ℕ) → j < m → A j c ≡ mixed R c x (transpose R A) j
         combines j k =
-            sym (matrices.entry R (Q .absorbs) j c)
+            sym (matrices.entry R (Q .absorbs .equation) j c)
             ∙ applied.product-column R n A (product R m D A) j c
             ∙ applied.apply-ends R L c n A x j (le-of-lt l) ends
             ∙ sym (mixed-transpose R L c x A j)
@@ -91,13 +91,3 @@ module _ (R : Ring) (L : IsCommutativeRing R) where
         tests-agree (I c) (I′ c)
         (λ e. let l = Q .columns c e in is-true (I′ c) (λ o. column-free Q c e (g c l (column-depends Q′ c l o))))
         (λ e. let l = Q′ .columns c e in is-true (I c) (λ o. column-free Q′ c e (f c l (column-depends Q c l o))))
-
-    -- the marks of columns depend on the table alone
-    pub columns-decided : {m n : ℕ} {A D D′ : Matrix R} {I I′ J J′ : Marks}
-        → IsPivotInverse R m n A D I J → IsPivotInverse R m n A D′ I′ J′ → (c : ℕ) → I c ≡ I′ c
-    columns-decided Q Q′ = columns-agree Q Q′ (λ c l d. d) (λ c l d. d)
-
-    -- and so do the marks of rows
-    pub rows-decided : {m n : ℕ} {A D D′ : Matrix R} {I I′ J J′ : Marks}
-        → IsPivotInverse R m n A D I J → IsPivotInverse R m n A D′ I′ J′ → (y : ℕ) → J y ≡ J′ y
-    rows-decided Q Q′ = columns-decided (transposed R L Q) (transposed R L Q′)

@@ -1,5 +1,5 @@
--- Over a field it is decided whether a vector is a combination of rows: it is one exactly if (vD)X = v for a quasiinverse D
--- of the rows; and whether rows are independent: if J has them all.
+-- Over a field it is decided whether a vector is a combination of rows: it is one exactly if (vD)X = v for a D with
+-- XDX = X; and whether rows are independent: if J has them all.
 use mathlib.Core.Path.{_≡_, refl, sym, ap, _∙_}
 use mathlib.Core.Bool.{Bool, true, false, true≢false}
 use Prim.Native.Nat.{ℕ, _<_}
@@ -10,8 +10,8 @@ use Rattle.algebra.specs.Ring.{Ring, IsField}
 use Rattle.algebra.specs.Matrix.{Vector, Matrix, Sized, mixed}
 use Rattle.algebra.specs.Span.{Combines, IsCombination, Independent}
 use Rattle.algebra.proofs.Choice.{all-below?}
-use Rattle.algebra.proofs.Sums as sums
-use Rattle.algebra.proofs.Exists.{Solved, solved}
+use Rattle.algebra.proofs.Alike.{mixed-alike}
+use Rattle.algebra.proofs.Exists.{PivotInverse, pivot-inverse}
 use Rattle.algebra.proofs.Independent.{combination-found, independent-chosen, chosen-independent}
 
 module _ (R : Ring) where
@@ -39,10 +39,7 @@ module _ (R : Ring) where
 
   -- the rows that are cut combine as the whole ones do
   mixed-cut : (m n : ℕ) (X : Matrix R) (u : Vector R) (j : ℕ) → j < n → mixed R m u (cut m n X) j ≡ mixed R m u X j
-  unfolding mixed
-  mixed-cut m n X u j l =
-      sums.sum-same R m (λ t. R .times (u t) (cut m n X t j)) (λ t. R .times (u t) (X t j))
-      (λ t h. ap (R .times (u t)) (cut-inside m n X t j h l))
+  mixed-cut m n X u j l = mixed-alike R m n (cut m n X) X (cut-inside m n X) u j l
 
 module _ (R : Ring) (F : IsField R) where
   -- whether v, n numbers, is a combination of the first k rows of X
@@ -51,7 +48,7 @@ module _ (R : Ring) (F : IsField R) where
       go (all-below? (λ j. v j ≡ mixed R k u X j) (λ j. F .equal? (v j) (mixed R k u X j)) n)
     where
       u : Vector R
-      u = mixed R n v (solved R F k n (cut R k n X) (cut-sized R k n X) .D)
+      u = mixed R n v (pivot-inverse R F k n (cut R k n X) (cut-sized R k n X) .D)
 
       go : Dec (Combines R k n X u v) → Dec (IsCombination R k n X v)
       go (yes h) = yes (u, h)
@@ -59,7 +56,7 @@ module _ (R : Ring) (F : IsField R) where
           no
           (λ (w, h). f
           (λ j l.
-          combination-found R (F .ring) (solved R F k n (cut R k n X) (cut-sized R k n X) .holds) v w
+          combination-found R (F .ring) (pivot-inverse R F k n (cut R k n X) (cut-sized R k n X) .holds .absorbs) v w
           (λ i b. h i b ∙ sym (mixed-cut R k n X w i b)) j l
           ∙ mixed-cut R k n X u j l))
 
@@ -67,8 +64,8 @@ module _ (R : Ring) (F : IsField R) where
   pub independent? : (k n : ℕ) (X : Matrix R) → Dec (Independent R k n X)
   independent? k n X = go (all-below? (λ y. S .J y ≡ true) (λ y. true? (S .J y)) k)
     where
-      S : Solved R k n (cut R k n X)
-      S = solved R F k n (cut R k n X) (cut-sized R k n X)
+      S : PivotInverse R k n (cut R k n X)
+      S = pivot-inverse R F k n (cut R k n X) (cut-sized R k n X)
 
       true? : (b : Bool) → Dec (b ≡ true)
       true? true = yes refl

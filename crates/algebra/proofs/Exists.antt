@@ -1,5 +1,5 @@
--- Every table over a field has a quasiinverse, with any number of rows: row after row by the recursion of `Step`, each
--- last row by `Base`.
+-- Every table over a field has a pivot inverse, with any number of rows: row after row by the recursion of `Step`, each last
+-- row by `Base`.
 use mathlib.Core.Path.{_≡_, refl, sym, ap, _∙_, subst}
 use mathlib.Core.Bool.{Bool, true, false}
 use mathlib.Core.Logic.{_⊎_, inl, inr}
@@ -15,14 +15,13 @@ use Rattle.algebra.specs.Choice.{choose}
 use Rattle.algebra.specs.Ring.{Ring, IsCommutativeRing, IsField}
 use Rattle.algebra.specs.Matrix.{Vector, Matrix, Sized, zeros, add, negative, product, stack, beside, upperRows, lowerRows}
 use Rattle.algebra.specs.Quasiinverse.{Marks, none, only, single, either, follow, IsPivotInverse}
-use Rattle.algebra.proofs.Rings as rings
 use Rattle.algebra.proofs.Matrices as matrices
 use Rattle.algebra.proofs.Blocks.{Part, upper, lower, part, stack-upper, stack-lower, choose-upper}
 use Rattle.algebra.proofs.Step as steps
 use Rattle.algebra.proofs.Base as base
 
--- a table with its quasiinverse and the marks of the chosen columns and rows
-pub record Solved (R : Ring) (m n : ℕ) (A : Matrix R) : Type 0 where
+-- a pivot inverse of a table, with its marks
+pub record PivotInverse (R : Ring) (m n : ℕ) (A : Matrix R) : Type 0 where
   pub D : Matrix R
   pub I : Marks
   pub J : Marks
@@ -96,8 +95,8 @@ module _ (R : Ring) (F : IsField R) where
       go (inr z) (yes e) = inr (λ t h. below-more (λ k. f k ≡ 𝟘) n z e t (subst (λ k. t < k) (sym (add-one n)) h))
 
   -- one row
-  one-row-solved : (n : ℕ) (A : Matrix R) → Sized R 1 n A → Solved R 1 n A
-  one-row-solved n A s = go (least n (A 0))
+  one-row-inverse : (n : ℕ) (A : Matrix R) → Sized R 1 n A → PivotInverse R 1 n A
+  one-row-inverse n A s = go (least n (A 0))
     where
       rest : ((t : ℕ) → t < n → A 0 t ≡ 𝟘) → (i j : ℕ) → A i j ≡ 𝟘
       rest z ℕ.zero j = inside (decLt j n)
@@ -107,7 +106,7 @@ module _ (R : Ring) (F : IsField R) where
           inside (no l) = s .columns-end 0 j (omega arith)
       rest z (suc i) j = s .rows-end (suc i) j (omega arith)
 
-      go : ((v : ℕ) × Least n (A 0) v) ⊎ ((t : ℕ) → t < n → A 0 t ≡ 𝟘) → Solved R 1 n A
+      go : ((v : ℕ) × Least n (A 0) v) ⊎ ((t : ℕ) → t < n → A 0 t ≡ 𝟘) → PivotInverse R 1 n A
       go (inl (v, l)) =
           record {
             D = single R v (F .inverse (A 0 v));
@@ -117,16 +116,16 @@ module _ (R : Ring) (F : IsField R) where
           }
       go (inr z) = record { D = zeros R; I = none; J = none; holds = base.zero-table R (F .ring) 1 n A (rest z) }
 
-  pub solved : (m n : ℕ) (A : Matrix R) → Sized R m n A → Solved R m n A
-  solved ℕ.zero n A s =
+  pub pivot-inverse : (m n : ℕ) (A : Matrix R) → Sized R m n A → PivotInverse R m n A
+  pivot-inverse ℕ.zero n A s =
       record { D = zeros R; I = none; J = none; holds = base.zero-table R (F .ring) 0 n A (λ i j. s .rows-end i j zero-le) }
-  solved (suc m) n A s = whole (solved m n (upperRows R m A) (upper-rows-sized R m 1 n A s′))
+  pivot-inverse (suc m) n A s = whole (pivot-inverse m n (upperRows R m A) (upper-rows-sized R m 1 n A s′))
     where
       s′ : Sized R (m + 1) n A
       s′ = subst (λ k. Sized R k n A) (sym (add-one m)) s
 
-      whole : Solved R m n (upperRows R m A) → Solved R (suc m) n A
-      whole U = last (one-row-solved n C (reduced-sized R (F .ring) m 1 n K (U .D) B (lower-rows-sized R m 1 n A s′) (upper-rows-sized R m 1 n A s′)))
+      whole : PivotInverse R m n (upperRows R m A) → PivotInverse R (suc m) n A
+      whole U = last (one-row-inverse n C (reduced-sized R (F .ring) m 1 n K (U .D) B (lower-rows-sized R m 1 n A s′) (upper-rows-sized R m 1 n A s′)))
         where
           B : Matrix R
           B = upperRows R m A
@@ -140,7 +139,7 @@ module _ (R : Ring) (F : IsField R) where
           C : Matrix R
           C = add R K (negative R (product R m T B))
 
-          last : Solved R 1 n C → Solved R (suc m) n A
+          last : PivotInverse R 1 n C → PivotInverse R (suc m) n A
           last W =
               record {
                 D = beside R m X G;

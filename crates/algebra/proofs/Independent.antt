@@ -1,7 +1,7 @@
 -- Rows are independent exactly if all are in J. Then A D is the identity, so that the multipliers of a combination are
 -- unique: v = u A gives u = u A D = v D. For any rows, v is a combination of them exactly if (v D) A = v.
 use mathlib.Core.Path.{_≡_, refl, sym, ap, ap₂, _∙_}
-use mathlib.Core.Logic.{_↔_, ⊎-elim}
+use mathlib.Core.Logic.{⊎-elim}
 use mathlib.Core.Bool.{Bool, true, false}
 use Prim.Native.Nat.{ℕ, suc, _+_, _≤_, _<_}
 use native.Mathlib.Nat.{not-suc-le-zero, le-refl, lt-suc-self, le-step, le-of-suc-le-suc, eq-or-lt-of-le}
@@ -11,7 +11,7 @@ use Rattle.algebra.specs.Choice.{choose}
 use Rattle.algebra.specs.Ring.{Ring, IsCommutativeRing}
 use Rattle.algebra.specs.Matrix.{Vector, Matrix, unit, product, mixed}
 use Rattle.algebra.specs.Span.{Combines, Independent}
-use Rattle.algebra.specs.Quasiinverse.{Marks, count, IsPivotInverse}
+use Rattle.algebra.specs.Quasiinverse.{Marks, count, Absorbs, IsPivotInverse}
 use Rattle.algebra.specs.Solve.{mixOf}
 use Rattle.algebra.proofs.Sums as sums
 use Rattle.algebra.proofs.Applied as applied
@@ -57,10 +57,6 @@ all-counted ℕ.zero J h = refl
 all-counted (suc m) J h =
     ap₂ (λ k b. k + choose b 1 0) (all-counted m J (λ y l. h y (le-step l))) (h m (lt-suc-self m)) ∙ add-one m
 
--- all of the first m positions are members exactly if there are m members
-pub full-count : (m : ℕ) (J : Marks) → (count m J ≡ m) ↔ ((y : ℕ) → y < m → J y ≡ true)
-full-count m J = (all-marked m J, all-counted m J)
-
 module _ (R : Ring) (L : IsCommutativeRing R) where
   open Ring R using (times as _⊗_)
 
@@ -73,35 +69,35 @@ module _ (R : Ring) (L : IsCommutativeRing R) where
       (λ e.
       proper
       (sym (mix-own R L Q y y e ∙ sums.unit-same R y)
-      ∙ free (mixOf R n A D y) (λ j k. sym (mix-kills R L Q y l j k)) y l))
+      ∙ free (mixOf R n A D y) (λ j k. sym (mix-kills R L (Q .absorbs) y l j k)) y l))
 
-  module _ {m n : ℕ} {A D : Matrix R} {I J : Marks} (Q : IsPivotInverse R m n A D I J) where
-    -- v is a combination of the rows exactly if (v D) A = v
-    pub combination-found : (v u : Vector R) → Combines R m n A u v → Combines R m n A (mixed R n v D) v
-    combination-found v u h j l =
-        h j l
-        ∙ sym (absorbs-mixed R L Q u j)
-        ∙ applied.mixed-same R m (mixed R n (mixed R m u A) D) (mixed R n v D) A
-        (λ t k. applied.mixed-same R n (mixed R m u A) v D (λ c g. sym (h c g)) t) j
+  -- v is a combination of the rows exactly if (v D) A = v
+  pub combination-found : {m n : ℕ} {A D : Matrix R} → Absorbs R m n A D
+      → (v u : Vector R) → Combines R m n A u v → Combines R m n A (mixed R n v D) v
+  combination-found {m} {n} {A} {D} E v u h j l =
+      h j l
+      ∙ sym (absorbs-mixed R L E u j)
+      ∙ applied.mixed-same R m (mixed R n (mixed R m u A) D) (mixed R n v D) A
+      (λ t k. applied.mixed-same R n (mixed R m u A) v D (λ c g. sym (h c g)) t) j
 
-    -- where all rows are in J
-    module _ (full : (y : ℕ) → y < m → J y ≡ true) where
-      -- A D is the identity
-      pub independent-inverse : (y j : ℕ) → y < m → j < m → product R n A D y j ≡ unit R y j
-      independent-inverse y j l k = Q .fixes-row y j (full y l)
+  -- where all rows are in J
+  module _ {m n : ℕ} {A D : Matrix R} {I J : Marks} (Q : IsPivotInverse R m n A D I J) (full : (y : ℕ) → y < m → J y ≡ true) where
+    -- A D is the identity
+    pub independent-inverse : (y j : ℕ) → y < m → j < m → product R n A D y j ≡ unit R y j
+    independent-inverse y j l k = Q .fixes-row y j (full y l)
 
-      -- the multipliers of a combination are v D
-      pub combination-unique : (v u : Vector R) → Combines R m n A u v → (t : ℕ) → t < m → u t ≡ mixed R n v D t
-      unfolding mixed
-      combination-unique v u h t l =
-          sym
-          (applied.mixed-same R n v (mixed R m u A) D h t
-          ∙ applied.mixed-product R L n m u A D t
-          ∙ sums.sum-same R m (λ y. u y ⊗ product R n A D y t) (λ y. u y ⊗ unit R y t)
-          (λ y k. ap (λ a. u y ⊗ a) (independent-inverse y t k l))
-          ∙ sums.sum-unit R L m u t l)
+    -- the multipliers of a combination are v D
+    pub combination-unique : (v u : Vector R) → Combines R m n A u v → (t : ℕ) → t < m → u t ≡ mixed R n v D t
+    unfolding mixed
+    combination-unique v u h t l =
+        sym
+        (applied.mixed-same R n v (mixed R m u A) D h t
+        ∙ applied.mixed-product R L n m u A D t
+        ∙ sums.sum-same R m (λ y. u y ⊗ product R n A D y t) (λ y. u y ⊗ unit R y t)
+        (λ y k. ap (λ a. u y ⊗ a) (independent-inverse y t k l))
+        ∙ sums.sum-unit R L m u t l)
 
-      -- the rows are independent
-      pub chosen-independent : Independent R m n A
-      chosen-independent u h t l =
-          combination-unique (λ j. R .zero) u h t l ∙ applied.zeros-mixed R L n (λ j. R .zero) D t (λ c k. refl)
+    -- the rows are independent
+    pub chosen-independent : Independent R m n A
+    chosen-independent u h t l =
+        combination-unique (λ j. R .zero) u h t l ∙ applied.zeros-mixed R L n (λ j. R .zero) D t (λ c k. refl)

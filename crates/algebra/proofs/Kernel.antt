@@ -1,5 +1,5 @@
--- The kernel of A from its quasiinverse: the columns of 1 - D A for the columns outside I are a basis of it. Each is
--- sent to zero as A D A = A, its entries outside I are those of a unit column, and x = (1 - D A) x for x in the kernel.
+-- The kernel of A: every column of 1 - D A is in it, as A D A = A. For a pivot inverse D those of the columns outside I are a
+-- basis of it: their entries outside I are those of unit columns, and x = (1 - D A) x for x in the kernel.
 use mathlib.Core.Path.{_≡_, sym, ap, ap₂, _∙_}
 use mathlib.Core.Bool.{true, false}
 use Prim.Native.Nat.{ℕ, _<_}
@@ -7,7 +7,7 @@ use Rattle.algebra.specs.Choice.{choose}
 use Rattle.algebra.specs.Ring.{Ring, IsCommutativeRing}
 use Rattle.algebra.specs.Matrix.{Vector, Matrix, unit, product, apply}
 use Rattle.algebra.specs.Span.{InKernel}
-use Rattle.algebra.specs.Quasiinverse.{Marks, IsPivotInverse}
+use Rattle.algebra.specs.Quasiinverse.{Marks, Absorbs, IsPivotInverse}
 use Rattle.algebra.specs.Kernel.{kernelVector, combined}
 use Rattle.algebra.proofs.Rings as rings
 use Rattle.algebra.proofs.Sums as sums
@@ -15,24 +15,22 @@ use Rattle.algebra.proofs.Matrices as matrices
 use Rattle.algebra.proofs.Applied as applied
 use Rattle.algebra.proofs.Marks.{by-test}
 use Rattle.algebra.proofs.Chosen.{zero-row}
-use Rattle.algebra.proofs.Unique.{absorbs-apply}
 
-module _
-    (R : Ring) (L : IsCommutativeRing R) {m n : ℕ} {A D : Matrix R} {I J : Marks} (Q : IsPivotInverse R m n A D I J)
-  where
-    open Ring R using (zero as 𝟘, plus as _⊕_, times as _⊗_, minus)
+module _ (R : Ring) (L : IsCommutativeRing R) where
+  open Ring R using (zero as 𝟘, plus as _⊕_, times as _⊗_, minus)
 
-    infixl 60 _⊕_
-    infixl 70 _⊗_
-    -- a kernel vector is in the kernel
-    pub kernel-vector-in : (c : ℕ) → c < n → InKernel R m n A (kernelVector R m D A c)
-    unfolding kernelVector
-    kernel-vector-in c l i k =
-        applied.apply-difference R L n A (λ t. unit R t c) (λ t. product R m D A t c) i
-        ∙ ap₂ (λ a b. a ⊕ minus b) (applied.apply-unit R L n A i c l)
-        (sym (applied.product-column R n A (product R m D A) i c) ∙ matrices.entry R (Q .absorbs) i c)
-        ∙ L .plus-minus (A i c)
+  infixl 60 _⊕_
+  infixl 70 _⊗_
+  -- a kernel vector is in the kernel
+  pub kernel-vector-in : {m n : ℕ} {A D : Matrix R} → Absorbs R m n A D → (c : ℕ) → c < n → InKernel R m n A (kernelVector R m D A c)
+  unfolding kernelVector
+  kernel-vector-in {m} {n} {A} {D} E c l i k =
+      applied.apply-difference R L n A (λ t. unit R t c) (λ t. product R m D A t c) i
+      ∙ ap₂ (λ a b. a ⊕ minus b) (applied.apply-unit R L n A i c l)
+      (sym (applied.product-column R n A (product R m D A) i c) ∙ matrices.entry R (E .equation) i c)
+      ∙ L .plus-minus (A i c)
 
+  module _ {m n : ℕ} {A D : Matrix R} {I J : Marks} (Q : IsPivotInverse R m n A D I J) where
     -- outside I it is a unit column: 1 at c, 0 at the other columns outside I
     pub kernel-vector-own : (c j : ℕ) → I j ≡ false → kernelVector R m D A c j ≡ unit R j c
     unfolding kernelVector
@@ -81,12 +79,3 @@ module _
         ∙ combined-is y c l
         ∙ applied.less-zero R L (y c) (apply R m D (apply R n A y) c)
         (applied.zero-row-apply R L m D (apply R n A y) c (λ t k. Q .row-outside c t e)))
-
-    -- every combination of the basis is in the kernel
-    pub combined-in : (y : Vector R) → InKernel R m n A (combined R n I D A m y)
-    combined-in y i k =
-        applied.apply-same R n A (combined R n I D A m y) (λ j. y j ⊕ minus (apply R m D (apply R n A y) j))
-        (combined-is y) i
-        ∙ applied.apply-difference R L n A y (apply R m D (apply R n A y)) i
-        ∙ ap (λ a. apply R n A y i ⊕ minus a) (absorbs-apply R L Q y i)
-        ∙ L .plus-minus (apply R n A y i)

@@ -12,6 +12,7 @@ pub mod Base
 pub mod Exists
 pub mod Applied
 pub mod Transpose
+pub mod Alike
 pub mod Chosen
 pub mod Unique
 pub mod Kernel
@@ -19,4 +20,5 @@ pub mod Solve
 pub mod Rank
 pub mod Independent
 pub mod Decide
+pub mod Marked
 pub mod Settled

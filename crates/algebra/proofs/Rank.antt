@@ -32,7 +32,7 @@ module _ (R : Ring) (L : IsCommutativeRing R) where
   rows-spanned {m} {n} {A} {D} Q y l = (
     product R n A D y,
     (λ t e. zero-column R L Q y t e),
-    (λ j k. sym (matrices.entry R (absorbs-left R L Q) y j) ∙ applied.product-row R m (product R n A D) A y j),
+    (λ j k. sym (matrices.entry R (absorbs-left R L (Q .absorbs)) y j) ∙ applied.product-row R m (product R n A D) A y j),
   )
 
   -- on a vector with 1 at c, A's column c is added to what the columns before it make

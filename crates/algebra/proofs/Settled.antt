@@ -8,7 +8,7 @@ use native.Mathlib.Omega.{arith}
 use Rattle.algebra.specs.Ring.{Ring, IsCommutativeRing, IsField}
 use Rattle.algebra.specs.Matrix.{Vector, Matrix, unit, product, apply}
 use Rattle.algebra.specs.Span.{Solves, AgreeAt}
-use Rattle.algebra.specs.Quasiinverse.{Marks, IsPivotInverse}
+use Rattle.algebra.specs.Quasiinverse.{Absorbs}
 use Rattle.algebra.specs.Kernel.{kernelVector}
 use Rattle.algebra.proofs.Choice.{all-below?}
 use Rattle.algebra.proofs.Rings as rings
@@ -16,7 +16,7 @@ use Rattle.algebra.proofs.Sums as sums
 use Rattle.algebra.proofs.Applied as applied
 use Rattle.algebra.proofs.Kernel.{kernel-vector-in}
 use Rattle.algebra.proofs.Solve as solve
-use Rattle.algebra.proofs.Exists.{Solved, solved}
+use Rattle.algebra.proofs.Exists.{PivotInverse, pivot-inverse}
 use Rattle.algebra.proofs.Decide.{cut, cut-sized, cut-inside}
 
 module _ (R : Ring) (L : IsCommutativeRing R) where
@@ -31,7 +31,7 @@ module _ (R : Ring) (L : IsCommutativeRing R) where
       sums.sum-same R n (λ t. X i t ⊗ (x t ⊕ y t)) (λ t. X i t ⊗ x t ⊕ X i t ⊗ y t) (λ t l. L .times-plus (X i t) (x t) (y t))
       ∙ sums.sum-plus R L n (λ t. X i t ⊗ x t) (λ t. X i t ⊗ y t)
 
-  module _ {m n : ℕ} {A D : Matrix R} {I J : Marks} (Q : IsPivotInverse R m n A D I J) (w : Vector R) where
+  module _ {m n : ℕ} {A D : Matrix R} (E : Absorbs R m n A D) (w : Vector R) where
     -- row j of 1 - DA is zero: every solution has (Dw)_j at j
     pub agree-if : (j : ℕ) → j < n → ((c : ℕ) → c < n → kernelVector R m D A c j ≡ 𝟘) → AgreeAt R m n A w j (apply R m D w j)
     unfolding kernelVector
@@ -58,7 +58,7 @@ module _ (R : Ring) (L : IsCommutativeRing R) where
         shifted : Solves R m n A y w
         shifted i b =
             apply-plus n A z (kernelVector R m D A c) i
-            ∙ (λ k. s i b k ⊕ kernel-vector-in R L Q c l i b k)
+            ∙ (λ k. s i b k ⊕ kernel-vector-in R L E c l i b k)
             ∙ L .plus-zero (w i)
 
     -- at a place beyond the columns no solution is bound
@@ -103,8 +103,8 @@ module _ (R : Ring) (F : IsField R) where
       C : Matrix R
       C = cut R m n A
 
-      S : Solved R m n C
-      S = solved R F m n C (cut-sized R m n A)
+      S : PivotInverse R m n C
+      S = pivot-inverse R F m n C (cut-sized R m n A)
 
       D : Matrix R
       D = S .D
@@ -116,17 +116,17 @@ module _ (R : Ring) (F : IsField R) where
           → Dec ((v : R .Carrier) × AgreeAt R m n A w j v)
       go (no f) b k =
           yes
-          (R .zero, λ x s. absurd (f (solves-cut m n A z w (solve.solved R (F .ring) (S .holds) x w (cut-solves m n A x w s)))))
+          (R .zero, λ x s. absurd (f (solves-cut m n A z w (solve.solved R (F .ring) (S .holds .absorbs) x w (cut-solves m n A x w s)))))
       go (yes s) (no b) k =
           no
           (λ (v, h).
-          agree-beyond R (F .ring) (S .holds) w (F .one-not-zero) z (cut-solves m n A z w s) j (omega arith) v
+          agree-beyond R (F .ring) (S .holds .absorbs) w (F .one-not-zero) z (cut-solves m n A z w s) j (omega arith) v
           (λ x t. h x (solves-cut m n A x w t)))
-      go (yes s) (yes b) (yes k) = yes (z j, λ x t. agree-if R (F .ring) (S .holds) w j b k x (cut-solves m n A x w t))
+      go (yes s) (yes b) (yes k) = yes (z j, λ x t. agree-if R (F .ring) (S .holds .absorbs) w j b k x (cut-solves m n A x w t))
       go (yes s) (yes b) (no k) =
           no
           (λ (v, h).
           k
           (λ c l.
-          agree-only-if R (F .ring) (S .holds) w z (cut-solves m n A z w s) j c l v
+          agree-only-if R (F .ring) (S .holds .absorbs) w z (cut-solves m n A z w s) j c l v
           (λ x t. h x (solves-cut m n A x w t))))

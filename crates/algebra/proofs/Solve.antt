@@ -1,15 +1,13 @@
--- Solving A x = w by a quasiinverse: if there is a solution then D w is one, as A D A = A. If A (D w) misses w at row y
--- then row y of 1 - A D, a mix of A's rows that is zero, is not zero on w, and with such a mix there is no solution.
-use mathlib.Core.Path.{_≡_, sym, ap, ap₂, _∙_}
+-- Solving A x = w by a D with A D A = A: if there is a solution then D w is one. If A (D w) misses w at row y then row y of
+-- 1 - A D, a mix of A's rows that is zero, is not zero on w.
+use mathlib.Core.Path.{_≡_, sym, ap₂, _∙_}
 use mathlib.Core.Bool.{false}
 use Prim.Native.Nat.{ℕ, _<_}
 use Rattle.algebra.specs.Ring.{Ring, IsCommutativeRing}
 use Rattle.algebra.specs.Matrix.{Vector, Matrix, sum, unit, product, apply, mixed}
 use Rattle.algebra.specs.Span.{Solves}
-use Rattle.algebra.specs.Quasiinverse.{Marks, IsPivotInverse}
+use Rattle.algebra.specs.Quasiinverse.{Marks, Absorbs, IsPivotInverse}
 use Rattle.algebra.specs.Solve.{mixOf}
-use Rattle.algebra.proofs.Rings as rings
-use Rattle.algebra.proofs.Sums as sums
 use Rattle.algebra.proofs.Matrices as matrices
 use Rattle.algebra.proofs.Applied as applied
 use Rattle.algebra.proofs.Chosen.{zero-column}
@@ -20,13 +18,13 @@ module _ (R : Ring) (L : IsCommutativeRing R) where
 
   infixl 60 _⊕_
   infixl 70 _⊗_
-  module _ {m n : ℕ} {A D : Matrix R} {I J : Marks} (Q : IsPivotInverse R m n A D I J) where
+  module _ {m n : ℕ} {A D : Matrix R} (E : Absorbs R m n A D) where
     -- if the system has a solution, D w is one
     pub solved : (x w : Vector R) → Solves R m n A x w → Solves R m n A (apply R m D w) w
     solved x w h i l =
         applied.apply-same R n A (apply R m D w) (apply R m D (apply R n A x))
         (λ c k. applied.apply-same R m D w (apply R n A x) (λ t g. sym (h t g)) c) i
-        ∙ absorbs-apply R L Q x i
+        ∙ absorbs-apply R L E x i
         ∙ h i l
 
     -- the mix of row y makes zero of A's rows
@@ -35,28 +33,19 @@ module _ (R : Ring) (L : IsCommutativeRing R) where
     mix-kills y l j k =
         applied.difference-mixed R L m (unit R y) (product R n A D y) A j
         ∙ ap₂ (λ a b. a ⊕ minus b) (applied.unit-mixed R L m A y j l)
-        (sym (applied.product-row R m (product R n A D) A y j) ∙ matrices.entry R (absorbs-left R L Q) y j)
+        (sym (applied.product-row R m (product R n A D) A y j) ∙ matrices.entry R (absorbs-left R L E) y j)
         ∙ L .plus-minus (A y j)
 
-    -- outside J it is the unit row of y
-    pub mix-own : (y t : ℕ) → J t ≡ false → mixOf R n A D y t ≡ unit R y t
-    unfolding mixOf
-    mix-own y t e = applied.less-zero R L (unit R y t) (product R n A D y t) (zero-column R L Q y t e)
+  -- outside J it is the unit row of y
+  pub mix-own : {m n : ℕ} {A D : Matrix R} {I J : Marks} → IsPivotInverse R m n A D I J
+      → (y t : ℕ) → J t ≡ false → mixOf R n A D y t ≡ unit R y t
+  unfolding mixOf
+  mix-own {n = n} {A = A} {D = D} Q y t e = applied.less-zero R L (unit R y t) (product R n A D y t) (zero-column R L Q y t e)
 
-    -- on w it is what A (D w) misses at row y
-    pub mix-shows : (w : Vector R) (y : ℕ) → y < m
-        → sum R m (λ t. mixOf R n A D y t ⊗ w t) ≡ w y ⊕ minus (apply R n A (apply R m D w) y)
-    unfolding mixOf apply
-    mix-shows w y l =
-        applied.difference-apply R L m (unit R) (product R n A D) w y
-        ∙ ap₂ (λ a b. a ⊕ minus b) (applied.unit-apply R L m w y l) (applied.apply-product R L m n A D w y)
-
-  -- a mix that makes zero of A's rows and not of w shows that there is no solution
-  pub no-solution : (m n : ℕ) (A : Matrix R) (u w : Vector R) → ((j : ℕ) → j < n → mixed R m u A j ≡ 𝟘)
-      → (sum R m (λ t. u t ⊗ w t) ≡ 𝟘 → ⊥) → (x : Vector R) → Solves R m n A x w → ⊥
-  no-solution m n A u w kills shows x h =
-      shows
-      (sums.sum-same R m (λ t. u t ⊗ w t) (λ t. u t ⊗ apply R n A x t) (λ t l. ap (λ a. u t ⊗ a) (sym (h t l)))
-      ∙ sym (applied.mixed-apply R L n m u A x)
-      ∙ sums.sum-zeros R L n (λ j. mixed R m u A j ⊗ x j)
-      (λ j l. ap (λ a. a ⊗ x j) (kills j l) ∙ rings.zero-times R L (x j)))
+  -- on w it is what A (D w) misses at row y
+  pub mix-shows : (m n : ℕ) (A D : Matrix R) (w : Vector R) (y : ℕ) → y < m
+      → sum R m (λ t. mixOf R n A D y t ⊗ w t) ≡ w y ⊕ minus (apply R n A (apply R m D w) y)
+  unfolding mixOf apply
+  mix-shows m n A D w y l =
+      applied.difference-apply R L m (unit R) (product R n A D) w y
+      ∙ ap₂ (λ a b. a ⊕ minus b) (applied.unit-apply R L m w y l) (applied.apply-product R L m n A D w y)

@@ -1,5 +1,5 @@
--- The recursion of Algorithm Q: quasiinverses of the upper rows and of the reduced lower rows make one of the whole table,
--- with the union of their columns and the one's rows before the other's (DESIGN: what to carry through the recursion).
+-- The recursion of Algorithm Q: pivot inverses of the upper rows and of the reduced lower rows make one of the whole table,
+-- with the union of their columns and the one's rows before the other's.
 use mathlib.Core.Path.{_≡_, sym, ap, _∙_, subst}
 use mathlib.Core.Bool.{true, false}
 use Prim.Native.Nat.{ℕ, _+_, _<_}
@@ -156,7 +156,7 @@ module _ (R : Ring) (L : IsCommutativeRing R) where
 
       other-whole : product R n A D ≡ stack R m₁ (beside R m₁ (product R n B E) (zeros R)) (beside R m₁ corner CF)
       unfolding A D CF corner
-      other-whole = elimination.other-whole R L m₁ m₂ n B K E F T C G X is-T is-C is-G is-X (Q₁ .absorbs)
+      other-whole = elimination.other-whole R L m₁ m₂ n B K E F T C G X is-T is-C is-G is-X (Q₁ .absorbs .equation)
 
       -- the entries of A D, block by block
       at-upper-left : (y j : ℕ) → y < m₁ → j < m₁ → product R n A D y j ≡ product R n B E y j
@@ -273,7 +273,7 @@ module _ (R : Ring) (L : IsCommutativeRing R) where
           go (upper hy) t = omega arith
           go (lower k) t = let l : k < m₂ = Q₂ .rows k (sym (counts.follow-lower m₁ J₁ J₂ k) ∙ t) in omega arith
 
-      -- the whole table's quasiinverse
+      -- the whole table's pivot inverse
       pub step : IsPivotInverse R (m₁ + m₂) n (stack R m₁ B K) (beside R m₁ X G) (either I₁ I₂) (follow m₁ J₁ J₂)
       unfolding A D
       step =
@@ -283,8 +283,11 @@ module _ (R : Ring) (L : IsCommutativeRing R) where
             fixes-column = fixes-column;
             fixes-row = fixes-row;
             absorbs =
-                elimination.absorbs-whole R L m₁ m₂ n B K E F T C G X is-T is-C is-G is-X (Q₁ .absorbs)
-                (matrices.product-assoc R L m₂ n C F C ∙ Q₂ .absorbs);
+                record {
+                  equation =
+                      elimination.absorbs-whole R L m₁ m₂ n B K E F T C G X is-T is-C is-G is-X (Q₁ .absorbs .equation)
+                      (matrices.product-assoc R L m₂ n C F C ∙ Q₂ .absorbs .equation);
+                };
             upper = upper-D;
             lower = lower-D;
             columns = λ c h. counts.either-true I₁ I₂ c h (λ t. Q₁ .columns c t) (λ f t. Q₂ .columns c t);

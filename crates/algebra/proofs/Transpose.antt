@@ -1,5 +1,5 @@
 -- Rows and columns change places. The ring being commutative, the transpose of a product is the product of the
--- transposes in the other order, and so the transpose of a quasiinverse is the quasiinverse of the transpose: what is
+-- transposes in the other order, and so the transpose of a pivot inverse is the pivot inverse of the transpose: what is
 -- proved of columns elsewhere holds of rows by `transposed`.
 use mathlib.Core.Path.{_≡_, sym, ap, _∙_}
 use Prim.Native.Nat.{ℕ}
@@ -42,7 +42,7 @@ module _ (R : Ring) (L : IsCommutativeRing R) where
   unfolding mixed apply transpose
   mixed-transpose k u X i = sums.sum-same R k (λ t. u t ⊗ X i t) (λ t. X i t ⊗ u t) (λ t l. L .times-comm (u t) (X i t))
 
-  -- the transpose of D is a quasiinverse of the transpose of A, with the marks of rows and columns exchanged
+  -- the transpose of D is a pivot inverse of the transpose of A, with the marks of rows and columns exchanged
   pub transposed : {m n : ℕ} {A D : Matrix R} {I J : Marks} → IsPivotInverse R m n A D I J
       → IsPivotInverse R n m (transpose R A) (transpose R D) J I
   unfolding transpose
@@ -53,9 +53,12 @@ module _ (R : Ring) (L : IsCommutativeRing R) where
         fixes-column = λ i c e. product-transposes n A D i c ∙ Q .fixes-row c i e ∙ unit-swap R c i;
         fixes-row = λ y j e. product-transposes m D A y j ∙ Q .fixes-column j y e ∙ unit-swap R j y;
         absorbs =
-            ap (product R m (transpose R A)) (sym (transpose-product n A D))
-            ∙ sym (transpose-product m (product R n A D) A)
-            ∙ ap (transpose R) (matrices.product-assoc R L m n A D A ∙ Q .absorbs);
+            record {
+              equation =
+                  ap (product R m (transpose R A)) (sym (transpose-product n A D))
+                  ∙ sym (transpose-product m (product R n A D) A)
+                  ∙ ap (transpose R) (matrices.product-assoc R L m n A D A ∙ Q .absorbs .equation);
+            };
         upper = λ i c l. product-transposes n A D i c ∙ Q .lower c i l;
         lower = λ y j l. product-transposes m D A y j ∙ Q .upper j y l;
         columns = Q .rows;

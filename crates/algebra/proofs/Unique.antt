@@ -1,24 +1,24 @@
--- A quasiinverse is document 01's D: the inverse of A on its chosen rows and columns, and zero elsewhere. There is only
--- one, as D = D A D' = D' for two of them; for D' = D this is D A D = D. A D A = A is said of columns and of rows.
+-- A pivot inverse is document 01's D: the inverse of A on its chosen rows and columns, and zero elsewhere. There is only one,
+-- as D = D A D' = D' for two of them; for D' = D this is D A D = D, so it is a quasiinverse. A D A = A is said of columns and
+-- of rows.
 use mathlib.Core.Path.{_≡_, sym, ap, _∙_}
 use mathlib.Core.Bool.{true, false}
 use Prim.Native.Nat.{ℕ, _<_}
 use Rattle.algebra.specs.Ring.{Ring, IsCommutativeRing}
-use Rattle.algebra.specs.Matrix.{Vector, Matrix, Sized, unit, product, apply, mixed, transpose}
-use Rattle.algebra.specs.Quasiinverse.{Marks, IsInverseOn, IsPivotInverse}
+use Rattle.algebra.specs.Matrix.{Vector, Matrix, unit, product, apply, mixed, transpose}
+use Rattle.algebra.specs.Quasiinverse.{Marks, Absorbs, IsQuasiinverse, IsInverseOn, IsPivotInverse}
 use Rattle.algebra.proofs.Rings as rings
 use Rattle.algebra.proofs.Sums as sums
 use Rattle.algebra.proofs.Matrices as matrices
 use Rattle.algebra.proofs.Applied as applied
 use Rattle.algebra.proofs.Marks.{by-test}
 use Rattle.algebra.proofs.Transpose.{transpose-product, inverse-transposed}
-use Rattle.algebra.proofs.Chosen.{column-end, row-end}
 
 module _ (R : Ring) (L : IsCommutativeRing R) where
   open Ring R using (Carrier, zero as 𝟘, times as _⊗_)
 
   infixl 70 _⊗_
-  -- a quasiinverse is the inverse on its marks
+  -- a pivot inverse is the inverse on its marks
   pub inverse-on : {m n : ℕ} {A D : Matrix R} {I J : Marks} → IsPivotInverse R m n A D I J → IsInverseOn R m n A D I J
   inverse-on Q =
       record {
@@ -75,14 +75,15 @@ module _ (R : Ring) (L : IsCommutativeRing R) where
   inverse-unique {m} {n} {A} {D} {D′} columns rows N N′ =
       sym (keeps-left rows N N′) ∙ sym (matrices.product-assoc R L n m D A D′) ∙ keeps-right columns N N′
 
-  module _ {m n : ℕ} {A D : Matrix R} {I J : Marks} (Q : IsPivotInverse R m n A D I J) where
-    -- D A D = D
-    pub reflects : product R m D (product R n A D) ≡ D
-    reflects = keeps-left (Q .rows) (inverse-on Q) (inverse-on Q)
+  -- a pivot inverse is a quasiinverse
+  pub is-quasiinverse : {m n : ℕ} {A D : Matrix R} {I J : Marks} → IsPivotInverse R m n A D I J → IsQuasiinverse R m n A D
+  is-quasiinverse Q =
+      record { absorbs = Q .absorbs; reflects = record { equation = keeps-left (Q .rows) (inverse-on Q) (inverse-on Q) } }
 
+  module _ {m n : ℕ} {A D : Matrix R} (E : Absorbs R m n A D) where
     -- (A D) A = A
     pub absorbs-left : product R m (product R n A D) A ≡ A
-    absorbs-left = matrices.product-assoc R L m n A D A ∙ Q .absorbs
+    absorbs-left = matrices.product-assoc R L m n A D A ∙ E .equation
 
     -- A D A = A on a column
     pub absorbs-apply : (x : Vector R) (i : ℕ) → apply R n A (apply R m D (apply R n A x)) i ≡ apply R n A x i
@@ -96,12 +97,4 @@ module _ (R : Ring) (L : IsCommutativeRing R) where
     absorbs-mixed u j =
         applied.mixed-product R L m n (mixed R m u A) D A j
         ∙ applied.mixed-product R L n m u A (product R m D A) j
-        ∙ ap (λ X. mixed R m u X j) (Q .absorbs)
-
-    -- D is zero outside its n rows and m columns
-    pub sized-inverse : Sized R n m D
-    sized-inverse =
-        record {
-          rows-end = λ i j l. Q .row-outside i j (column-end R L Q i l);
-          columns-end = λ i j l. Q .column-outside i j (row-end R L Q j l);
-        }
+        ∙ ap (λ X. mixed R m u X j) (E .equation)

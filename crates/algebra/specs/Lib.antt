@@ -4,5 +4,6 @@ pub mod Ring
 pub mod Matrix
 pub mod Span
 pub mod Quasiinverse
+pub mod Chosen
 pub mod Kernel
 pub mod Solve

@@ -14,7 +14,7 @@ use Rattle.checks.specs.InOrder.{Check, Checks, _⨾_, Given, andThen, AllHold,
 use Rattle.checks.specs.Sizes.{tableSizes, Judges}
 use Rattle.checks.proofs.InOrder.{none-left, holds-and, fails-later, given, fails-in-front, in-order-done, in-order-refused}
 use Rattle.matrix.specs.Calls.{
-  rankOf,
+  tableRank,
   quasiinverseChecks,
   quasiinverseCall,
   kernelChecks,
@@ -23,7 +23,7 @@ use Rattle.matrix.specs.Calls.{
   solveChecks,
   solveCall,
 }
-use Rattle.matrix.specs.Parts.{Checked, Room, Inverted, Kernelled, System}
+use Rattle.matrix.specs.Parts.{Checked, InverseRoom, StoresInverse, StoresBasis, System}
 
 infixr 40 _then_
 -- a check holds, and then the first of the others that fails has the kind k
@@ -57,7 +57,7 @@ module _ (p m n : ℕ) (a d columns rows : List ℕ) where
   unfolding quasiinverseCall
   quasiinverse-refused f = sym (in-order-refused _ _ f)
 
-  quasiinverse-hold : Checked p m n a → Room m n d columns rows → AllHold (quasiinverseChecks p m n a d columns rows)
+  quasiinverse-hold : Checked p m n a → InverseRoom m n d columns rows → AllHold (quasiinverseChecks p m n a d columns rows)
   quasiinverse-hold k room =
       k .is-modulus
       and-then (k .m-most, k .n-most)
@@ -68,8 +68,8 @@ module _ (p m n : ℕ) (a d columns rows : List ℕ) where
       and-then k .a-below
       and-then none-left
 
-  pub quasiinverse-done : (d′ columns′ rows′ : List ℕ) (r : ℕ) → Checked p m n a → Room m n d columns rows
-      → ((ok : IsModulus p) → Inverted p ok m n a d′ columns′ rows′) → ((ok : IsModulus p) → r ≡ rankOf p ok m n a)
+  pub quasiinverse-done : (d′ columns′ rows′ : List ℕ) (r : ℕ) → Checked p m n a → InverseRoom m n d columns rows
+      → ((ok : IsModulus p) → StoresInverse p ok m n a d′ columns′ rows′) → ((ok : IsModulus p) → r ≡ tableRank p ok m n a)
       → outcome (results r) (d′, (columns′, rows′)) ≡ quasiinverseCall p m n a d columns rows
   unfolding quasiinverseCall
   quasiinverse-done d′ columns′ rows′ r k room i e =
@@ -96,7 +96,7 @@ module _ (p m n : ℕ) (a basis : List ℕ) where
       and-then none-left
 
   pub kernel-done : (basis′ : List ℕ) (r : ℕ) → Checked p m n a → length basis ≡ n * n
-      → ((ok : IsModulus p) → Kernelled p ok m n a basis′ r) → outcome (results r) basis′ ≡ kernelCall p m n a basis
+      → ((ok : IsModulus p) → StoresBasis p ok m n a basis′ r) → outcome (results r) basis′ ≡ kernelCall p m n a basis
   unfolding kernelCall
   kernel-done basis′ r k l h =
       sym

@@ -16,9 +16,9 @@ use Rattle.field.specs.Residue.{residues}
 use Rattle.field.specs.Written.{numbers, marksOf}
 use Rattle.field.proofs.Totals.{total}
 use Rattle.field.proofs.Written.{length-tabulate, getD-tabulate}
-use Rattle.matrix.specs.Chosen.{rank}
-use Rattle.matrix.specs.Calls.{tableOf, columnsOf, rankOf, inverseOf, vectorsFrom, basisOf}
-use Rattle.matrix.specs.Parts.{marked, Inverted, KernelVectors}
+use Rattle.matrix.specs.Calls.{tableOf, columnsOf, tableRank, inverseOf, vectorsFrom, basisOf}
+use Rattle.matrix.specs.Parts.{marked, StoresInverse, KernelVectors}
+use Rattle.matrix.proofs.Stored.{columns-many}
 use Rattle.matrix.proofs.Memory.{marked-yes, marked-no, total-of-marks}
 
 -- the marks of written marks
@@ -50,13 +50,12 @@ module _ (n : ℕ) (I : Marks) (xs : List ℕ) (e : xs ≡ marksOf n I) where
   marks-sum = ap (λ k. total k (λ c. getD xs c 0)) marks-long ∙ total-of-marks n (λ c. getD xs c 0) I marks-at
 
 -- of the marks of I that were written
-module _ {p : ℕ} {ok : IsModulus p} {m n : ℕ} {a d columns rows : List ℕ} (i : Inverted p ok m n a d columns rows) where
+module _ {p : ℕ} {ok : IsModulus p} {m n : ℕ} {a d columns rows : List ℕ} (i : StoresInverse p ok m n a d columns rows) where
   pub columns-few : n ≤ 64 → (length columns ≤ 64) × ((c : ℕ) → c < length columns → getD columns c 0 ≤ 1)
   columns-few h = marks-few n (columnsOf p ok m n a) columns (i .columns-written) h
 
-  pub columns-sum : total (length columns) (λ c. getD columns c 0) ≡ rankOf p ok m n a
-  unfolding rank
-  columns-sum = marks-sum n (columnsOf p ok m n a) columns (i .columns-written)
+  pub columns-sum : total (length columns) (λ c. getD columns c 0) ≡ tableRank p ok m n a
+  columns-sum = marks-sum n (columnsOf p ok m n a) columns (i .columns-written) ∙ columns-many p ok m n a
 
 -- marks that agree give the same vectors
 vectors-same : {p : ℕ} (m n : ℕ) (I K : Marks) (D A : Matrix (residues p)) (s k : ℕ) → ((c : ℕ) → c < s + k → I c ≡ K c)
@@ -68,13 +67,12 @@ vectors-same {p} m n I K D A s (suc k) h =
     (vectors-same m n I K D A (suc s) k (λ c l. h c (omega arith)))
 
 module _ (p : ℕ) (ok : IsModulus p) (m n : ℕ) (a d columns rows basis : List ℕ) (r : ℕ)
-    (i : Inverted p ok m n a d columns rows) (k : KernelVectors p m n a d columns basis r) where
+    (i : StoresInverse p ok m n a d columns rows) (k : KernelVectors p m n a d columns basis r) where
   agree : (c : ℕ) → c < n → marked columns c ≡ columnsOf p ok m n a c
   agree c l = ap (λ xs. marked xs c) (i .columns-written) ∙ marked-of-marks n (columnsOf p ok m n a) c l
 
-  counted : count n (marked columns) ≡ rankOf p ok m n a
-  unfolding rank
-  counted = count-same n (marked columns) (columnsOf p ok m n a) agree
+  counted : count n (marked columns) ≡ tableRank p ok m n a
+  counted = count-same n (marked columns) (columnsOf p ok m n a) agree ∙ columns-many p ok m n a
 
   pub basis-filled : basis ≡ basisOf p ok m n a
   unfolding basisOf
@@ -85,5 +83,5 @@ module _ (p : ℕ) (ok : IsModulus p) (m n : ℕ) (a d columns rows basis : List
       ∙ vectors-same m n (marked columns) (columnsOf p ok m n a) (inverseOf p ok m n a) (tableOf p m n a) 0 n (λ c l. agree c (omega arith)))
       counted
 
-  pub vectors-many : r ≡ n - rankOf p ok m n a
+  pub vectors-many : r ≡ n - tableRank p ok m n a
   vectors-many = omega (arith, k .many, counted)

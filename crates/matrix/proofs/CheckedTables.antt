@@ -21,15 +21,15 @@ use Rattle.field.proofs.Field.{residues-ring}
 use Rattle.field.proofs.Residues.{residue-path}
 use Rattle.field.proofs.Views.{table-sized}
 use Rattle.matrix.specs.Calls.{tableOf}
-use Rattle.matrix.specs.Parts.{Checked, Inverted, marked}
+use Rattle.matrix.specs.Parts.{Checked, StoresInverse, marked}
 use Rattle.words.specs.Words.{FirstDifference}
 use Rattle.matrix.proofs.Memory.{marked-no}
-use Rattle.matrix.proofs.Inverted.{inverted}
+use Rattle.matrix.proofs.Stored.{inverted}
 use Rattle.matrix.proofs.Checker.{
   _and_,
   _implies_,
   everyBelow,
-  isQuasiinverse,
+  isPivotInverse,
   by-size,
   both,
   implied,
@@ -137,14 +137,14 @@ marked-inside : (n : ℕ) (xs : List ℕ) → length xs ≡ n → (c : ℕ) → 
 marked-inside n xs long c t = by-size c n (λ h. h) (λ h. absurd (true-not-false t (marked-no xs c (List·getD-eq-default xs 0 (omega arith)))))
 
 module _ (p m n : ℕ) (a d columns rows : List ℕ) where
-  -- d, columns and rows hold a quasiinverse of the table and its marks
+  -- d, columns and rows hold a pivot inverse of the table and its marks
   unfoldable pub holdsInverse : Bool
   holdsInverse =
       eqb (length d) (n * m)
       and areBelow p d
       and areMarks n columns
       and areMarks m rows
-      and isQuasiinverse (residues p) same m n (tableOf p m n a) (table p d 0 m n m) (marked columns) (marked rows)
+      and isPivotInverse (residues p) same m n (tableOf p m n a) (table p d 0 m n m) (marked columns) (marked rows)
 
   module _ (ok : IsModulus p) (t : holdsInverse ≡ true) where
     pub quasiinverse-checked : IsPivotInverse (residues p) m n (tableOf p m n a) (table p d 0 m n m) (marked columns) (marked rows)
@@ -158,7 +158,7 @@ module _ (p m n : ℕ) (a d columns rows : List ℕ) where
         (marked-inside n columns (marks-checked n columns columns-marks .0))
         (marked-inside m rows (marks-checked m rows rows-marks .0)) holds
 
-    pub inverse-checked : Inverted p ok m n a d columns rows
+    pub inverse-checked : StoresInverse p ok m n a d columns rows
     unfolding holdsInverse
     inverse-checked =
         let (t, holds) = both _ _ t in

@@ -1,5 +1,5 @@
--- A checker of quasiinverses. `isQuasiinverse` is a test that computes: it compares the entries inside the sizes, which are
--- finitely many. Where it passes, D is a quasiinverse of A with the marks I and J (`checked`), since A and D are zero outside
+-- A checker of pivot inverses. `isPivotInverse` is a test that computes: it compares the entries inside the sizes, which are
+-- finitely many. Where it passes, D is a pivot inverse of A with the marks I and J (`checked`), since A and D are zero outside
 -- their sizes and the marks end there. It is over any ring whose entries can be compared.
 use mathlib.Core.Path.{_≡_, sym, ap, _∙_, subst}
 use mathlib.Core.Bool.{Bool, true, false, not, _&&_, and-eq-true-iff}
@@ -45,10 +45,10 @@ unfoldable pub every : {A : Type 0} → (A → Bool) → List A → Bool
 every f [] = true
 every f (x ∷ xs) = f x and every f xs
 
--- D, n rows and m columns, is a quasiinverse of A, m rows and n columns, with the marks I and J: clause by clause as the
+-- D, n rows and m columns, is a pivot inverse of A, m rows and n columns, with the marks I and J: clause by clause as the
 -- definition has it, with `same` for the equality of entries
-unfoldable pub isQuasiinverse : (R : Ring) → (R .Carrier → R .Carrier → Bool) → (m n : ℕ) → Matrix R → Matrix R → Marks → Marks → Bool
-isQuasiinverse R same m n A D I J =
+unfoldable pub isPivotInverse : (R : Ring) → (R .Carrier → R .Carrier → Bool) → (m n : ℕ) → Matrix R → Matrix R → Marks → Marks → Bool
+isPivotInverse R same m n A D I J =
     everyPlace n m (λ i j. not (I i) implies same (D i j) (R .zero))
     and everyPlace n m (λ i j. not (J j) implies same (D i j) (R .zero))
     and everyPlace n n (λ i c. I c implies same (product R m D A i c) (unit R i c))
@@ -118,8 +118,8 @@ module _ (R : Ring) (L : IsCommutativeRing R) (same : R .Carrier → R .Carrier 
   -- each test is a clause of the definition, where A and D have entries
   pub checked : {m n : ℕ} {A D : Matrix R} {I J : Marks} → Sized R m n A → Sized R n m D
       → ((c : ℕ) → I c ≡ true → c < n) → ((y : ℕ) → J y ≡ true → y < m)
-      → isQuasiinverse R same m n A D I J ≡ true → IsPivotInverse R m n A D I J
-  unfolding isQuasiinverse
+      → isPivotInverse R same m n A D I J ≡ true → IsPivotInverse R m n A D I J
+  unfolding isPivotInverse
   checked {m} {n} {A} {D} {I} {J} sA sD columns rows t =
       let (t, many) = both _ _ t in
       let (t, lower) = both _ _ t in
@@ -140,8 +140,11 @@ module _ (R : Ring) (L : IsCommutativeRing R) (same : R .Carrier → R .Carrier 
             by-size j m (λ h. sound _ _ (implied (every-place m m _ fixes-row y j (rows y e) h) e))
             (λ h. AD .columns-end y j h ∙ sym (unit-other R y j (λ q. omega (arith, rows y e))));
         absorbs =
-            entries R _ A
-            (λ i j. sized-same R (product-sized R L sA DA) sA i j (λ h l. sound _ _ (every-place m n _ absorbs i j h l)));
+            record {
+              equation =
+                  entries R _ A
+                  (λ i j. sized-same R (product-sized R L sA DA) sA i j (λ h l. sound _ _ (every-place m n _ absorbs i j h l)));
+            };
         upper = λ i c k. sized-zero R DA i c (λ h l. sound _ _ (every-below i _ (every-below n _ upper i h) c k));
         lower = λ y j k. sized-zero R AD y j (λ h l. sound _ _ (every-below j _ (every-below m _ lower j l) y k));
         columns = columns;

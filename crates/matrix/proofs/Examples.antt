@@ -17,14 +17,14 @@ use Rattle.field.specs.Written.{numbers, tabulate}
 use Rattle.checks.specs.Prime.{IsModulus}
 use Rattle.checks.specs.Told.{results}
 use Rattle.checks.specs.Outcome.{outcome}
-use Rattle.matrix.specs.Calls.{tableOf, rankOf, vectorsFrom, firstFrom, quasiinverseCall, kernelCall, solveCall, solution}
-use Rattle.matrix.specs.Parts.{Checked, Inverted, Room, KernelVectors, Kernelled, marked, vectorOf}
+use Rattle.matrix.specs.Calls.{tableOf, tableRank, vectorsFrom, firstFrom, quasiinverseCall, kernelCall, solveCall, solution}
+use Rattle.matrix.specs.Parts.{Checked, StoresInverse, InverseRoom, KernelVectors, StoresBasis, marked, vectorOf}
 use Rattle.matrix.specs.Examples.{Becomes, solvedBy, refusedBy, SystemExample, TableExample, tableExamples, systemOutcome, Holds}
-use Rattle.matrix.proofs.Inverted.{rank-is}
+use Rattle.matrix.proofs.Stored.{rank-is}
 use Rattle.matrix.proofs.Answers.{quasiinverse-done, kernel-done, solve-done}
 use Rattle.matrix.proofs.Basis.{basis-filled, vectors-many}
 use Rattle.matrix.proofs.Solved.{Compared, solved-by, refused-by}
-use Rattle.matrix.proofs.Checker.{_and_, every, everyBelow, isQuasiinverse, both, every-member}
+use Rattle.matrix.proofs.Checker.{_and_, every, everyBelow, isPivotInverse, both, every-member}
 use Rattle.matrix.proofs.CheckedTables.{
   areBelow,
   all-below,
@@ -96,14 +96,14 @@ module _ (e : TableExample) (checks : Checked (e .p) (e .m) (e .n) (e .a))
 
   module _ (ok : IsModulus p) where
     -- d, columns and rows are 01's D, I and J of the table, and the rank is its rank
-    stored : Inverted p ok m n a d columns rows
+    stored : StoresInverse p ok m n a d columns rows
     stored = inverse-checked p m n a d columns rows ok inverse
 
-    rank-so : rank ≡ rankOf p ok m n a
+    rank-so : rank ≡ tableRank p ok m n a
     rank-so = sym many ∙ rank-is p ok m n a (quasiinverse-checked p m n a d columns rows ok inverse)
 
   -- quasiinverse
-  inverts : (lent-d lent-columns lent-rows : List ℕ) → Room m n lent-d lent-columns lent-rows
+  inverts : (lent-d lent-columns lent-rows : List ℕ) → InverseRoom m n lent-d lent-columns lent-rows
       → quasiinverseCall p m n a lent-d lent-columns lent-rows ≡ outcome (results rank) (d, (columns, rows))
   inverts lent-d lent-columns lent-rows room =
       sym (quasiinverse-done p m n a lent-d lent-columns lent-rows d columns rows rank checks room stored rank-so)
@@ -114,7 +114,7 @@ module _ (e : TableExample) (checks : Checked (e .p) (e .m) (e .n) (e .a))
     vectors-so =
         record { filled = ap₂ (λ l r. l ++ replicate (n * r) 0) filled (sym many); many = ap (λ r. length vectors + r) many ∙ long }
 
-    basis-so : (ok : IsModulus p) → Kernelled p ok m n a (flatten vectors ++ replicate (n * rank) 0) (length vectors)
+    basis-so : (ok : IsModulus p) → StoresBasis p ok m n a (flatten vectors ++ replicate (n * rank) 0) (length vectors)
     basis-so ok =
         record {
           filled = basis-filled p ok m n a d columns rows _ (length vectors) (stored ok) vectors-so;
@@ -179,7 +179,7 @@ passed-holds e t =
 
 -- every starred example passes, computed
 all-pass : every passes tableExamples ≡ true
-unfolding every passes passesSystem isSystem becomesSo differing tableExamples isTable isPrime holdsInverse areBelow areSame areMarks isFirstDifference isQuasiinverse everyBelow _and_ same flatten vectorsFrom firstFrom marked vectorOf kernelVector mixOf count sum unit product apply table tabulate reduce _⊕_ _⊗_ negated
+unfolding every passes passesSystem isSystem becomesSo differing tableExamples isTable isPrime holdsInverse areBelow areSame areMarks isFirstDifference isPivotInverse everyBelow _and_ same flatten vectorsFrom firstFrom marked vectorOf kernelVector mixOf count sum unit product apply table tabulate reduce _⊕_ _⊗_ negated
 all-pass = refl
 
 -- every starred example holds

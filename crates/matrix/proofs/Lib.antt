@@ -1,4 +1,4 @@
-pub mod Inverted
+pub mod Stored
 pub mod Memory
 pub mod Vectors
 pub mod First

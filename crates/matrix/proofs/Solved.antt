@@ -20,9 +20,9 @@ use Rattle.field.specs.View.{table}
 use Rattle.words.specs.Words.{Below}
 use Rattle.field.specs.Written.{numbers}
 use Rattle.field.proofs.Residues.{reduce-small, reduce-value}
-use Rattle.field.proofs.Field.{residue-equal?}
 use Rattle.field.proofs.Written.{length-tabulate, getD-tabulate}
-use Rattle.matrix.specs.Calls.{tableOf, rankOf, inverseOf, wanted, candidate, solves?, firstRow, solution}
+use Rattle.matrix.specs.Decide.{equal?, solves?}
+use Rattle.matrix.specs.Calls.{tableOf, tableRank, inverseOf, wanted, candidate, firstRow, solution}
 use Rattle.matrix.specs.Parts.{vectorOf}
 use Rattle.words.specs.Words.{FirstDifference}
 use Rattle.matrix.proofs.First.{first-is}
@@ -38,15 +38,15 @@ apply-read p n X v = fun-ext (apply-same (residues p) n X (vectorOf p (numbers n
 
 module _ (p : ℕ) (ok : IsModulus p) (m n : ℕ) (a w z : List ℕ) where
   pub solution-found : Solves (residues p) m n (tableOf p m n a) (candidate p ok m n a w) (wanted p ok m n a w)
-      → solution p ok m n a w z ≡ outcome (results (rankOf p ok m n a)) (numbers n (candidate p ok m n a w), replicate m 0)
+      → solution p ok m n a w z ≡ outcome (results (tableRank p ok m n a)) (numbers n (candidate p ok m n a w), replicate m 0)
   unfolding solution
-  solution-found h = pick-yes (solves? p ok m n a w) _ _ h
+  solution-found h = pick-yes (solves? m n (tableOf p m n a) (candidate p ok m n a w) (wanted p ok m n a w)) _ _ h
 
   pub solution-none : (Solves (residues p) m n (tableOf p m n a) (candidate p ok m n a w) (wanted p ok m n a w) → ⊥)
       → solution p ok m n a w z
       ≡ outcome (refused Insoluble) (z, numbers m (mixOf (residues p) n (tableOf p m n a) (inverseOf p ok m n a) (firstRow p ok m n a w)))
   unfolding solution
-  solution-none h = pick-no (solves? p ok m n a w) _ _ h
+  solution-none h = pick-no (solves? m n (tableOf p m n a) (candidate p ok m n a w) (wanted p ok m n a w)) _ _ h
 
   -- A(Dw)
   abbrev image : Vector (residues p)
@@ -62,7 +62,7 @@ module _ (p : ℕ) (ok : IsModulus p) (m n : ℕ) (a w z : List ℕ) where
 
     module _ (y : ℕ) (first : FirstDifference (numbers m image) w y) where
       -- no place differs: the system is solved
-      pub nowhere : m ≤ y → solution p ok m n a w z ≡ outcome (results (rankOf p ok m n a)) (numbers n (candidate p ok m n a w), replicate m 0)
+      pub nowhere : m ≤ y → solution p ok m n a w z ≡ outcome (results (tableRank p ok m n a)) (numbers n (candidate p ok m n a w), replicate m 0)
       nowhere h = solution-found (λ i l. same-residue i l (first .before i (omega arith)))
 
       -- y is a place that differs: it is the first row, and the system is refused
@@ -73,8 +73,8 @@ module _ (p : ℕ) (ok : IsModulus p) (m n : ℕ) (a w z : List ℕ) where
       unfolding firstRow
       first-row h =
           first-is _ 0 m y (omega arith) (omega arith)
-          (λ i l. pick-yes (residue-equal? (image i) (wanted p ok m n a w i)) false true (same-residue i (omega arith) (first .before i l)))
-          (pick-no (residue-equal? (image y) (wanted p ok m n a w y)) false true (differs h))
+          (λ i l. pick-yes (equal? (image i) (wanted p ok m n a w i)) false true (same-residue i (omega arith) (first .before i l)))
+          (pick-no (equal? (image y) (wanted p ok m n a w y)) false true (differs h))
 
       pub somewhere : y < m → solution p ok m n a w z
           ≡ outcome (refused Insoluble) (z, numbers m (mixOf (residues p) n (tableOf p m n a) (inverseOf p ok m n a) y))
@@ -106,7 +106,7 @@ module _ (p : ℕ) (ok : IsModulus p) (m n : ℕ) (a d w z x image : List ℕ) (
   first-there = subst (λ l. FirstDifference l w y) image-written (h .first)
 
   -- the two answers
-  pub solved-by : (r : ℕ) (z′ u′ : List ℕ) → m ≤ y → r ≡ rankOf p ok m n a → z′ ≡ x → u′ ≡ replicate m 0
+  pub solved-by : (r : ℕ) (z′ u′ : List ℕ) → m ≤ y → r ≡ tableRank p ok m n a → z′ ≡ x → u′ ≡ replicate m 0
       → outcome (results r) (z′, u′) ≡ solution p ok m n a w z
   solved-by r z′ u′ l rank same zeros =
       (λ i. outcome (results (rank i)) ((same ∙ candidate-written) i, zeros i))

@@ -7,25 +7,26 @@ use mathlib.Core.Logic.{_↔_, ⊎-elim}
 use Prim.Native.Nat.{ℕ, _<_}
 use native.Mathlib.Omega.{arith}
 use Rattle.algebra.specs.Ring.{IsCommutativeRing}
-use Rattle.algebra.specs.Matrix.{Vector, Matrix, sum, unit, product, apply, mixed, transpose}
+use Rattle.algebra.specs.Matrix.{Vector, Matrix, sum, unit, apply, mixed, transpose}
 use Rattle.algebra.specs.Span.{Combines, IsCombination, RowDepends, ColumnDepends, InKernel, Solves}
-use Rattle.algebra.specs.Quasiinverse.{Marks, count, IsInverseOn, IsPivotInverse}
+use Rattle.algebra.specs.Quasiinverse.{Marks, count, IsQuasiinverse, IsInverseOn, IsPivotInverse}
 use Rattle.algebra.specs.Kernel.{kernelVector, combined}
 use Rattle.algebra.specs.Solve.{mixOf}
 use Rattle.algebra.proofs.Rings as rings
 use Rattle.algebra.proofs.Applied as applied
 use Rattle.algebra.proofs.Marks.{is-false}
 use Rattle.algebra.proofs.Chosen.{column-depends, column-free, row-depends, row-free}
-use Rattle.algebra.proofs.Unique.{inverse-on, inverse-unique, reflects}
-use Rattle.algebra.proofs.Rank.{rows-spanned, same-span-same-rank}
+use Rattle.algebra.proofs.Unique.{inverse-on, inverse-unique, is-quasiinverse}
+use Rattle.algebra.proofs.Rank.{rows-spanned}
+use Rattle.algebra.proofs.Marked.{same-span-rank}
 use Rattle.algebra.proofs.Kernel.{kernel-vector-in, kernel-vector-own, kernel-spanned, kernel-spanned-once}
 use Rattle.algebra.proofs.Solve.{solved, mix-kills, mix-shows}
 use Rattle.checks.specs.Prime.{IsModulus}
 use Rattle.field.specs.Residue.{residues, _⊗_}
-use Rattle.field.proofs.Field.{residue-equal?}
-use Rattle.matrix.specs.Calls.{tableOf, field, columnsOf, rowMarksOf, rankOf, inverseOf, wanted, candidate, firstRow}
+use Rattle.matrix.specs.Decide.{field, combinations, equal?}
+use Rattle.matrix.specs.Calls.{tableOf, columnsOf, rowMarksOf, tableRank, inverseOf, wanted, candidate, firstRow}
 use Rattle.matrix.proofs.First.{first-or-none, picked-true, picked-false}
-use Rattle.matrix.proofs.Inverted.{quasiinverse-of, rank-is}
+use Rattle.matrix.proofs.Stored.{table-pivots, columns-many}
 
 module _ (p : ℕ) (ok : IsModulus p) (m n : ℕ) (a : List ℕ) where
   -- the table and what 01 names of it
@@ -42,31 +43,27 @@ module _ (p : ℕ) (ok : IsModulus p) (m n : ℕ) (a : List ℕ) where
   J = rowMarksOf p ok m n a
 
   Q : IsPivotInverse (residues p) m n A D I J
-  Q = quasiinverse-of p ok m n a
+  Q = table-pivots p ok m n a
 
   L : IsCommutativeRing (residues p)
-  L = field p ok m n a .ring
+  L = field p ok .ring
 
   -- ---- quasiinverse
 
-  -- "So ADA = A"
-  pub absorbs-table : product (residues p) n A (product (residues p) m D A) ≡ A
-  absorbs-table = Q .absorbs
-
-  -- "and DAD = D"
-  pub reflects-table : product (residues p) m D (product (residues p) n A D) ≡ D
-  reflects-table = reflects (residues p) L Q
+  -- "So ADA = A and DAD = D"
+  pub quasiinverse-table : IsQuasiinverse (residues p) m n A D
+  quasiinverse-table = is-quasiinverse (residues p) L Q
 
   -- "I is the set of columns that are no combination of the columns before them"
   pub chosen-columns-free : (c : ℕ) → I c ≡ true → (c < n) × (ColumnDepends (residues p) m A c → ⊥)
-  chosen-columns-free c e = (Q .columns c e, column-free (residues p) L (field p ok m n a .one-not-zero) Q c e)
+  chosen-columns-free c e = (Q .columns c e, column-free (residues p) L (field p ok .one-not-zero) Q c e)
 
   pub chosen-columns-depend : (c : ℕ) → c < n → I c ≡ false → ColumnDepends (residues p) m A c
   chosen-columns-depend c l e = column-depends (residues p) L Q c l e
 
   -- "J the same for rows"
   pub chosen-rows-free : (y : ℕ) → J y ≡ true → (y < m) × (RowDepends (residues p) n A y → ⊥)
-  chosen-rows-free y e = (Q .rows y e, row-free (residues p) L (field p ok m n a .one-not-zero) Q y e)
+  chosen-rows-free y e = (Q .rows y e, row-free (residues p) L (field p ok .one-not-zero) Q y e)
 
   pub chosen-rows-depend : (y : ℕ) → y < m → J y ≡ false → RowDepends (residues p) n A y
   chosen-rows-depend y l e = row-depends (residues p) L Q y l e
@@ -92,10 +89,10 @@ module _ (p : ℕ) (ok : IsModulus p) (m n : ℕ) (a : List ℕ) where
       ))
 
   -- "I and J have r members each, the rank"
-  pub rank-columns : count n I ≡ rankOf p ok m n a
-  rank-columns = rank-is p ok m n a Q
+  pub rank-columns : count n I ≡ tableRank p ok m n a
+  rank-columns = columns-many p ok m n a
 
-  pub rank-rows : count m J ≡ rankOf p ok m n a
+  pub rank-rows : count m J ≡ tableRank p ok m n a
   rank-rows = sym (Q .equally-many) ∙ rank-columns
 
   -- "D, of n rows and m columns, is the inverse of A restricted to J and I, and 0 outside I and J"
@@ -115,7 +112,7 @@ module _ (p : ℕ) (ok : IsModulus p) (m n : ℕ) (a : List ℕ) where
 
   -- "For each column c outside I, rising, one vector: column c of 1 - DA", which A sends to zero
   pub kernel-vector-sent : (c : ℕ) → c < n → InKernel (residues p) m n A (kernelVector (residues p) m D A c)
-  kernel-vector-sent c l = kernel-vector-in (residues p) L Q c l
+  kernel-vector-sent c l = kernel-vector-in (residues p) L (Q .absorbs) c l
 
   -- "It has 1 at c and 0 at the other columns outside I"
   pub kernel-vector-outside : (c j : ℕ) → I j ≡ false → kernelVector (residues p) m D A c j ≡ unit (residues p) j c
@@ -142,7 +139,7 @@ module _ (p : ℕ) (ok : IsModulus p) (m n : ℕ) (a : List ℕ) where
         ((x : Vector (residues p)) × Solves (residues p) m n A x (wanted p ok m n a w))
         ↔ Solves (residues p) m n A (candidate p ok m n a w) (wanted p ok m n a w)
     solvable-exactly = (
-      (λ (x, h). solved (residues p) L Q x (wanted p ok m n a w) h),
+      (λ (x, h). solved (residues p) L (Q .absorbs) x (wanted p ok m n a w) h),
       (λ h. (candidate p ok m n a w, h)),
     )
 
@@ -157,8 +154,8 @@ module _ (p : ℕ) (ok : IsModulus p) (m n : ℕ) (a : List ℕ) where
     unfolding firstRow
     first-row-differs f =
         ⊎-elim
-        (λ (e, l). (omega arith, picked-true (residue-equal? _ _) e))
-        (λ g. absurd (f (λ i l. picked-false (residue-equal? _ _) (g i (omega arith) (omega arith)))))
+        (λ (e, l). (omega arith, picked-true (equal? _ _) e))
+        (λ g. absurd (f (λ i l. picked-false (equal? _ _) (g i (omega arith) (omega arith)))))
         (first-or-none _ 0 m)
 
     -- "Then uA = 0, and u times w is not 0": refused exactly where there is no solution, and the mix shows it
@@ -168,17 +165,14 @@ module _ (p : ℕ) (ok : IsModulus p) (m n : ℕ) (a : List ℕ) where
     refused-exactly none =
         let (l, differs) = first-row-differs (λ h. none (solvable-exactly .1 h)) in
         let y = firstRow p ok m n a w in (
-          mix-kills (residues p) L Q y l,
-          λ z. differs (sym (rings.difference-zero (residues p) L _ _ (sym (mix-shows (residues p) L Q (wanted p ok m n a w) y l) ∙ z))),
+          mix-kills (residues p) L (Q .absorbs) y l,
+          λ z. differs (sym (rings.difference-zero (residues p) L _ _ (sym (mix-shows (residues p) L m n A D (wanted p ok m n a w) y l) ∙ z))),
         )
 
 -- "The ledger's rank .. in whatever order they came": rows that are combinations of each other's have the same rank
 pub rank-of-rows : (p : ℕ) (ok : IsModulus p) (m k n : ℕ) (a b : List ℕ)
     → ((y : ℕ) → y < m → IsCombination (residues p) k n (tableOf p k n b) (tableOf p m n a y))
     → ((y : ℕ) → y < k → IsCombination (residues p) m n (tableOf p m n a) (tableOf p k n b y))
-    → rankOf p ok m n a ≡ rankOf p ok k n b
-rank-of-rows p ok m k n a b f g =
-    sym (rank-rows p ok m n a)
-    ∙ same-span-same-rank (residues p) (field p ok m n a .ring) (field p ok m n a .one-not-zero)
-    (quasiinverse-of p ok m n a) (quasiinverse-of p ok k n b) f g
-    ∙ rank-rows p ok k n b
+    → tableRank p ok m n a ≡ tableRank p ok k n b
+rank-of-rows p ok m k n a b =
+    same-span-rank (residues p) (field p ok) (combinations p ok) m k n (tableOf p m n a) (tableOf p k n b)

@@ -1,18 +1,15 @@
 -- What quasiinverse, kernel and solve answer and leave in lent memory, for every input: 01, "Quasiinverse, kernel, solution"
 -- and "What is handed back on refusal".
-use mathlib.Core.Path.{_≡_}
 use mathlib.Core.Bool.{Bool, true, false}
 use mathlib.Core.List.{List, [], _++_}
 use Prim.Native.Nat.{ℕ, zero, suc, _+_, _*_, _-_}
 use lib.ListN.{getD, replicate}
 use Rattle.algebra.specs.Choice.{choose, pick}
-use Rattle.algebra.specs.Ring.{IsField}
 use Rattle.algebra.specs.Matrix.{Vector, Matrix, apply}
 use Rattle.algebra.specs.Quasiinverse.{Marks}
+use Rattle.algebra.specs.Chosen.{chosenColumns, chosenRows, rank}
 use Rattle.algebra.specs.Kernel.{kernelVector}
 use Rattle.algebra.specs.Solve.{mixOf}
-use Rattle.algebra.specs.Span.{Solves}
-use Rattle.algebra.proofs.Choice.{all-below?}
 use Rattle.checks.specs.declared.Refusal.{Refusal}
 use Rattle.checks.specs.declared.Refusal.the-variants.{Length, Number, Insoluble}
 use Rattle.checks.specs.Told.{results, refused}
@@ -24,32 +21,26 @@ use Rattle.checks.specs.Decide.{long?}
 use Rattle.field.specs.Residue.{residues, reduce}
 use Rattle.field.specs.View.{table}
 use Rattle.field.specs.Written.{numbers, rowsOf, marksOf}
-use Rattle.field.proofs.Field.{residues-field, residue-equal?}
-use Rattle.field.proofs.Views.{table-sized}
-use Rattle.matrix.specs.Chosen.{chosenColumns, chosenRows, rank}
-use Rattle.matrix.specs.Inverse.{inverse}
+use Rattle.matrix.specs.Decide.{combinations, givenInverse, equal?, solves?}
 use Rattle.words.specs.Decide.{below?}
 
 -- the table of m rows and n columns in the numbers a, stored row by row
 abbrev pub tableOf : (p m n : ℕ) → List ℕ → Matrix (residues p)
 tableOf p m n a = table p a 0 n m n
 
-module _ (p : ℕ) (is-modulus : IsModulus p) (m n : ℕ) (a : List ℕ) where
-  abbrev pub field : IsField (residues p)
-  field = residues-field p (is-modulus .prime)
-
+module _ (p : ℕ) (ok : IsModulus p) (m n : ℕ) (a : List ℕ) where
   -- I, J, r and D of the table
   abbrev pub columnsOf : Marks
-  columnsOf = chosenColumns (residues p) field m n (tableOf p m n a)
+  columnsOf = chosenColumns (residues p) (combinations p ok) m n (tableOf p m n a)
 
   abbrev pub rowMarksOf : Marks
-  rowMarksOf = chosenRows (residues p) field m n (tableOf p m n a)
+  rowMarksOf = chosenRows (residues p) (combinations p ok) m n (tableOf p m n a)
 
-  abbrev pub rankOf : ℕ
-  rankOf = rank (residues p) field m n (tableOf p m n a)
+  abbrev pub tableRank : ℕ
+  tableRank = rank (residues p) (combinations p ok) m n (tableOf p m n a)
 
   abbrev pub inverseOf : Matrix (residues p)
-  inverseOf = inverse (residues p) field m n (tableOf p m n a) (table-sized p a 0 n m n) .D
+  inverseOf = givenInverse p ok m n a .D
 
 -- ---- quasiinverse
 
@@ -70,7 +61,7 @@ unfoldable pub quasiinverseCall : (p m n : ℕ) (a d columns rows : List ℕ) �
 quasiinverseCall p m n a d columns rows =
     inOrder (quasiinverseChecks p m n a d columns rows)
     (λ hs.
-    outcome (results (rankOf p (hs .0) m n a)) (
+    outcome (results (tableRank p (hs .0) m n a)) (
       rowsOf n m (inverseOf p (hs .0) m n a),
       (marksOf n (columnsOf p (hs .0) m n a), marksOf m (rowMarksOf p (hs .0) m n a)),
     ))
@@ -87,7 +78,7 @@ vectorsFrom {p} m n I D A c (suc k) =
 -- the vectors fill the front, vector after vector, the rest becomes 0
 unfoldable pub basisOf : (p : ℕ) → IsModulus p → (m n : ℕ) → List ℕ → List ℕ
 basisOf p ok m n a =
-    vectorsFrom m n (columnsOf p ok m n a) (inverseOf p ok m n a) (tableOf p m n a) 0 n ++ replicate (n * rankOf p ok m n a) 0
+    vectorsFrom m n (columnsOf p ok m n a) (inverseOf p ok m n a) (tableOf p m n a) 0 n ++ replicate (n * tableRank p ok m n a) 0
 
 -- 1, 2; 3 for A and the basis; 4 for A
 abbrev pub kernelChecks : (p m n : ℕ) (a basis : List ℕ) → Checks Refusal
@@ -103,7 +94,7 @@ kernelChecks p m n a basis =
 unfoldable pub kernelCall : (p m n : ℕ) (a basis : List ℕ) → Outcome (List ℕ)
 kernelCall p m n a basis =
     inOrder (kernelChecks p m n a basis)
-    (λ hs. outcome (results (n - rankOf p (hs .0) m n a)) (basisOf p (hs .0) m n a))
+    (λ hs. outcome (results (n - tableRank p (hs .0) m n a)) (basisOf p (hs .0) m n a))
     (untouched basis)
 
 -- ---- solve
@@ -121,21 +112,16 @@ module _ (p : ℕ) (ok : IsModulus p) (m n : ℕ) (a w : List ℕ) where
   abbrev pub candidate : Vector (residues p)
   candidate = apply (residues p) m (inverseOf p ok m n a) wanted
 
-  -- A(Dw) = w
-  pub solves? : Dec (Solves (residues p) m n (tableOf p m n a) candidate wanted)
-  solves? =
-      all-below? (λ i. apply (residues p) n (tableOf p m n a) candidate i ≡ wanted i)
-      (λ i. residue-equal? (apply (residues p) n (tableOf p m n a) candidate i) (wanted i)) m
-
   -- the first row y where A(Dw) and w differ
   unfoldable pub firstRow : ℕ
   firstRow =
-      firstFrom (λ i. pick (residue-equal? (apply (residues p) n (tableOf p m n a) candidate i) (wanted i)) false true) 0 m
+      firstFrom (λ i. pick (equal? (apply (residues p) n (tableOf p m n a) candidate i) (wanted i)) false true) 0 m
 
-  -- z becomes Dw and u 0; or u becomes the unit row of y minus (row y of A) times D, and z stays
+  -- if A(Dw) = w, z becomes Dw and u 0; else u becomes the unit row of y minus (row y of A) times D, and z stays
   unfoldable pub solution : List ℕ → Outcome (List ℕ × List ℕ)
   solution z =
-      pick solves? (outcome (results (rankOf p ok m n a)) (numbers n candidate, replicate m 0))
+      pick (solves? m n (tableOf p m n a) candidate wanted)
+      (outcome (results (tableRank p ok m n a)) (numbers n candidate, replicate m 0))
       (outcome (refused Insoluble) (z, numbers m (mixOf (residues p) n (tableOf p m n a) (inverseOf p ok m n a) firstRow)))
 
 -- 1, 2; 3 for A, w, z and u; 4 for A and then w

@@ -8,7 +8,7 @@ use Rattle.checks.specs.declared.Refusal.the-variants.{Insoluble}
 use Rattle.checks.specs.Told.{results, refused}
 use Rattle.checks.specs.Outcome.{Outcome, outcome}
 use Rattle.matrix.specs.Calls.{quasiinverseCall, kernelCall, solveCall}
-use Rattle.matrix.specs.Parts.{Room}
+use Rattle.matrix.specs.Parts.{InverseRoom}
 
 -- "gives z = ..", or "gives 5, u = .."
 pub data Becomes : Type 0 where
@@ -107,7 +107,7 @@ systemOutcome m r (refusedBy u) lent = outcome (refused Insoluble) (lent, u)
 
 -- the calls answer and leave what the example says, whatever memory of the right lengths they are lent
 pub record Holds (e : TableExample) : Type 0 where
-  pub inverts : (d columns rows : List ℕ) → Room (e .m) (e .n) d columns rows
+  pub inverts : (d columns rows : List ℕ) → InverseRoom (e .m) (e .n) d columns rows
       → quasiinverseCall (e .p) (e .m) (e .n) (e .a) d columns rows ≡ outcome (results (e .rank)) (e .d, (e .columns, e .rows))
   pub spans : (basis : List ℕ) → length basis ≡ e .n * e .n
       → kernelCall (e .p) (e .m) (e .n) (e .a) basis

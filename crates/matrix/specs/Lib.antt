@@ -1,6 +1,4 @@
-pub mod Chosen
-pub mod Marked
-pub mod Inverse
+pub mod Decide
 pub mod Told
 pub mod Calls
 pub mod Parts

@@ -12,7 +12,7 @@ use Rattle.field.specs.Residue.{Residue, residues, reduce, _⊗_}
 use Rattle.field.specs.View.{line, table, Reaches}
 use Rattle.words.specs.Words.{Below}
 use Rattle.field.specs.Written.{rowsOf, marksOf}
-use Rattle.matrix.specs.Calls.{columnsOf, rowMarksOf, rankOf, inverseOf, vectorsFrom, basisOf}
+use Rattle.matrix.specs.Calls.{columnsOf, rowMarksOf, tableRank, inverseOf, vectorsFrom, basisOf}
 
 -- a table of m rows and n columns that has passed the checks
 pub record Checked (p m n : ℕ) (a : List ℕ) : Type 0 where
@@ -23,13 +23,13 @@ pub record Checked (p m n : ℕ) (a : List ℕ) : Type 0 where
   pub a-below : Below p a
 
 -- memory for D, the column marks and the row marks
-pub record Room (m n : ℕ) (d columns rows : List ℕ) : Type 0 where
+pub record InverseRoom (m n : ℕ) (d columns rows : List ℕ) : Type 0 where
   pub d-long : length d ≡ n * m
   pub columns-long : length columns ≡ n
   pub rows-long : length rows ≡ m
 
 -- d, columns and rows hold the table's D, I and J
-pub record Inverted (p : ℕ) (ok : IsModulus p) (m n : ℕ) (a d columns rows : List ℕ) : Type 0 where
+pub record StoresInverse (p : ℕ) (ok : IsModulus p) (m n : ℕ) (a d columns rows : List ℕ) : Type 0 where
   pub is-D : table p d 0 m n m ≡ inverseOf p ok m n a
   pub d-written : d ≡ rowsOf n m (inverseOf p ok m n a)
   pub columns-written : columns ≡ marksOf n (columnsOf p ok m n a)
@@ -70,9 +70,9 @@ pub record KernelVectors (p m n : ℕ) (a d columns basis : List ℕ) (r : ℕ) 
   pub many : r + count n (marked columns) ≡ n
 
 -- the basis of the table's kernel, with r vectors
-pub record Kernelled (p : ℕ) (ok : IsModulus p) (m n : ℕ) (a basis : List ℕ) (r : ℕ) : Type 0 where
+pub record StoresBasis (p : ℕ) (ok : IsModulus p) (m n : ℕ) (a basis : List ℕ) (r : ℕ) : Type 0 where
   pub filled : basis ≡ basisOf p ok m n a
-  pub many : r ≡ n - rankOf p ok m n a
+  pub many : r ≡ n - tableRank p ok m n a
 
 -- the right side w of a system, and the memory of z and u
 pub record System (p m n : ℕ) (w z u : List ℕ) : Type 0 where
@@ -84,4 +84,4 @@ pub record System (p m n : ℕ) (w z u : List ℕ) : Type 0 where
 -- d holds the table's D, and r is its rank
 pub record Solver (p : ℕ) (ok : IsModulus p) (m n : ℕ) (a d : List ℕ) (r : ℕ) : Type 0 where
   pub is-D : table p d 0 m n m ≡ inverseOf p ok m n a
-  pub is-rank : r ≡ rankOf p ok m n a
+  pub is-rank : r ≡ tableRank p ok m n a

@@ -11,7 +11,7 @@ ghost use Rattle.field.specs.Residue.{residues, _⊕_, negated};
 ghost use Rattle.field.specs.View.{table};
 ghost use Rattle.field.specs.Written.{numbers};
 ghost use Rattle.field.proofs.Totals.{total};
-ghost use Rattle.matrix.specs.Parts.{Tables, Crossing, crossed, vectorOf, KernelVectors, Checked, Room, Inverted};
+ghost use Rattle.matrix.specs.Parts.{Tables, Crossing, crossed, vectorOf, KernelVectors, Checked, InverseRoom, StoresInverse};
 
 // The sum of marks, each 0 or 1.
 pub fn count_marks(xs: &[u32]) -> u32
@@ -126,8 +126,8 @@ pub fn invert(
     columns: &mut [u32],
     rows: &mut [u32],
 )
-    requires { ⌜ Checked p m n (now a) × Room m n (now d) (now columns) (now rows) ⌝ }
-    ensures { λ _. ⌜ ((ok : IsModulus p) → Inverted p ok m n (now (a .entry)) (now (d .exit)) (now (columns .exit)) (now (rows .exit))) ⌝ }
+    requires { ⌜ Checked p m n (now a) × InverseRoom m n (now d) (now columns) (now rows) ⌝ }
+    ensures { λ _. ⌜ ((ok : IsModulus p) → StoresInverse p ok m n (now (a .entry)) (now (d .exit)) (now (columns .exit)) (now (rows .exit))) ⌝ }
 {
     words::clear(d);
     words::clear(columns);

@@ -6,7 +6,7 @@ ghost use Rattle.checks.specs.Prime.{IsModulus};
 ghost use Rattle.checks.specs.Outcome.{outcome};
 ghost use Rattle.matrix.specs.Calls.{solution};
 ghost use Rattle.matrix.specs.Told.{tableTold};
-ghost use Rattle.matrix.specs.Parts.{Tables, Checked, Room, Kernelled, System, Solver};
+ghost use Rattle.matrix.specs.Parts.{Tables, Checked, InverseRoom, StoresBasis, System, Solver};
 use checks::Refusal;
 use matrix::TableAnswer;
 use matrix::parts;
@@ -22,8 +22,8 @@ fn kernel_with(
     rows: &mut [u32],
     basis: &mut [u32],
 ) -> u32
-    requires { ⌜ Checked p m n (now a) × Room m n (now d) (now columns) (now rows) × (length (now basis) ≡ n * n) ⌝ }
-    ensures { λ r. ⌜ ((ok : IsModulus p) → Kernelled p ok m n (now (a .entry)) (now (basis .exit)) r) ⌝ }
+    requires { ⌜ Checked p m n (now a) × InverseRoom m n (now d) (now columns) (now rows) × (length (now basis) ≡ n * n) ⌝ }
+    ensures { λ r. ⌜ ((ok : IsModulus p) → StoresBasis p ok m n (now (a .entry)) (now (basis .exit)) r) ⌝ }
 {
     parts::invert(p, m, n, a, d, columns, rows);
     parts::kernel_vectors(p, m, n, a, d, columns, basis)
@@ -32,7 +32,7 @@ fn kernel_with(
 // The same, with room for D, I and J made here.
 pub fn kernel_of(p: u32, m: usize, n: usize, a: &[u32], basis: &mut [u32]) -> u32
     requires { ⌜ Checked p m n (now a) × (length (now basis) ≡ n * n) ⌝ }
-    ensures { λ r. ⌜ ((ok : IsModulus p) → Kernelled p ok m n (now (a .entry)) (now (basis .exit)) r) ⌝ }
+    ensures { λ r. ⌜ ((ok : IsModulus p) → StoresBasis p ok m n (now (a .entry)) (now (basis .exit)) r) ⌝ }
 {
     let mut d = words::table_room();
     let mut columns = words::row_room();
@@ -95,7 +95,7 @@ fn solve_with(
     z: &mut [u32],
     u: &mut [u32],
 ) -> TableAnswer
-    requires { ⌜ Checked p m n (now a) × Room m n (now d) (now columns) (now rows) × System p m n (now w) (now z) (now u) × (length (now x) ≡ n) × (length (now image) ≡ m) ⌝ }
+    requires { ⌜ Checked p m n (now a) × InverseRoom m n (now d) (now columns) (now rows) × System p m n (now w) (now z) (now u) × (length (now x) ≡ n) × (length (now image) ≡ m) ⌝ }
     ensures { λ t. ⌜ ((ok : IsModulus p) → outcome (tableTold t) (now (z .exit), now (u .exit)) ≡ solution p ok m n (now (a .entry)) (now (w .entry)) (now (z .entry))) ⌝ }
 {
     parts::invert(p, m, n, a, d, columns, rows);

@@ -7,7 +7,7 @@ use Rattle.algebra.proofs.Answers.{guard-left, guard-taken}
 use Rattle.checks.specs.InOrder.{Given}
 use Rattle.checks.specs.Sizes.{tableSizes}
 use Rattle.checks.proofs.InOrder.{fails-here}
-use Rattle.matrix.specs.Parts.{Checked, Room}
+use Rattle.matrix.specs.Parts.{Checked, InverseRoom}
 use Rattle.matrix.proofs.Answers.{_then_, past-sizes, sizes-passed, sizes-failed, quasiinverse-refused, quasiinverse-done}
 use Rattle.matrix.proofs.Basis.{columns-few, columns-sum}
 use Rattle.matrix.proofs.Memory.{table-most}
@@ -101,7 +101,7 @@ checked c =
     }
 
 room : (c : tie.Else5)
-    → Room (start (begun c) .args .m) (start (begun c) .args .n) (start (begun c) .args .d .now) (start (begun c) .args .columns .now)
+    → InverseRoom (start (begun c) .args .m) (start (begun c) .args .n) (start (begun c) .args .d .now) (start (begun c) .args .columns .now)
     (start (begun c) .args .rows .now)
 room c =
     let l = c .before .before in

@@ -1,7 +1,7 @@
 -- `matrix::parts::invert` meets its contract: cleared memory is what the elimination asks for, and what it leaves is D, I and J.
 use mathlib.Core.Path.{_∙_}
-use Rattle.matrix.specs.Parts.{Room}
-use Rattle.matrix.proofs.Inverted.{cleared-eliminable, eliminated-inverted}
+use Rattle.matrix.specs.Parts.{InverseRoom}
+use Rattle.matrix.proofs.Stored.{cleared-eliminable, eliminated-inverted}
 use Rattle.matrix.proofs.parts.invert.Statement.{statement}
 use Rattle.matrix.proofs.parts.invert.Tie as tie
 
@@ -29,7 +29,7 @@ clear-requires-3 c κs = tt
 
 -- the memory has its lengths still
 room : (c : tie.After-eliminate-arg3)
-    → Room (start c .args .m) (start c .args .n) (cleared-d c .clear .last .0) (cleared-columns c .clear2 .last .0) (cleared-rows c .clear3 .last .0)
+    → InverseRoom (start c .args .m) (start c .args .n) (cleared-d c .clear .last .0) (cleared-columns c .clear2 .last .0) (cleared-rows c .clear3 .last .0)
 room c =
     let r = start c .pre .1 in
     record {
