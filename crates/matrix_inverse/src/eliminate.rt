@@ -2,7 +2,7 @@
 ghost use mathlib.Core.Path.{_≡_};
 ghost use Prim.Native.Nat.{ℕ, _+_, _*_, _≤_, _<_};
 ghost use lib.ListN.{length, getD};
-ghost use Rattle.field.specs.Four.{Passes};
+ghost use Rattle.matrix_mul.specs.Rows.{Passes};
 ghost use Rattle.matrix_mul.specs.Places.{place, Factors};
 ghost use Rattle.matrix_inverse.specs.Eliminated.{noMarks, Eliminable, Eliminated, BothMarked};
 ghost use Rattle.matrix_inverse.specs.Steps.{IsNegativeProduct, Reducible, Reduced, Joinable, Joined};
@@ -83,7 +83,7 @@ fn negative_product(
     right: Place,
     z: &mut [u32],
 )
-    requires { ⌜ Factors p size (now x) (place 0 (size .inner)) (now y) right (now z) (place 0 (size .columns)) × Passes (size .inner) (now next) (right .start) (right .stride) (size .columns) (now y) ⌝ }
+    requires { ⌜ Factors p size (now x) (place 0 (size .inner)) (now y) right (now z) (place 0 (size .columns)) × Passes (size .inner) (now next) right (size .columns) (now y) ⌝ }
     ensures { λ _. ⌜ IsNegativeProduct p size (now (x .entry)) (now (y .entry)) right (now (z .entry)) (now (z .exit)) ⌝ }
 {
     let m = size.rows;
@@ -132,7 +132,7 @@ fn reduce_rows(
     negative_product(p, first, lower, &next, d, block, t);
     let end = m2 * n;
     words::copy(lower, 0, end, c);
-    let each = field::sums::each_row();
+    let each = matrix_mul::rows::each_row();
     let second = Sizes {
         rows: m2,
         inner: m1,

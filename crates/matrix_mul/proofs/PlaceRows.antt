@@ -14,7 +14,7 @@ use Rattle.algebra.proofs.Step.{product-row}
 use Rattle.field.specs.Residue.{Residue, reduce, residues, _⊕_, _⊗_}
 use Rattle.field.specs.View.{line, table}
 use Rattle.words.specs.Words.{Below}
-use Rattle.field.specs.Four.{Passes}
+use Rattle.matrix_mul.specs.Rows.{Passes, Combinable}
 use Rattle.field.proofs.Residues.{reduce-zero, below-of-value, reduce-of-value}
 use Rattle.field.proofs.Field.{residues-ring}
 use Rattle.field.proofs.Views.{table-entry, table-sized}
@@ -277,20 +277,19 @@ module _ {p k n : ℕ} {x : List ℕ} {at : ℕ} {y : List ℕ} {Y : Place} {z :
     (is-out : IsPart z to n out)
   where
     -- what combine_listed asks
-    pub row-ready : {next : List ℕ} → Passes k next (Y .start) (Y .stride) n y →
-        (0 < p) × (p ≤ 2147483647) × (length by ≤ 64) × (length out ≤ 64) × Below p by × Below p y
-        × ((t : ℕ) → t < length by → Y .start + t * Y .stride + length out ≤ length y)
-        × Passes (length by) next (Y .start) (Y .stride) (length out) y
+    pub row-ready : {next : List ℕ} → Passes k next Y n y → Combinable p by y Y out × Passes (length by) next Y (length out) y
     row-ready passes = (
-      F .positive,
-      F .in-range,
-      omega (arith, is-by .long, F .inner),
-      omega (arith, is-out .long, F .columns),
-      λ j l.
-          let h : j < k = omega (arith, is-by .long) in
-          rw (is-by .same j h) (F .left-below (at + j) (omega (arith, row-fits (F .left)))),
-      F .right-below,
-      λ t l. omega (arith, is-out .long, F .right .inside t (omega (arith, is-by .long))),
+      record {
+        positive = F .positive;
+        in-range = F .in-range;
+        few = omega (arith, is-by .long, F .inner);
+        narrow = omega (arith, is-out .long, F .columns);
+        by-below = λ j l.
+            let h : j < k = omega (arith, is-by .long) in
+            rw (is-by .same j h) (F .left-below (at + j) (omega (arith, row-fits (F .left))));
+        table-below = F .right-below;
+        inside = λ t l. omega (arith, is-out .long, F .right .inside t (omega (arith, is-by .long)));
+      },
       rw (is-by .long, is-out .long) passes,
     )
 

@@ -6,8 +6,10 @@ use lib.ListN.{length, getD}
 use Rattle.algebra.specs.Matrix.{Matrix, add, product}
 use Rattle.field.specs.Residue.{residues}
 use Rattle.field.specs.View.{table}
+use Rattle.field.specs.Limbs.{largestModulus}
+use Rattle.words.specs.Lengths.{rowLength}
 use Rattle.words.specs.Words.{Below}
-use Rattle.field.specs.Four.{Leads, PassesOver}
+use Rattle.matrix_mul.specs.Rows.{Leads, PassesOver}
 use Rattle.matrix_mul.specs.declared.Place.{Place}
 use Rattle.matrix_mul.specs.declared.Sizes.{Sizes}
 
@@ -57,9 +59,9 @@ pub record Kept (p : ℕ) (xs ys : List ℕ) (X : Place) (m n : ℕ) : Type 0 wh
 -- what a product of blocks asks: X in x, Y in y and Z in z, each at its place
 pub record Factors (p : ℕ) (s : Sizes) (x : List ℕ) (X : Place) (y : List ℕ) (Y : Place) (z : List ℕ) (Z : Place) : Type 0 where
   pub positive : 0 < p
-  pub in-range : p ≤ 2147483647
-  pub inner : s .inner ≤ 64
-  pub columns : s .columns ≤ 64
+  pub in-range : p ≤ largestModulus
+  pub inner : s .inner ≤ rowLength
+  pub columns : s .columns ≤ rowLength
   pub left : Block x X (s .rows) (s .inner)
   pub right : Block y Y (s .inner) (s .columns)
   pub target : Block z Z (s .rows) (s .columns)

@@ -1,13 +1,16 @@
-// Products of blocks of residues, row by row through field's combination of rows.
+// Sums of rows and products of blocks of residues: a product goes row by row through a combination of rows. Leaves for the crates
+// above, which meet what each requires.
 ghost use mathlib.Core.Path.{_≡_};
 ghost use Prim.Native.Nat.{ℕ, _+_, _≤_, _<_};
 ghost use lib.ListN.{length, getD};
 ghost use Rattle.algebra.specs.Answers.{Tells};
 ghost use Rattle.field.specs.Residue.{reduce, negated};
 ghost use Rattle.words.specs.Words.{Below, Blank, Zeros};
-ghost use Rattle.field.specs.Four.{Passes};
+ghost use Rattle.matrix_mul.specs.Rows.{Passes};
 ghost use Rattle.matrix_mul.specs.Places.{place, sizes, Factors, Multiplied, Within, Listed};
 ghost use Rattle.words.specs.Words.{Copied};
+
+pub mod rows;
 
 // Where a block of numbers begins, and how far the starts of its rows are apart.
 pub struct Place {
@@ -64,7 +67,7 @@ fn add_row(
     z: &mut [u32],
     z_at: usize,
 )
-    requires { ⌜ Factors p (sizes 1 k n) (now x) (place «x_at» k) (now y) right (now z) (place «z_at» n) × Passes k (now next) (right .start) (right .stride) n (now y) ⌝ }
+    requires { ⌜ Factors p (sizes 1 k n) (now x) (place «x_at» k) (now y) right (now z) (place «z_at» n) × Passes k (now next) right n (now y) ⌝ }
     ensures { λ _. ⌜ Multiplied p (sizes 1 k n) (now (x .entry)) (place «x_at» k) (now (y .entry)) right (now (z .entry)) (now (z .exit)) (place «z_at» n) ⌝ }
 {
     let x_end = x_at + k;
@@ -73,15 +76,7 @@ fn add_row(
         return;
     }
     let z_end = z_at + n;
-    field::sums::combine_listed(
-        p,
-        by,
-        next,
-        y,
-        right.start,
-        right.stride,
-        &mut z[z_at..z_end],
-    );
+    rows::combine_listed(p, by, next, y, right, &mut z[z_at..z_end]);
 }
 
 // Z + X Y for Z, where X, Y and Z lie in different memory, at the places `left`, `right` and `target`; the list leads over rows
@@ -97,7 +92,7 @@ pub fn add_product(
     z: &mut [u32],
     target: Place,
 )
-    requires { ⌜ Factors p size (now x) left (now y) right (now z) target × Passes (size .inner) (now next) (right .start) (right .stride) (size .columns) (now y) ⌝ }
+    requires { ⌜ Factors p size (now x) left (now y) right (now z) target × Passes (size .inner) (now next) right (size .columns) (now y) ⌝ }
     ensures { λ _. ⌜ Multiplied p size (now (x .entry)) left (now (y .entry)) right (now (z .entry)) (now (z .exit)) target ⌝ }
 {
     let m = size.rows;
@@ -134,7 +129,7 @@ fn add_row_within(
     z: &mut [u32],
     z_at: usize,
 )
-    requires { ⌜ Factors p (sizes 1 k n) (now z) (place «x_at» k) (now y) right (now z) (place «z_at» n) × Passes k (now next) (right .start) (right .stride) n (now y) × (mark ≡ 0 → (t : ℕ) → t < k → getD (now z) («x_at» + t) 0 ≡ 0) ⌝ }
+    requires { ⌜ Factors p (sizes 1 k n) (now z) (place «x_at» k) (now y) right (now z) (place «z_at» n) × Passes k (now next) right n (now y) × (mark ≡ 0 → (t : ℕ) → t < k → getD (now z) («x_at» + t) 0 ≡ 0) ⌝ }
     ensures { λ _. ⌜ Multiplied p (sizes 1 k n) (now (z .entry)) (place «x_at» k) (now (y .entry)) right (now (z .entry)) (now (z .exit)) (place «z_at» n) ⌝ }
 {
     if mark == 0 {
@@ -160,7 +155,7 @@ pub fn add_product_within(
     requires { ⌜ Within p size (now marks) «x_start» (now y) right (now z) target ⌝ }
     ensures { λ _. ⌜ Multiplied p size (now (z .entry)) (place «x_start» (target .stride)) (now (y .entry)) right (now (z .entry)) (now (z .exit)) target ⌝ }
 {
-    let next = field::sums::each_row();
+    let next = rows::each_row();
     let m = size.rows;
     let mut i = 0;
     while i < m {

@@ -4,34 +4,44 @@ ghost use mathlib.Core.Path.{_≡_};
 ghost use Prim.Native.Nat.{ℕ, _+_, _≤_, _<_};
 ghost use lib.ListN.{length, getD};
 ghost use Rattle.algebra.specs.Answers.{Tells};
+ghost use Rattle.words.specs.Lengths.{rowLength, tableLength, halfLength, quarterLength};
 ghost use Rattle.words.specs.Words.{Below, Blank, Zeros, AllMarked, Copied, FirstDifference};
 
-// 64 zeros: room for the longest row or column.
-pub fn row_room() -> [u32; 64]
-    ensures { λ r. ⌜ Zeros 64 r ⌝ }
+// The numbers of the longest row or column, and of the largest table; of half its rows, and of half the columns of these.
+pub const ROW: usize = 64;
+
+pub const TABLE: usize = 4096;
+
+pub const HALF: usize = 2048;
+
+pub const QUARTER: usize = 1024;
+
+// Zeros: room for the longest row or column.
+pub fn row_room() -> [u32; ROW]
+    ensures { λ r. ⌜ Zeros rowLength r ⌝ }
 {
-    [0u32; 64]
+    [0u32; ROW]
 }
 
-// 4,096 zeros: room for the largest table.
-pub fn table_room() -> [u32; 4096]
-    ensures { λ r. ⌜ Zeros 4096 r ⌝ }
+// Room for the largest table.
+pub fn table_room() -> [u32; TABLE]
+    ensures { λ r. ⌜ Zeros tableLength r ⌝ }
 {
-    [0u32; 4096]
+    [0u32; TABLE]
 }
 
-// 2,048 zeros: room for half the rows of the largest table.
-pub fn half_table() -> [u32; 2048]
-    ensures { λ r. ⌜ Zeros 2048 r ⌝ }
+// Room for half the rows of the largest table.
+pub fn half_table() -> [u32; HALF]
+    ensures { λ r. ⌜ Zeros halfLength r ⌝ }
 {
-    [0u32; 2048]
+    [0u32; HALF]
 }
 
-// 1,024 zeros: room for a quarter of the largest table.
-pub fn quarter_table() -> [u32; 1024]
-    ensures { λ r. ⌜ Zeros 1024 r ⌝ }
+// Room for a quarter of the largest table: half its rows, and half the columns of these.
+pub fn quarter_table() -> [u32; QUARTER]
+    ensures { λ r. ⌜ Zeros quarterLength r ⌝ }
 {
-    [0u32; 1024]
+    [0u32; QUARTER]
 }
 
 // Makes each number 0.
