@@ -1,12 +1,13 @@
 -- The laws of limbs: adding the limbs of a product apart adds the product, k limbs stay within k times the largest limb, and so
 -- 4096 of them fit. `Within` is opened here alone, so that no invariant shows its large number.
 use mathlib.Core.Path.{_≡_, refl, sym, ap, _∙_}
-use Prim.Native.Nat.{ℕ, zero, suc, _+_, _*_, _/_, _%_, _<_, _≤_}
+use Prim.Native.Nat.{ℕ, zero, suc, _+_, _*_, _-_, _/_, _%_, _<_, _≤_}
 use native.Mathlib.Nat.{mod-lt, mod-add-div, mod-add-mod, mul-le-mul}
 use native.Mathlib.Omega.{arith}
 use lib.ListN.{getD, replicate}
 use mir.Val.{Fits}
 use mir.Syntax.{w32, w64}
+use Rattle.words.specs.Lengths.{tableLength}
 use Rattle.field.specs.Limbs.{limbBase, low, high, whole, LimbFits}
 use Rattle.field.proofs.Residues.{mod-times}
 
@@ -27,8 +28,8 @@ whole-low n m lo hi e = omega arith
 -- the product of two numbers of 32 bits has 64
 pub product-fits : (a b : ℕ) → Fits w32 a → Fits w32 b → Fits w64 (a * b)
 product-fits a b f g =
-    let ha : a ≤ 4294967295 = omega arith in
-    let hb : b ≤ 4294967295 = omega arith in
+    let ha : a ≤ limbBase - 1 = omega arith in
+    let hb : b ≤ limbBase - 1 = omega arith in
     omega (arith, mul-le-mul ha hb)
 
 -- where one more limb fits, this one does
@@ -51,7 +52,7 @@ word-fits n x r f = omega arith
 
 -- n is no more than k times the largest limb
 pub Within : ℕ → ℕ → Type 0
-Within k n = n ≤ k * 4294967295
+Within k n = n ≤ k * (limbBase - 1)
 
 pub within-zero : Within 0 0
 unfolding Within
@@ -65,7 +66,7 @@ pub within-high : (k n x : ℕ) → Within k n → Fits w64 x → Within (k + 1)
 unfolding Within high
 within-high k n x h f = omega arith
 
-pub within-fits : (k n : ℕ) → k ≤ 4096 → Within k n → LimbFits n
+pub within-fits : (k n : ℕ) → k ≤ tableLength → Within k n → LimbFits n
 unfolding Within LimbFits
 within-fits k n h w = omega arith
 
@@ -125,8 +126,8 @@ sums-widen k m lo hi v h s =
     }
 
 -- the limbs of 4096 products fit
-pub sums-low-fits : (k lo hi v : ℕ) → k ≤ 4096 → Sums k lo hi v → LimbFits lo
+pub sums-low-fits : (k lo hi v : ℕ) → k ≤ tableLength → Sums k lo hi v → LimbFits lo
 sums-low-fits k lo hi v h s = within-fits k lo h (s .low-within)
 
-pub sums-high-fits : (k lo hi v : ℕ) → k ≤ 4096 → Sums k lo hi v → LimbFits hi
+pub sums-high-fits : (k lo hi v : ℕ) → k ≤ tableLength → Sums k lo hi v → LimbFits hi
 sums-high-fits k lo hi v h s = within-fits k hi h (s .high-within)

@@ -6,10 +6,6 @@ use Prim.Native.Nat.{ℕ, _+_, _*_, _/_, _%_, _^_, _≤_}
 abbrev pub limbBase : ℕ
 limbBase = 4294967296
 
--- the largest modulus, 2^31 - 1
-abbrev pub largestModulus : ℕ
-largestModulus = 2147483647
-
 -- the limbs of a number
 unfoldable pub low : ℕ → ℕ
 low x = x % limbBase

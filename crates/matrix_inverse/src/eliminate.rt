@@ -10,6 +10,7 @@ use matrix_mul::Place;
 use matrix_mul::Sizes;
 use matrix_mul::add_product;
 use matrix_mul::add_product_within;
+use words::ROW;
 use words::row_room;
 
 // The least position of a number that is not 0, or the length where there is none.
@@ -37,7 +38,7 @@ fn one_row(
     at: usize,
     stride: usize,
     rows: &mut [u32],
-) -> [u32; 64]
+) -> [u32; ROW]
     requires { ⌜ Eliminable p 1 n (now a) (now d) at stride noMarks (now rows) ⌝ }
     ensures { λ r. ⌜ Eliminated p 1 n (now (a .entry)) (now (d .entry)) at stride noMarks (now (rows .entry)) (now (d .exit)) r (now (rows .exit)) ⌝ }
 {
@@ -163,7 +164,8 @@ fn join_halves(
     block: Place,
 )
     requires { ⌜ Joinable p split (now a) (now t) (now c) (now upper) (now marks) (now d) block ⌝ }
-    ensures { λ _. ⌜ Joined p split (now (a .entry)) (now (t .entry)) (now (d .entry)) (now (d .exit)) block × BothMarked (split .width) (now (upper .entry)) (now (marks .entry)) (now (marks .exit)) ⌝ }
+    ensures { λ _. ⌜ Joined p split (now (a .entry)) (now (t .entry)) (now (d .entry)) (now (d .exit)) block
+        × BothMarked (split .width) (now (upper .entry)) (now (marks .entry)) (now (marks .exit)) ⌝ }
 {
     let m1 = split.upper;
     let m2 = split.lower;
@@ -216,7 +218,7 @@ fn half(
     at: usize,
     stride: usize,
     rows: &mut [u32],
-) -> [u32; 64]
+) -> [u32; ROW]
     requires { ⌜ Eliminable p m n (now a) (now d) at stride noMarks (now rows) × (0 < m) ⌝ }
     ensures { λ r. ⌜ Eliminated p m n (now (a .entry)) (now (d .entry)) at stride noMarks (now (rows .entry)) (now (d .exit)) r (now (rows .exit)) ⌝ }
 {
@@ -237,7 +239,7 @@ fn halves(
     at: usize,
     stride: usize,
     rows: &mut [u32],
-) -> [u32; 64]
+) -> [u32; ROW]
     requires { ⌜ Eliminable p m n (now a) (now d) at stride noMarks (now rows) × (1 < m) ⌝ }
     ensures { λ r. ⌜ Eliminated p m n (now (a .entry)) (now (d .entry)) at stride noMarks (now (rows .entry)) (now (d .exit)) r (now (rows .exit)) ⌝ }
 {
@@ -275,7 +277,8 @@ pub fn eliminate(
     rows: &mut [u32],
 )
     requires { ⌜ Eliminable p m n (now a) (now d) at stride (now columns) (now rows) ⌝ }
-    ensures { λ _. ⌜ Eliminated p m n (now (a .entry)) (now (d .entry)) at stride (now (columns .entry)) (now (rows .entry)) (now (d .exit)) (now (columns .exit)) (now (rows .exit)) ⌝ }
+    ensures { λ _. ⌜ Eliminated p m n (now (a .entry)) (now (d .entry)) at stride (now (columns .entry)) (now (rows .entry))
+        (now (d .exit)) (now (columns .exit)) (now (rows .exit)) ⌝ }
 {
     if m == 0 {
         return;

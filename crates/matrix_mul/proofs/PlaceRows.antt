@@ -13,15 +13,14 @@ use Rattle.algebra.proofs.Matrices.{entry}
 use Rattle.algebra.proofs.Step.{product-row}
 use Rattle.field.specs.Residue.{Residue, reduce, residues, _⊕_, _⊗_}
 use Rattle.field.specs.View.{line, table}
-use Rattle.words.specs.Words.{Below}
+use Rattle.words.specs.Words.{Below, Copied}
 use Rattle.matrix_mul.specs.Rows.{Passes, Combinable}
 use Rattle.field.proofs.Residues.{reduce-zero, below-of-value, reduce-of-value}
 use Rattle.field.proofs.Field.{residues-ring}
 use Rattle.field.proofs.Views.{table-entry, table-sized}
 use Rattle.matrix_mul.specs.declared.Place.{Place}
 use Rattle.matrix_mul.specs.declared.Sizes.{Sizes}
-use Rattle.matrix_mul.specs.Places.{place, rowAt, sizes, withRows, matrixAt, Block, Kept, Factors, Multiplied, Used}
-use Rattle.words.specs.Words.{Copied}
+use Rattle.matrix_mul.specs.Places.{place, rowAt, sizes, withRows, matrixAt, Block, Kept, Factors, Multiplied, ZerosAt, Used}
 use Rattle.matrix_mul.proofs.Places.{tables-equal, table-same, copied-table, same-place, kept-at, kept-none, add-sized, product-sized, row-product}
 use Rattle.words.proofs.Parts.{replaced, replaced-length, replaced-inside, replaced-elsewhere, replaced-below, part-length, part-at}
 
@@ -224,7 +223,7 @@ is-part {xs} {a} {n} fits =
 
 -- where the multipliers are 0 nothing need be done
 pub row-skipped : {p k n : ℕ} {x : List ℕ} {at : ℕ} {y : List ℕ} {Y : Place} {z : List ℕ} {to : ℕ}
-    → Factors p (sizes 1 k n) x (place at k) y Y z (place to n) → ((t : ℕ) → t < k → getD x (at + t) 0 ≡ 0)
+    → Factors p (sizes 1 k n) x (place at k) y Y z (place to n) → ZerosAt x at k
     → Multiplied p (sizes 1 k n) x (place at k) y Y z z (place to n)
 unfolding Entries times
 row-skipped {p} {k} {n} {x} {at} {y} {Y} {z} {to} F zeros =

@@ -5,7 +5,8 @@ use native.Mathlib.Nat.{mod-add-div, mul-le-mul}
 use native.Mathlib.Omega.{arith}
 use mir.Val.{Fits}
 use mir.Syntax.{w64}
-use Rattle.field.specs.Limbs.{limbBase, largestModulus, low, high, whole}
+use Rattle.field.specs.Limbs.{limbBase, low, high, whole}
+use Rattle.field.specs.Residue.{largestModulus}
 use Rattle.matrix_mul.specs.Rows.{Short, Powers}
 use Rattle.field.proofs.Residues.{modular, mod-times, times-mod}
 

@@ -12,7 +12,8 @@ use mir.Syntax.{w64}
 use Rattle.words.specs.Words.{Below}
 use Rattle.words.specs.Lengths.{rowLength}
 use Rattle.field.specs.Totals.{total, products}
-use Rattle.field.specs.Limbs.{largestModulus, LimbFits}
+use Rattle.field.specs.Limbs.{LimbFits}
+use Rattle.field.specs.Residue.{largestModulus}
 use Rattle.matrix_mul.specs.declared.Place.{Place}
 use Rattle.matrix_mul.specs.declared.rows.Row.{Row}
 use Rattle.matrix_mul.specs.Rows.{Short, Shorts, Quarter, Inside, FourInside, Leads, Each, PassesOver, Passes, Walkable, RowTaken}

@@ -4,9 +4,8 @@ use mathlib.Core.List.{List}
 use Prim.Native.Nat.{ℕ, _+_, _*_, _≤_, _<_}
 use lib.ListN.{length, getD}
 use Rattle.algebra.specs.Matrix.{Matrix, add, product}
-use Rattle.field.specs.Residue.{residues}
+use Rattle.field.specs.Residue.{reduce, residues, negated, largestModulus}
 use Rattle.field.specs.View.{table}
-use Rattle.field.specs.Limbs.{largestModulus}
 use Rattle.words.specs.Lengths.{rowLength}
 use Rattle.words.specs.Words.{Below}
 use Rattle.matrix_mul.specs.Rows.{Leads, PassesOver}
@@ -77,10 +76,20 @@ pub record Multiplied (p : ℕ) (s : Sizes) (x : List ℕ) (X : Place) (y : List
       ≡ add (residues p) (matrixAt p z Z (s .rows) (s .columns))
       (product (residues p) (s .inner) (matrixAt p x X (s .rows) (s .inner)) (matrixAt p y Y (s .inner) (s .columns)))
 
+-- each number of xs has become its negative
+pub record Negated (p : ℕ) (xs ys : List ℕ) : Type 0 where
+  pub same-length : length ys ≡ length xs
+  pub below : Below p ys
+  pub each : (j : ℕ) → j < length xs → reduce p (getD ys j 0) ≡ negated (reduce p (getD xs j 0))
+
+-- the k numbers of xs from the place on are 0
+abbrev pub ZerosAt : List ℕ → (at k : ℕ) → Type 0
+ZerosAt xs at k = (t : ℕ) → t < k → getD xs (at + t) 0 ≡ 0
+
 -- marks of k rows of n numbers: where one is 0 the row is zeros
 pub record Used (k n : ℕ) (y : List ℕ) (Y : Place) (marks : List ℕ) : Type 0 where
   pub long : k ≤ length marks
-  pub zeros : (t : ℕ) → t < k → getD marks t 0 ≡ 0 → (j : ℕ) → j < n → getD y (Y .start + t * Y .stride + j) 0 ≡ 0
+  pub zeros : (t : ℕ) → t < k → getD marks t 0 ≡ 0 → ZerosAt y (Y .start + t * Y .stride) n
 
 -- what a product asks where X lies in the memory of Z, from `start` on: in other columns, and with marks of its rows
 pub record Within (p : ℕ) (s : Sizes) (marks : List ℕ) (start : ℕ) (y : List ℕ) (Y : Place) (z : List ℕ) (Z : Place) : Type 0 where

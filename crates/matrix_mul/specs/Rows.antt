@@ -5,10 +5,10 @@ use mathlib.Core.List.{List}
 use Prim.Native.Nat.{ℕ, _+_, _*_, _%_, _^_, _<_, _≤_}
 use lib.ListN.{length, getD}
 use Rattle.algebra.specs.Matrix.{sum}
-use Rattle.field.specs.Residue.{reduce, residues, _⊕_, _⊗_}
+use Rattle.field.specs.Residue.{reduce, residues, _⊕_, _⊗_, largestModulus}
 use Rattle.field.specs.View.{line}
 use Rattle.field.specs.Totals.{total, products}
-use Rattle.field.specs.Limbs.{limbBase, largestModulus, low, high, whole, LimbFits}
+use Rattle.field.specs.Limbs.{limbBase, low, high, whole, LimbFits}
 use Rattle.words.specs.Lengths.{rowLength}
 use Rattle.words.specs.Words.{Below}
 use Rattle.matrix_mul.specs.declared.Place.{Place}

@@ -1,14 +1,13 @@
 // Sums of rows and products of blocks of residues: a product goes row by row through a combination of rows. Leaves for the crates
 // above, which meet what each requires.
 ghost use mathlib.Core.Path.{_≡_};
-ghost use Prim.Native.Nat.{ℕ, _+_, _≤_, _<_};
-ghost use lib.ListN.{length, getD};
-ghost use Rattle.algebra.specs.Answers.{Tells};
-ghost use Rattle.field.specs.Residue.{reduce, negated};
-ghost use Rattle.words.specs.Words.{Below, Blank, Zeros};
+ghost use Prim.Native.Nat.{_≤_, _<_};
+ghost use lib.ListN.{length};
+ghost use Rattle.field.specs.Residue.{largestModulus};
+ghost use Rattle.words.specs.Lengths.{rowLength};
+ghost use Rattle.words.specs.Words.{Below};
 ghost use Rattle.matrix_mul.specs.Rows.{Passes};
-ghost use Rattle.matrix_mul.specs.Places.{place, sizes, Factors, Multiplied, Within, Listed};
-ghost use Rattle.words.specs.Words.{Copied};
+ghost use Rattle.matrix_mul.specs.Places.{place, sizes, Negated, Factors, Multiplied, ZerosAt, Within, Listed};
 
 pub mod rows;
 
@@ -27,8 +26,8 @@ pub struct Sizes {
 
 // Makes each number its negative modulo p.
 pub fn negate(p: u32, xs: &mut [u32])
-    requires { ⌜ (0 < p) × (p ≤ 2147483647) × Below p (now xs) ⌝ }
-    ensures { λ _. ⌜ (length (now (xs .exit)) ≡ length (now (xs .entry))) × Below p (now (xs .exit)) × ((j : ℕ) → j < length (now (xs .entry)) → reduce p (getD (now (xs .exit)) j 0) ≡ negated (reduce p (getD (now (xs .entry)) j 0))) ⌝ }
+    requires { ⌜ (0 < p) × (p ≤ largestModulus) × Below p (now xs) ⌝ }
+    ensures { λ _. ⌜ Negated p (now (xs .entry)) (now (xs .exit)) ⌝ }
 {
     let mut j = 0;
     while j < xs.len() {
@@ -39,7 +38,7 @@ pub fn negate(p: u32, xs: &mut [u32])
 
 // Leads from each row to the next one that is marked, or to the end.
 pub fn list_marked(marks: &[u32], next: &mut [u32])
-    requires { ⌜ (length (now marks) ≤ 64) × (length (now marks) ≤ length (now next)) ⌝ }
+    requires { ⌜ (length (now marks) ≤ rowLength) × (length (now marks) ≤ length (now next)) ⌝ }
     ensures { λ _. ⌜ (length (now (next .exit)) ≡ length (now (next .entry))) × Listed (now (marks .entry)) (now (next .exit)) ⌝ }
 {
     let mut later = marks.len();
@@ -129,7 +128,8 @@ fn add_row_within(
     z: &mut [u32],
     z_at: usize,
 )
-    requires { ⌜ Factors p (sizes 1 k n) (now z) (place «x_at» k) (now y) right (now z) (place «z_at» n) × Passes k (now next) right n (now y) × (mark ≡ 0 → (t : ℕ) → t < k → getD (now z) («x_at» + t) 0 ≡ 0) ⌝ }
+    requires { ⌜ Factors p (sizes 1 k n) (now z) (place «x_at» k) (now y) right (now z) (place «z_at» n)
+        × Passes k (now next) right n (now y) × (mark ≡ 0 → ZerosAt (now z) «x_at» k) ⌝ }
     ensures { λ _. ⌜ Multiplied p (sizes 1 k n) (now (z .entry)) (place «x_at» k) (now (y .entry)) right (now (z .entry)) (now (z .exit)) (place «z_at» n) ⌝ }
 {
     if mark == 0 {

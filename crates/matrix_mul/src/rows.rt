@@ -3,8 +3,8 @@
 ghost use mathlib.Core.Path.{_≡_};
 ghost use Prim.Native.Nat.{ℕ, _+_, _<_, _≤_};
 ghost use lib.ListN.{length};
-ghost use Rattle.field.specs.Residue.{reduce};
-ghost use Rattle.field.specs.Limbs.{largestModulus, whole, LimbFits};
+ghost use Rattle.field.specs.Residue.{reduce, largestModulus};
+ghost use Rattle.field.specs.Limbs.{whole, LimbFits};
 ghost use Rattle.words.specs.Lengths.{rowLength};
 ghost use Rattle.words.specs.Words.{Zeros};
 ghost use Rattle.matrix_mul.specs.Places.{place};
@@ -33,9 +33,9 @@ pub fn each_row() -> [u32; ROW]
     ensures { λ r. ⌜ Each r ⌝ }
 {
     let mut next = words::row_room();
-    let mut t: u32 = 0;
-    while t < 64 {
-        next[t as usize] = t + 1;
+    let mut t = 0;
+    while t < ROW {
+        next[t] = (t + 1) as u32;
         t += 1;
     }
     next

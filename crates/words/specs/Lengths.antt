@@ -5,6 +5,10 @@ use Prim.Native.Nat.{ℕ}
 abbrev pub rowLength : ℕ
 rowLength = 64
 
+-- half of that
+abbrev pub halfRow : ℕ
+halfRow = 32
+
 -- the largest table; half of its rows; half of the columns of these
 abbrev pub tableLength : ℕ
 tableLength = 4096

@@ -5,7 +5,7 @@ ghost use Prim.Native.Nat.{ℕ, _+_, _≤_, _<_};
 ghost use lib.ListN.{length, getD};
 ghost use Rattle.algebra.specs.Answers.{Tells};
 ghost use Rattle.words.specs.Lengths.{rowLength, tableLength, halfLength, quarterLength};
-ghost use Rattle.words.specs.Words.{Below, Blank, Zeros, AllMarked, Copied, FirstDifference};
+ghost use Rattle.words.specs.Words.{Below, Blank, Zeros, AllMarked, Copied, PutAt, FirstDifference};
 
 // The numbers of the longest row or column, and of the largest table; of half its rows, and of half the columns of these.
 pub const ROW: usize = 64;
@@ -70,7 +70,7 @@ pub fn copy(xs: &[u32], start: usize, n: usize, zs: &mut [u32])
 // Writes the numbers of `xs` to `out` from the place on; the others stay.
 pub fn put(xs: &[u32], out: &mut [u32], at: usize)
     requires { ⌜ at + length (now xs) ≤ length (now out) ⌝ }
-    ensures { λ _. ⌜ (length (now (out .exit)) ≡ length (now (out .entry))) × ((j : ℕ) → j < length (now (xs .entry)) → getD (now (out .exit)) (at + j) 0 ≡ getD (now (xs .entry)) j 0) × ((q : ℕ) → q < at → getD (now (out .exit)) q 0 ≡ getD (now (out .entry)) q 0) × ((q : ℕ) → at + length (now (xs .entry)) ≤ q → getD (now (out .exit)) q 0 ≡ getD (now (out .entry)) q 0) ⌝ }
+    ensures { λ _. ⌜ PutAt (now (xs .entry)) at (now (out .entry)) (now (out .exit)) ⌝ }
 {
     let mut j = 0;
     while j < xs.len() {

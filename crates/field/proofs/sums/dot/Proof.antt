@@ -32,7 +32,10 @@ cast-x : tie.Need-cast-x Inv-loop μ-loop
 cast-x c = omega (arith, c .shared-slice-known3 .given (c .before .before .loop .t))
 
 -- the place of the column that is read in a turn is in the table
-reaches : (c : tie.In-loop Inv-loop μ-loop) → c .before .before .before .before .args .start + c .before .loop .t * c .before .before .before .before .args .step < length (c .before .before .before .before .args .table .now)
+reaches :
+    (c : tie.In-loop Inv-loop μ-loop) →
+    let a = c .before .before .before .before .args in
+    a .start + c .before .loop .t * a .step < length (a .table .now)
 reaches c = c .before .before .before .before .pre .2 (c .before .loop .t) (c .loop-test .taken)
 
 mul-x-2 : tie.Need-mul-x-2 Inv-loop μ-loop
