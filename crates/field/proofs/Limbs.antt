@@ -7,7 +7,7 @@ use native.Mathlib.Omega.{arith}
 use lib.ListN.{getD, replicate}
 use mir.Val.{Fits}
 use mir.Syntax.{w32, w64}
-use Rattle.words.specs.Lengths.{tableLength}
+use Rattle.words.specs.Lengths.{largestTable}
 use Rattle.field.specs.Limbs.{limbBase, low, high, whole, LimbFits}
 use Rattle.field.proofs.Residues.{mod-times}
 
@@ -66,7 +66,7 @@ pub within-high : (k n x : ℕ) → Within k n → Fits w64 x → Within (k + 1)
 unfolding Within high
 within-high k n x h f = omega arith
 
-pub within-fits : (k n : ℕ) → k ≤ tableLength → Within k n → LimbFits n
+pub within-fits : (k n : ℕ) → k ≤ largestTable → Within k n → LimbFits n
 unfolding Within LimbFits
 within-fits k n h w = omega arith
 
@@ -126,8 +126,8 @@ sums-widen k m lo hi v h s =
     }
 
 -- the limbs of 4096 products fit
-pub sums-low-fits : (k lo hi v : ℕ) → k ≤ tableLength → Sums k lo hi v → LimbFits lo
+pub sums-low-fits : (k lo hi v : ℕ) → k ≤ largestTable → Sums k lo hi v → LimbFits lo
 sums-low-fits k lo hi v h s = within-fits k lo h (s .low-within)
 
-pub sums-high-fits : (k lo hi v : ℕ) → k ≤ tableLength → Sums k lo hi v → LimbFits hi
+pub sums-high-fits : (k lo hi v : ℕ) → k ≤ largestTable → Sums k lo hi v → LimbFits hi
 sums-high-fits k lo hi v h s = within-fits k hi h (s .high-within)

@@ -6,7 +6,7 @@ ghost use lib.ListN.{length};
 ghost use Rattle.algebra.specs.Matrix.{sum};
 ghost use Rattle.field.specs.Residue.{reduce, residues, _⊗_};
 ghost use Rattle.field.specs.View.{line, Reaches};
-ghost use Rattle.words.specs.Lengths.{tableLength};
+ghost use Rattle.words.specs.Lengths.{largestTable};
 ghost use Rattle.field.specs.Limbs.{whole, LimbFits};
 
 // 2^32, the base of the limbs.
@@ -24,7 +24,7 @@ fn reduced(p: u32, lo: u64, hi: u64) -> u32
 
 // The sum of the products of `row` and the column of `table` that begins at `start` and goes on by `step`, read in place.
 pub fn dot(p: u32, row: &[u32], table: &[u32], start: usize, step: usize) -> u32
-    requires { ⌜ (0 < p) × (length (now row) ≤ tableLength) × Reaches (length (now row)) start step (length (now table)) ⌝ }
+    requires { ⌜ (0 < p) × (length (now row) ≤ largestTable) × Reaches (length (now row)) start step (length (now table)) ⌝ }
     ensures { λ r. ⌜ r ≡ (sum (residues p) (length (now (row .entry))) (λ t. line p (now (row .entry)) 0 1 t ⊗ line p (now (table .entry)) start step t)) .value ⌝ }
 {
     let mut lo: u64 = 0;

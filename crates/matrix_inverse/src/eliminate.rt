@@ -7,7 +7,7 @@ ghost use Rattle.matrix_mul.specs.Places.{place, Factors};
 ghost use Rattle.matrix_inverse.specs.Eliminated.{noMarks, Eliminable, Eliminated, BothMarked};
 ghost use Rattle.matrix_inverse.specs.Steps.{IsNegativeProduct, Reducible, Reduced, Joinable, Joined};
 use matrix_mul::Place;
-use matrix_mul::Sizes;
+use matrix_mul::Shape;
 use matrix_mul::add_product;
 use matrix_mul::add_product_within;
 use words::ROW;
@@ -77,7 +77,7 @@ struct Split {
 // -(X Y) for Z, where the rows of X and those of Z lie one behind the other. The list leads over rows of Y that are zeros.
 fn negative_product(
     p: u32,
-    size: Sizes,
+    size: Shape,
     x: &[u32],
     next: &[u32],
     y: &[u32],
@@ -125,7 +125,7 @@ fn reduce_rows(
     let n = split.width;
     let mut next = row_room();
     matrix_mul::list_marked(&marks[..n], &mut next);
-    let first = Sizes {
+    let first = Shape {
         rows: m2,
         inner: n,
         columns: m1,
@@ -134,7 +134,7 @@ fn reduce_rows(
     let end = m2 * n;
     words::copy(lower, 0, end, c);
     let each = matrix_mul::rows::each_row();
-    let second = Sizes {
+    let second = Shape {
         rows: m2,
         inner: m1,
         columns: n,
@@ -179,13 +179,13 @@ fn join_halves(
     };
     let mut next = row_room();
     matrix_mul::list_marked(&marks[..n], &mut next);
-    let first = Sizes {
+    let first = Shape {
         rows: m1,
         inner: n,
         columns: m2,
     };
     negative_product(p, first, a, &next, d, right, c);
-    let second = Sizes {
+    let second = Shape {
         rows: n,
         inner: m1,
         columns: m2,
@@ -196,7 +196,7 @@ fn join_halves(
     };
     add_product_within(p, second, upper, at, c, in_c, d, right);
     add_marks(n, upper, marks);
-    let third = Sizes {
+    let third = Shape {
         rows: n,
         inner: m2,
         columns: m1,

@@ -9,7 +9,7 @@ use lib.ListN.{length, getD}
 use mir.Val.{Fits}
 use mir.Syntax.{w64}
 use Rattle.field.specs.Residue.{reduce, _⊕_}
-use Rattle.words.specs.Lengths.{rowLength}
+use Rattle.words.specs.Lengths.{longestRow}
 use Rattle.words.specs.Words.{Zeros}
 use Rattle.field.specs.Totals.{products}
 use Rattle.matrix_mul.specs.declared.Place.{Place}
@@ -31,14 +31,14 @@ summed-same {p} {before = before} e s =
     }
 
 -- lo and hi hold at the first `width` places the limbs of what the first t rows add there
-pub record Held (by table : List ℕ) (Y : Place) (width t : ℕ) (lo hi : List ℕ) : Type 0 where
-  pub long-lo : length lo ≡ rowLength
-  pub long-hi : length hi ≡ rowLength
+pub record RowsHeld (by table : List ℕ) (Y : Place) (width t : ℕ) (lo hi : List ℕ) : Type 0 where
+  pub long-lo : length lo ≡ longestRow
+  pub long-hi : length hi ≡ longestRow
   pub held-at : (j : ℕ) → j < width → Sums t (getD lo j 0) (getD hi j 0) (partAt by table Y t j)
 
 module _ {by table : List ℕ} {Y : Place} {width : ℕ} where
   -- before the first row the sums are zeros
-  pub held-none : {lo hi : List ℕ} → Zeros rowLength lo → Zeros rowLength hi → Held by table Y width 0 lo hi
+  pub held-none : {lo hi : List ℕ} → Zeros longestRow lo → Zeros longestRow hi → RowsHeld by table Y width 0 lo hi
   held-none z y =
       record {
         long-lo = z .0;
@@ -47,7 +47,7 @@ module _ {by table : List ℕ} {Y : Place} {width : ℕ} where
       }
 
   -- the sums have room for four rows more
-  pub held-ready : {t : ℕ} {lo hi : List ℕ} → t ≤ rowLength → width ≤ rowLength → Held by table Y width t lo hi → Ready width lo hi
+  pub held-ready : {t : ℕ} {lo hi : List ℕ} → t ≤ longestRow → width ≤ longestRow → RowsHeld by table Y width t lo hi → Ready width lo hi
   held-ready {t} {lo} {hi} b n h =
       record {
         small = n;
@@ -87,8 +87,8 @@ module _ {by table : List ℕ} {Y : Place} {width : ℕ} where
           (four-fit _ _ _ _ (quarter-product _ _ (taken .first .short) (short _)) (quarter-product _ _ (taken .second .short) (short _))
           (quarter-product _ _ (taken .third .short) (short _)) (quarter-product _ _ (taken .fourth .short) (short _)))
 
-      pub held-four : {lo hi los his : List ℕ} → t < length by → Held by table Y width t lo hi
-          → Added width (fourAt table a b c d) lo hi los his → Held by table Y width (d .next) los his
+      pub held-four : {lo hi los his : List ℕ} → t < length by → RowsHeld by table Y width t lo hi
+          → Added width (fourAt table a b c d) lo hi los his → RowsHeld by table Y width (d .next) los his
       held-four {lo} {hi} l h s =
           record {
             long-lo = s .long-lo ∙ h .long-lo;
@@ -107,7 +107,7 @@ module _ {by table : List ℕ} {Y : Place} {width : ℕ} where
           omega (arith, sum-four j k) ∙ ap (λ n. partAt by table Y n j) last
 
   -- what the sums stand for in the end
-  pub held-whole : {lo hi : List ℕ} → Held by table Y width (length by) lo hi → (j : ℕ) → j < width
+  pub held-whole : {lo hi : List ℕ} → RowsHeld by table Y width (length by) lo hi → (j : ℕ) → j < width
       → wholeAt lo hi j ≡ sumAt by table Y j
   unfolding wholeAt
   held-whole h j k = h .held-at j k .same

@@ -10,7 +10,7 @@ use lib.ListN.{length, getD, List·getD-eq-default}
 use mir.Val.{Fits}
 use mir.Syntax.{w64}
 use Rattle.words.specs.Words.{Below}
-use Rattle.words.specs.Lengths.{rowLength}
+use Rattle.words.specs.Lengths.{longestRow}
 use Rattle.field.specs.Totals.{total, products}
 use Rattle.field.specs.Limbs.{LimbFits}
 use Rattle.field.specs.Residue.{largestModulus}
@@ -170,7 +170,7 @@ module _ (by next : List ℕ) (Y : Place) (from t : ℕ) where
       }
 
 -- the list that passes over no row
-pub each-passes : {k : ℕ} {next : List ℕ} {Y : Place} {width : ℕ} {table : List ℕ} → k ≤ rowLength → Each next
+pub each-passes : {k : ℕ} {next : List ℕ} {Y : Place} {width : ℕ} {table : List ℕ} → k ≤ longestRow → Each next
     → Passes k next Y width table
 each-passes small each =
     record {

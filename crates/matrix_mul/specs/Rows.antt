@@ -9,7 +9,7 @@ use Rattle.field.specs.Residue.{reduce, residues, _⊕_, _⊗_, largestModulus}
 use Rattle.field.specs.View.{line}
 use Rattle.field.specs.Totals.{total, products}
 use Rattle.field.specs.Limbs.{limbBase, low, high, whole, LimbFits}
-use Rattle.words.specs.Lengths.{rowLength}
+use Rattle.words.specs.Lengths.{longestRow}
 use Rattle.words.specs.Words.{Below}
 use Rattle.matrix_mul.specs.declared.Place.{Place}
 use Rattle.matrix_mul.specs.declared.rows.Row.{Row}
@@ -64,8 +64,8 @@ pub record Leads (k : ℕ) (next : List ℕ) : Type 0 where
 
 -- the list that leads from each row to the next
 pub record Each (next : List ℕ) : Type 0 where
-  pub long : length next ≡ rowLength
-  pub one-on : (t : ℕ) → t < rowLength → getD next t 0 ≡ t + 1
+  pub long : length next ≡ longestRow
+  pub one-on : (t : ℕ) → t < longestRow → getD next t 0 ≡ t + 1
 
 -- f is 0 at the rows that the list passes over
 abbrev pub PassesOver : (k : ℕ) → List ℕ → (ℕ → ℕ) → Type 0
@@ -104,9 +104,9 @@ pub record RowTaken (by next : List ℕ) (Y : Place) (from : ℕ) (r : Row) : Ty
 
 -- lo and hi are sums of limbs for the longest row, to which a limb can be added at the first n places
 pub record Ready (n : ℕ) (lo hi : List ℕ) : Type 0 where
-  pub small : n ≤ rowLength
-  pub long-lo : length lo ≡ rowLength
-  pub long-hi : length hi ≡ rowLength
+  pub small : n ≤ longestRow
+  pub long-lo : length lo ≡ longestRow
+  pub long-hi : length hi ≡ longestRow
   pub fits-lo : (j : ℕ) → j < n → LimbFits (getD lo j 0)
   pub fits-hi : (j : ℕ) → j < n → LimbFits (getD hi j 0)
 
@@ -134,8 +134,8 @@ pub record Summed (p : ℕ) (v : ℕ → ℕ) (before after : List ℕ) : Type 0
 pub record Combinable (p : ℕ) (by table : List ℕ) (Y : Place) (out : List ℕ) : Type 0 where
   pub positive : 0 < p
   pub in-range : p ≤ largestModulus
-  pub few : length by ≤ rowLength
-  pub narrow : length out ≤ rowLength
+  pub few : length by ≤ longestRow
+  pub narrow : length out ≤ longestRow
   pub by-below : Below p by
   pub table-below : Below p table
   pub inside : RowsInside (length by) Y (length out) (length table)

@@ -4,10 +4,10 @@ ghost use mathlib.Core.Path.{_≡_};
 ghost use Prim.Native.Nat.{_≤_, _<_};
 ghost use lib.ListN.{length};
 ghost use Rattle.field.specs.Residue.{largestModulus};
-ghost use Rattle.words.specs.Lengths.{rowLength};
+ghost use Rattle.words.specs.Lengths.{longestRow};
 ghost use Rattle.words.specs.Words.{Below};
 ghost use Rattle.matrix_mul.specs.Rows.{Passes};
-ghost use Rattle.matrix_mul.specs.Places.{place, sizes, Negated, Factors, Multiplied, ZerosAt, Within, Listed};
+ghost use Rattle.matrix_mul.specs.Places.{place, shape, Negated, Factors, Multiplied, ZerosAt, FactorsWithin, Listed};
 
 pub mod rows;
 
@@ -18,7 +18,7 @@ pub struct Place {
 }
 
 // The sizes of a product X Y: X has `rows` rows and `inner` columns, Y has `inner` rows and `columns` columns.
-pub struct Sizes {
+pub struct Shape {
     pub rows: usize,
     pub inner: usize,
     pub columns: usize,
@@ -38,7 +38,7 @@ pub fn negate(p: u32, xs: &mut [u32])
 
 // Leads from each row to the next one that is marked, or to the end.
 pub fn list_marked(marks: &[u32], next: &mut [u32])
-    requires { ⌜ (length (now marks) ≤ rowLength) × (length (now marks) ≤ length (now next)) ⌝ }
+    requires { ⌜ (length (now marks) ≤ longestRow) × (length (now marks) ≤ length (now next)) ⌝ }
     ensures { λ _. ⌜ (length (now (next .exit)) ≡ length (now (next .entry))) × Listed (now (marks .entry)) (now (next .exit)) ⌝ }
 {
     let mut later = marks.len();
@@ -66,8 +66,8 @@ fn add_row(
     z: &mut [u32],
     z_at: usize,
 )
-    requires { ⌜ Factors p (sizes 1 k n) (now x) (place «x_at» k) (now y) right (now z) (place «z_at» n) × Passes k (now next) right n (now y) ⌝ }
-    ensures { λ _. ⌜ Multiplied p (sizes 1 k n) (now (x .entry)) (place «x_at» k) (now (y .entry)) right (now (z .entry)) (now (z .exit)) (place «z_at» n) ⌝ }
+    requires { ⌜ Factors p (shape 1 k n) (now x) (place «x_at» k) (now y) right (now z) (place «z_at» n) × Passes k (now next) right n (now y) ⌝ }
+    ensures { λ _. ⌜ Multiplied p (shape 1 k n) (now (x .entry)) (place «x_at» k) (now (y .entry)) right (now (z .entry)) (now (z .exit)) (place «z_at» n) ⌝ }
 {
     let x_end = x_at + k;
     let by = &x[x_at..x_end];
@@ -82,7 +82,7 @@ fn add_row(
 // of Y that are zeros.
 pub fn add_product(
     p: u32,
-    size: Sizes,
+    size: Shape,
     x: &[u32],
     left: Place,
     next: &[u32],
@@ -128,9 +128,9 @@ fn add_row_within(
     z: &mut [u32],
     z_at: usize,
 )
-    requires { ⌜ Factors p (sizes 1 k n) (now z) (place «x_at» k) (now y) right (now z) (place «z_at» n)
+    requires { ⌜ Factors p (shape 1 k n) (now z) (place «x_at» k) (now y) right (now z) (place «z_at» n)
         × Passes k (now next) right n (now y) × (mark ≡ 0 → ZerosAt (now z) «x_at» k) ⌝ }
-    ensures { λ _. ⌜ Multiplied p (sizes 1 k n) (now (z .entry)) (place «x_at» k) (now (y .entry)) right (now (z .entry)) (now (z .exit)) (place «z_at» n) ⌝ }
+    ensures { λ _. ⌜ Multiplied p (shape 1 k n) (now (z .entry)) (place «x_at» k) (now (y .entry)) right (now (z .entry)) (now (z .exit)) (place «z_at» n) ⌝ }
 {
     if mark == 0 {
         return;
@@ -144,7 +144,7 @@ fn add_row_within(
 // rows of X whose marks are 0 are zeros.
 pub fn add_product_within(
     p: u32,
-    size: Sizes,
+    size: Shape,
     marks: &[u32],
     x_start: usize,
     y: &[u32],
@@ -152,7 +152,7 @@ pub fn add_product_within(
     z: &mut [u32],
     target: Place,
 )
-    requires { ⌜ Within p size (now marks) «x_start» (now y) right (now z) target ⌝ }
+    requires { ⌜ FactorsWithin p size (now marks) «x_start» (now y) right (now z) target ⌝ }
     ensures { λ _. ⌜ Multiplied p size (now (z .entry)) (place «x_start» (target .stride)) (now (y .entry)) right (now (z .entry)) (now (z .exit)) target ⌝ }
 {
     let next = rows::each_row();

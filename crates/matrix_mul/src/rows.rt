@@ -5,7 +5,7 @@ ghost use Prim.Native.Nat.{ℕ, _+_, _<_, _≤_};
 ghost use lib.ListN.{length};
 ghost use Rattle.field.specs.Residue.{reduce, largestModulus};
 ghost use Rattle.field.specs.Limbs.{whole, LimbFits};
-ghost use Rattle.words.specs.Lengths.{rowLength};
+ghost use Rattle.words.specs.Lengths.{longestRow};
 ghost use Rattle.words.specs.Words.{Zeros};
 ghost use Rattle.matrix_mul.specs.Places.{place};
 ghost use Rattle.matrix_mul.specs.Rows.{Shorts, Inside, FourInside, Quarter, productAt, fourAt, Powers, Ready, Added, wholeAt};
@@ -16,7 +16,7 @@ use words::ROW;
 
 // The sums of limbs of no rows.
 fn no_rows() -> [u64; ROW]
-    ensures { λ r. ⌜ Zeros rowLength r ⌝ }
+    ensures { λ r. ⌜ Zeros longestRow r ⌝ }
 {
     [0u64; ROW]
 }

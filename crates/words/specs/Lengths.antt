@@ -2,19 +2,19 @@
 use Prim.Native.Nat.{ℕ}
 
 -- the longest row or column
-abbrev pub rowLength : ℕ
-rowLength = 64
+abbrev pub longestRow : ℕ
+longestRow = 64
 
 -- half of that
-abbrev pub halfRow : ℕ
-halfRow = 32
+abbrev pub halfRows : ℕ
+halfRows = 32
 
 -- the largest table; half of its rows; half of the columns of these
-abbrev pub tableLength : ℕ
-tableLength = 4096
+abbrev pub largestTable : ℕ
+largestTable = 4096
 
-abbrev pub halfLength : ℕ
-halfLength = 2048
+abbrev pub halfTable : ℕ
+halfTable = 2048
 
-abbrev pub quarterLength : ℕ
-quarterLength = 1024
+abbrev pub quarterTable : ℕ
+quarterTable = 1024

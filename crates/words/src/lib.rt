@@ -4,7 +4,7 @@ ghost use mathlib.Core.Path.{_≡_};
 ghost use Prim.Native.Nat.{ℕ, _+_, _≤_, _<_};
 ghost use lib.ListN.{length, getD};
 ghost use Rattle.algebra.specs.Answers.{Tells};
-ghost use Rattle.words.specs.Lengths.{rowLength, tableLength, halfLength, quarterLength};
+ghost use Rattle.words.specs.Lengths.{longestRow, largestTable, halfTable, quarterTable};
 ghost use Rattle.words.specs.Words.{Below, Blank, Zeros, AllMarked, Copied, PutAt, FirstDifference};
 
 // The numbers of the longest row or column, and of the largest table; of half its rows, and of half the columns of these.
@@ -18,28 +18,28 @@ pub const QUARTER: usize = 1024;
 
 // Zeros: room for the longest row or column.
 pub fn row_room() -> [u32; ROW]
-    ensures { λ r. ⌜ Zeros rowLength r ⌝ }
+    ensures { λ r. ⌜ Zeros longestRow r ⌝ }
 {
     [0u32; ROW]
 }
 
 // Room for the largest table.
 pub fn table_room() -> [u32; TABLE]
-    ensures { λ r. ⌜ Zeros tableLength r ⌝ }
+    ensures { λ r. ⌜ Zeros largestTable r ⌝ }
 {
     [0u32; TABLE]
 }
 
 // Room for half the rows of the largest table.
 pub fn half_table() -> [u32; HALF]
-    ensures { λ r. ⌜ Zeros halfLength r ⌝ }
+    ensures { λ r. ⌜ Zeros halfTable r ⌝ }
 {
     [0u32; HALF]
 }
 
 // Room for a quarter of the largest table: half its rows, and half the columns of these.
 pub fn quarter_table() -> [u32; QUARTER]
-    ensures { λ r. ⌜ Zeros quarterLength r ⌝ }
+    ensures { λ r. ⌜ Zeros quarterTable r ⌝ }
 {
     [0u32; QUARTER]
 }

@@ -5,13 +5,13 @@ use native.Mathlib.Omega.{arith}
 use lib.ListN.{length}
 use Rattle.matrix_mul.specs.Rows.{Walkable}
 use Rattle.matrix_mul.proofs.RowsTaken.{walkable, table-short, FourTaken, four-inside}
-use Rattle.matrix_mul.proofs.RowSums.{Held, held-none, held-ready, held-four, held-whole, summed-same}
+use Rattle.matrix_mul.proofs.RowSums.{RowsHeld, held-none, held-ready, held-four, held-whole, summed-same}
 use Rattle.matrix_mul.proofs.rows.add_all.Statement.{statement}
 use Rattle.matrix_mul.proofs.rows.add_all.Tie as tie
 
 abbrev Inv-loop : tie.InvT-loop
 Inv-loop p by next table rows out width lo₀ hi₀ t₀ lo hi t =
-    (t ≤ length by) × Held by table rows (length out) t lo hi
+    (t ≤ length by) × RowsHeld by table rows (length out) t lo hi
 
 abbrev μ-loop : tie.MeasureT-loop
 μ-loop p by next table rows out width lo₀ hi₀ t₀ lo hi t = length by - t

@@ -4,16 +4,16 @@ use Prim.Native.Nat.{ℕ, _+_, _-_, _≤_, _<_}
 use native.Mathlib.Omega.{arith}
 use lib.ListN.{length, getD, length-set}
 use lib.Seq.{getD-set-same, getD-set-other}
-use Rattle.words.specs.Lengths.{rowLength}
+use Rattle.words.specs.Lengths.{longestRow}
 use borrow.Author.Count.{below-none, below-more}
 use Rattle.matrix_mul.proofs.rows.each_row.Statement.{statement}
 use Rattle.matrix_mul.proofs.rows.each_row.Tie as tie
 
 abbrev Inv-loop : tie.InvT-loop
-Inv-loop next₀ t₀ next t = (t ≤ rowLength) × (length next ≡ rowLength) × ((s : ℕ) → s < t → getD next s 0 ≡ s + 1)
+Inv-loop next₀ t₀ next t = (t ≤ longestRow) × (length next ≡ longestRow) × ((s : ℕ) → s < t → getD next s 0 ≡ s + 1)
 
 abbrev μ-loop : tie.MeasureT-loop
-μ-loop next₀ t₀ next t = rowLength - t
+μ-loop next₀ t₀ next t = longestRow - t
 
 row-room-requires : tie.Need-row-room-requires Inv-loop μ-loop
 row-room-requires c κs = tt
