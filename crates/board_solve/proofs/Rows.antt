@@ -11,7 +11,7 @@ use Rattle.algebra.specs.Matrix.{sum, mixed}
 use Rattle.algebra.proofs.Sums.{sum-same}
 use Rattle.algebra.proofs.Rings.{zero-plus}
 use Rattle.field.specs.Residue.{Residue, reduce, residues, _⊕_, _⊗_}
-use Rattle.field.specs.Four.{Combined}
+use Rattle.matrix_mul.specs.Rows.{CombinedInto}
 use Rattle.field.specs.View.{line, table}
 use Rattle.words.specs.Words.{Below, Zeros}
 use Rattle.field.proofs.Residues.{below-of-value}
@@ -42,7 +42,7 @@ column-mixed p m w j by xs l =
 
 -- what `combine` adds to the front of 64 zeros is the row times the table
 pub combined-mixed : (p w : ℕ) (by xs zs part : List ℕ) → 0 < p → w ≤ 64 → Zeros 64 zs
-    → Combined p by xs 0 w (take w zs) part
+    → CombinedInto p by xs 0 w (take w zs) part
     → Mixed p by xs w (part ++ drop w zs)
 combined-mixed p w by xs zs part positive h z (long, each) =
     (length-front zs part w long ∙ z .0, front, behind)

@@ -29,7 +29,7 @@ fn mix_rows(p: u32, by: &[u32], table: &[u32], width: usize) -> [u32; 64]
     ensures { λ r. ⌜ (length r ≡ 64) × ((j : ℕ) → j < width → getD r j 0 ≡ (mixed (residues p) (length (now (by .entry))) (line p (now (by .entry)) 0 1) (tableOf p (now (table .entry)) 0 width (length (now (by .entry))) width) j) .value) × ((j : ℕ) → width ≤ j → getD r j 0 ≡ 0) ⌝ }
 {
     let mut out = words::row_room();
-    field::sums::combine(p, by, table, 0, width, &mut out[..width]);
+    matrix_mul::rows::combine(p, by, table, 0, width, &mut out[..width]);
     out
 }
 

@@ -10,7 +10,7 @@ use lib.Seq.{length-take-le, length-front, take-at, getD-take}
 use Rattle.algebra.specs.Matrix.{sum, product}
 use Rattle.algebra.proofs.Rings.{zero-plus}
 use Rattle.field.specs.Residue.{Residue, reduce, residues, _⊕_, _⊗_}
-use Rattle.field.specs.Four.{Combined}
+use Rattle.matrix_mul.specs.Rows.{CombinedInto}
 use Rattle.field.specs.View.{line, table}
 use Rattle.words.specs.Words.{Zeros}
 use Rattle.field.proofs.Field.{residues-ring}
@@ -41,7 +41,7 @@ module _ (n : ℕ) (z : List ℕ) (size : n ≤ 64) (zeros : Zeros 64 z) where
 
 -- what `combine` says of the row j of D R that it adds to the first n of 64 zeros
 abbrev pub CombinedRow : (p n k j : ℕ) (rows d z out : List ℕ) → Type 0
-CombinedRow p n k j rows d z out = Combined p (rowPart k j d) rows 0 n (take n z) out
+CombinedRow p n k j rows d z out = CombinedInto p (rowPart k j d) rows 0 n (take n z) out
 
 module _
     (p n k j : ℕ)

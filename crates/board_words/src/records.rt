@@ -43,7 +43,7 @@ fn settled(p: u32, n: usize, k: usize, j: usize, rows: &[u32], d: &[u32]) -> boo
         return false;
     }
     let mut e = words::row_room();
-    field::sums::combine(p, row, rows, 0, n, &mut e[..n]);
+    matrix_mul::rows::combine(p, row, rows, 0, n, &mut e[..n]);
     is_unit(&e[..n], j)
 }
 

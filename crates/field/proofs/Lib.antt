@@ -1,9 +1,6 @@
 pub mod Residues
 pub mod Field
 pub mod Totals
-pub mod Halves
-pub mod Four
-pub mod Powers
-pub mod Rows
+pub mod Limbs
 pub mod Written
 pub mod Views

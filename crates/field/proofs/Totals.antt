@@ -50,6 +50,7 @@ reduce-product p xs ys start step t =
     ∙ ap (λ k. reduce p (getD xs k 0) ⊗ reduce p (getD ys (start + t * step) 0)) (sym (zero-add (t * 1) ∙ mul-one t))
 
 -- the residue of the sum of products is the sum of the products of the lines of residues
-pub reduce-products : (p n : ℕ) (xs ys : List ℕ) (start step : ℕ) → reduce p (total n (products xs ys start step)) ≡ sum (residues p) n (λ t. line p xs 0 1 t ⊗ line p ys start step t)
+pub reduce-products : (p n : ℕ) (xs ys : List ℕ) (start step : ℕ)
+    → reduce p (total n (products xs ys start step)) ≡ sum (residues p) n (λ t. line p xs 0 1 t ⊗ line p ys start step t)
 reduce-products p n xs ys start step =
     reduce-total p n (products xs ys start step) ∙ ap (sum (residues p) n) (fun-ext (reduce-product p xs ys start step))

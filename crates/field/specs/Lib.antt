@@ -2,5 +2,4 @@ pub mod Residue
 pub mod View
 pub mod Written
 pub mod Totals
-pub mod Halves
-pub mod Four
+pub mod Limbs

@@ -2,10 +2,10 @@
 ghost use mathlib.Core.Path.{_≡_};
 ghost use Prim.Native.Nat.{_<_, _≤_};
 ghost use Rattle.checks.specs.Prime.{IsModulus};
-ghost use Rattle.field.specs.Residue.{reduce, _⊕_, _⊗_, negated};
+ghost use Rattle.field.specs.Residue.{largestModulus, reduce, _⊕_, _⊗_, negated};
 
 pub fn plus(p: u32, a: u32, b: u32) -> u32
-    requires { ⌜ (a < p) × (b < p) × (p ≤ 2147483647) ⌝ }
+    requires { ⌜ (a < p) × (b < p) × (p ≤ largestModulus) ⌝ }
     ensures { λ r. ⌜ r ≡ (reduce p a ⊕ reduce p b) .value ⌝ }
 {
     let s = a + b;
@@ -13,7 +13,7 @@ pub fn plus(p: u32, a: u32, b: u32) -> u32
 }
 
 pub fn minus(p: u32, a: u32, b: u32) -> u32
-    requires { ⌜ (a < p) × (b < p) × (p ≤ 2147483647) ⌝ }
+    requires { ⌜ (a < p) × (b < p) × (p ≤ largestModulus) ⌝ }
     ensures { λ r. ⌜ r ≡ (reduce p a ⊕ negated (reduce p b)) .value ⌝ }
 {
     if b <= a { a - b } else { a + (p - b) }
@@ -21,7 +21,7 @@ pub fn minus(p: u32, a: u32, b: u32) -> u32
 
 // The product needs 64 bits before it is reduced.
 pub fn times(p: u32, a: u32, b: u32) -> u32
-    requires { ⌜ (a < p) × (b < p) × (p ≤ 2147483647) ⌝ }
+    requires { ⌜ (a < p) × (b < p) × (p ≤ largestModulus) ⌝ }
     ensures { λ r. ⌜ r ≡ (reduce p a ⊗ reduce p b) .value ⌝ }
 {
     ((a as u64) * (b as u64) % (p as u64)) as u32

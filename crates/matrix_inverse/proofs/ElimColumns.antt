@@ -7,6 +7,7 @@ use Prim.Native.Nat.{ℕ, _+_, _*_, _≤_}
 use native.Mathlib.Nat.{mul-le-mul-right}
 use native.Mathlib.Omega.{arith}
 use lib.ListN.{length, getD}
+use Rattle.words.specs.Lengths.{longestRow}
 use Rattle.algebra.specs.Choice.{choose}
 use Rattle.algebra.specs.Quasiinverse.{Marks}
 use Rattle.field.proofs.Residues.{reduce-zero}
@@ -66,7 +67,7 @@ module _ {p m n : ℕ} {a d : List ℕ} {at stride : ℕ} {rows d′ marks rows�
       marked-in (marked-over first both (E .columns-marked .same-length ∙ sym (first .same-length)) (E .columns-marked))
 
   -- rows of D whose columns are not marked are zeros
-  pub marked-used : length d′ ≡ n * stride → at + m ≤ stride → n ≤ 64 → Used n m d′ (place at stride) marks
+  pub marked-used : length d′ ≡ n * stride → at + m ≤ stride → n ≤ longestRow → Used n m d′ (place at stride) marks
   marked-used long fits small =
       record {
         long = omega (arith, fresh-long, E .columns-marked .same-length);

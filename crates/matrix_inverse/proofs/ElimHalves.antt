@@ -7,6 +7,7 @@ use native.Mathlib.Nat.{mul-le-mul}
 use native.Mathlib.Omega.{arith}
 use lib.ListN.{length, getD, take, length-drop}
 use lib.Seq.{length-take-le}
+use Rattle.words.specs.Lengths.{halfTable, halfRows, quarterTable, longestRow}
 use Rattle.algebra.specs.Quasiinverse.{either, follow}
 use Rattle.words.specs.Words.{Below}
 use Rattle.matrix_mul.specs.Places.{place, Kept}
@@ -21,10 +22,10 @@ use Rattle.matrix_inverse.proofs.StepNegative.{row-inside, taken-below,
 -- the m rows of a table are m₁ upper rows and m₂ lower rows, at most 32 each
 pub record Splits (m m₁ m₂ : ℕ) : Type 0 where
   pub whole : m₁ + m₂ ≡ m
-  pub upper-most : m₁ ≤ 32
-  pub lower-most : m₂ ≤ 32
+  pub upper-most : m₁ ≤ halfRows
+  pub lower-most : m₂ ≤ halfRows
 
-pub halved : (m : ℕ) → m ≤ 64 → Splits m (m / 2) (m - m / 2)
+pub halved : (m : ℕ) → m ≤ longestRow → Splits m (m / 2) (m - m / 2)
 halved m h = record { whole = omega arith; upper-most = omega arith; lower-most = omega arith }
 
 module _ {p m m₁ m₂ n : ℕ} {a d : List ℕ} {at stride : ℕ} {columns rows : List ℕ} (e : Eliminable p m n a d at stride columns rows)
@@ -34,10 +35,10 @@ module _ {p m m₁ m₂ n : ℕ} {a d : List ℕ} {at stride : ℕ} {columns row
     pub cut : m₁ * n + m₂ * n ≡ length a
     cut = omega (arith, ap (λ k. k * n) (s .whole), e .a-long)
 
-    pub upper-size : m₁ * n ≤ 2048
+    pub upper-size : m₁ * n ≤ halfTable
     upper-size = omega (arith, mul-le-mul (s .upper-most) (e .n-most))
 
-    pub lower-size : m₂ * n ≤ 2048
+    pub lower-size : m₂ * n ≤ halfTable
     lower-size = omega (arith, mul-le-mul (s .lower-most) (e .n-most))
 
     pub upper-inside : m₁ ≤ length rows
@@ -74,8 +75,8 @@ module _ {p m m₁ m₂ n : ℕ} {a d : List ℕ} {at stride : ℕ} {columns row
         length d′ ≡ length d →
         Below p d′ →
         (t c : List ℕ) →
-        length t ≡ 1024 →
-        length c ≡ 2048 →
+        length t ≡ quarterTable →
+        length c ≡ halfTable →
         Halves p (split m₁ m₂ n) a d′ (place at stride) t c
     halves long below t c t-long c-long =
         record {
@@ -95,7 +96,7 @@ module _ {p m m₁ m₂ n : ℕ} {a d : List ℕ} {at stride : ℕ} {columns row
 
     -- after the call for the upper rows
     module _ {d₁ columns₁ upper : List ℕ} (E₁ : Eliminated p m₁ n (take (m₁ * n) a) d at stride columns (take m₁ rows) d₁ columns₁ upper) where
-      pub between : (t c : List ℕ) → length t ≡ 1024 → length c ≡ 2048 → Halves p (split m₁ m₂ n) a d₁ (place at stride) t c
+      pub between : (t c : List ℕ) → length t ≡ quarterTable → length c ≡ halfTable → Halves p (split m₁ m₂ n) a d₁ (place at stride) t c
       between = halves (E₁ .kept .same-length) (E₁ .kept .below)
 
       rows-split : length rows ≡ m₁ + m₂
@@ -116,7 +117,7 @@ module _ {p m m₁ m₂ n : ℕ} {a d : List ℕ} {at stride : ℕ} {columns row
           ∙ e .blank i (m₁ + j) h (omega (arith, s .whole))
 
       -- after the step between
-      module _ {t c t₁ c₁ : List ℕ} (t-long : length t ≡ 1024) (c-long : length c ≡ 2048)
+      module _ {t c t₁ c₁ : List ℕ} (t-long : length t ≡ quarterTable) (c-long : length c ≡ halfTable)
           (R : Reduced p (split m₁ m₂ n) a (behind (m₁ * n) a) d₁ (place at stride) t c t₁ c₁)
         where
           pub reduced-inside : m₂ * n ≤ length c₁

@@ -9,6 +9,7 @@ use native.Mathlib.Omega.{arith}
 use lib.ListN.{length, getD, set, take, drop, length-set}
 use lib.Seq.{getD-set-same, getD-set-other, getD-take, length-take-le, length-front, ext-getD}
 use borrow.Author.Tests.{eq-eqb, ne-eqb}
+use Rattle.words.specs.Lengths.{longestRow}
 use Rattle.algebra.specs.Choice.{choose, pick}
 use Rattle.algebra.specs.Quasiinverse.{Marks, none, only, either, follow}
 use Rattle.algebra.proofs.Choice.{pick-yes, pick-no}
@@ -46,15 +47,15 @@ marked-either n I K xs ys zs a b =
     both false t x = refl
 
 -- 64 marks of which none is set
-pub fresh-long : length noMarks ≡ 64
+pub fresh-long : length noMarks ≡ longestRow
 unfolding noMarks
 fresh-long = refl
 
 fresh-zero : (j : ℕ) → getD noMarks j 0 ≡ 0
 unfolding noMarks
-fresh-zero = zeros-at 64
+fresh-zero = zeros-at longestRow
 
-pub room-fresh : (xs : List ℕ) → Zeros 64 xs → xs ≡ noMarks
+pub room-fresh : (xs : List ℕ) → Zeros longestRow xs → xs ≡ noMarks
 room-fresh xs z = ext-getD 0 xs noMarks (z .0 ∙ sym fresh-long) (λ j h. z .1 j ∙ sym (fresh-zero j))
 
 -- what is marked in such marks

@@ -11,7 +11,7 @@ use Rattle.field.specs.Residue.{residues}
 use Rattle.field.specs.View.{table}
 use Rattle.words.specs.Words.{Below}
 use Rattle.field.proofs.Field.{residues-ring}
-use Rattle.matrix_mul.specs.Places.{place, sizes, Block, Factors, Kept, Multiplied, Used, Within}
+use Rattle.matrix_mul.specs.Places.{place, shape, Block, Factors, Kept, Multiplied, Used, FactorsWithin}
 use Rattle.matrix_inverse.specs.Steps.{split, IsNegativeProduct, Halves, Joined}
 use Rattle.matrix_mul.proofs.Places.{kept-trans, kept-wider, table-kept}
 use Rattle.matrix_inverse.proofs.StepNegative.{rows-block, columns-block}
@@ -28,7 +28,7 @@ module _ {p m₁ m₂ n : ℕ} {a d : List ℕ} {at stride : ℕ} {t c : List �
     small-room = omega (arith, mul-le-mul (h .upper-most) (h .lower-most), h .c-long)
 
     -- B F into c
-    pub join-first : Below p c → Factors p (sizes m₁ n m₂) a (place 0 n) d (place (at + m₁) stride) c (place 0 m₂)
+    pub join-first : Below p c → Factors p (shape m₁ n m₂) a (place 0 n) d (place (at + m₁) stride) c (place 0 m₂)
     join-first c-below =
         record {
           positive = modulus-positive h;
@@ -50,7 +50,7 @@ module _ {p m₁ m₂ n : ℕ} {a d : List ℕ} {at stride : ℕ} {t c : List �
         Below p c′ →
         {upper : List ℕ} →
         Used n m₁ d (place at stride) upper →
-        Within p (sizes n m₁ m₂) upper at c′ (place 0 m₂) d (place (at + m₁) stride)
+        FactorsWithin p (shape n m₁ m₂) upper at c′ (place 0 m₂) d (place (at + m₁) stride)
     join-second c′ long c-below used =
         record {
           factors = record {
@@ -74,7 +74,7 @@ module _ {p m₁ m₂ n : ℕ} {a d : List ℕ} {at stride : ℕ} {t c : List �
     -- E + G (-T) for E
     module _ (t-below : Below p t) (d′ : List ℕ) (kept : Kept p d d′ (place (at + m₁) stride) n m₂) where
       pub join-third : {marks : List ℕ} → Used n m₂ d′ (place (at + m₁) stride) marks
-          → Within p (sizes n m₂ m₁) marks (at + m₁) t (place 0 m₁) d′ (place at stride)
+          → FactorsWithin p (shape n m₂ m₁) marks (at + m₁) t (place 0 m₁) d′ (place at stride)
       join-third used =
           record {
             factors = record {
@@ -97,9 +97,9 @@ module _ {p m₁ m₂ n : ℕ} {a d : List ℕ} {at stride : ℕ} {t c : List �
 
     -- what they leave
     module _ {c′ d′ d″ : List ℕ}
-        (is-BF : IsNegativeProduct p (sizes m₁ n m₂) a d (place (at + m₁) stride) c c′)
-        (first : Multiplied p (sizes n m₁ m₂) d (place at stride) c′ (place 0 m₂) d d′ (place (at + m₁) stride))
-        (second : Multiplied p (sizes n m₂ m₁) d′ (place (at + m₁) stride) t (place 0 m₁) d′ d″ (place at stride))
+        (is-BF : IsNegativeProduct p (shape m₁ n m₂) a d (place (at + m₁) stride) c c′)
+        (first : Multiplied p (shape n m₁ m₂) d (place at stride) c′ (place 0 m₂) d d′ (place (at + m₁) stride))
+        (second : Multiplied p (shape n m₂ m₁) d′ (place (at + m₁) stride) t (place 0 m₁) d′ d″ (place at stride))
       where
         -- the second product leaves the columns of G, the first those of E
         G-stays : table p d″ (at + m₁) stride n m₂ ≡ table p d′ (at + m₁) stride n m₂

@@ -16,7 +16,7 @@ use Rattle.words.specs.Words.{Below, Blank}
 use Rattle.field.proofs.Field.{residues-ring}
 use Rattle.field.proofs.Views.{blank-below}
 use Rattle.matrix_mul.specs.declared.Place.{Place}
-use Rattle.matrix_mul.specs.Places.{place, sizes, matrixAt, matrixOf, Block, Factors, Multiplied}
+use Rattle.matrix_mul.specs.Places.{place, shape, matrixAt, matrixOf, Block, Factors, Multiplied, Negated}
 use Rattle.matrix_inverse.specs.Steps.{IsNegativeProduct}
 use Rattle.matrix_mul.proofs.Places.{table-negative}
 use Rattle.words.proofs.Parts.{front-inside, front-below}
@@ -51,7 +51,7 @@ dropped-below p xs k below i h =
     rw (getD-drop k xs i 0) (below (k + i) (omega arith))
 
 -- what is asked of Z
-module _ {p m k n : ℕ} {x y : List ℕ} {Y : Place} {z : List ℕ} (f : Factors p (sizes m k n) x (place 0 k) y Y z (place 0 n))
+module _ {p m k n : ℕ} {x y : List ℕ} {Y : Place} {z : List ℕ} (f : Factors p (shape m k n) x (place 0 k) y Y z (place 0 n))
   where
     pub size-inside : m * n ≤ length z
     size-inside = block-long z m n (f .target)
@@ -70,7 +70,7 @@ module _ {p m k n : ℕ} {x y : List ℕ} {Y : Place} {z : List ℕ} (f : Factor
       cleared-zero : (q : ℕ) → q < m * n → getD cleared q 0 ≡ 0
       cleared-zero q h = front-inside z (m * n) zeros size q h ∙ blank q
 
-      pub cleared-factors : Factors p (sizes m k n) x (place 0 k) y Y cleared (place 0 n)
+      pub cleared-factors : Factors p (shape m k n) x (place 0 k) y Y cleared (place 0 n)
       cleared-factors =
           record {
             positive = f .positive;
@@ -87,11 +87,12 @@ module _ {p m k n : ℕ} {x y : List ℕ} {Y : Place} {z : List ℕ} (f : Factor
 
       -- Z becomes X Y and then, number by number, its negative; `front` is what stands there then
       module _ {z′ : List ℕ} (front : List ℕ)
-          (multiplied : Multiplied p (sizes m k n) x (place 0 k) y Y cleared z′ (place 0 n))
-          (long : length front ≡ length (take (m * n) z′))
-          (below : Below p front)
-          (each : (j : ℕ) → j < length (take (m * n) z′) → reduce p (getD front j 0) ≡ negated (reduce p (getD (take (m * n) z′) j 0)))
+          (multiplied : Multiplied p (shape m k n) x (place 0 k) y Y cleared z′ (place 0 n))
+          (negatives : Negated p (take (m * n) z′) front)
         where
+          long : length front ≡ length (take (m * n) z′)
+          long = negatives .same-length
+
           ring : IsCommutativeRing (residues p)
           ring = residues-ring p (f .positive)
 
@@ -108,7 +109,7 @@ module _ {p m k n : ℕ} {x y : List ℕ} {Y : Place} {z : List ℕ} (f : Factor
           negated-long = length-front z′ front (m * n) long ∙ multiplied .kept .same-length ∙ cleared-long
 
           negated-below : Below p (front ++ drop (m * n) z′)
-          negated-below = front-below z′ (m * n) front (long ∙ part-long) p (multiplied .kept .below) below rows-inside
+          negated-below = front-below z′ (m * n) front (long ∙ part-long) p (multiplied .kept .below) (negatives .below) rows-inside
 
           is-product : table p z′ 0 n m n ≡ XY
           unfolding XY
@@ -124,10 +125,10 @@ module _ {p m k n : ℕ} {x y : List ℕ} {Y : Place} {z : List ℕ} (f : Factor
               (λ i j h l.
               let inside : 0 + i * n + j < m * n = omega (arith, row-inside m n i h) in
               ap (reduce p) (front-inside z′ (m * n) front (long ∙ part-long) (0 + i * n + j) inside)
-              ∙ each (0 + i * n + j) (omega (arith, part-long))
+              ∙ negatives .each (0 + i * n + j) (omega (arith, part-long))
               ∙ ap (λ r. negated (reduce p r)) (getD-take (m * n) z′ (0 + i * n + j) 0 inside))
               ∙ ap (negative (residues p)) is-product
 
-          pub negative-product-done : IsNegativeProduct p (sizes m k n) x y Y z (front ++ drop (m * n) z′)
+          pub negative-product-done : IsNegativeProduct p (shape m k n) x y Y z (front ++ drop (m * n) z′)
           unfolding XY
           negative-product-done = record { same-length = negated-long; below = negated-below; result = is-negative }

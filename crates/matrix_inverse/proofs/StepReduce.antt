@@ -9,7 +9,7 @@ use Rattle.algebra.specs.Matrix.{add, product}
 use Rattle.field.specs.Residue.{residues}
 use Rattle.field.proofs.Views.{blank-below}
 use Rattle.matrix_mul.specs.declared.Place.{Place}
-use Rattle.matrix_mul.specs.Places.{place, sizes, matrixOf, Factors, Multiplied}
+use Rattle.matrix_mul.specs.Places.{place, shape, matrixOf, Factors, Multiplied}
 use Rattle.words.specs.Words.{Copied}
 use Rattle.matrix_inverse.specs.Steps.{split, IsNegativeProduct, Halves, Reducible, Reduced}
 use Rattle.matrix_mul.proofs.Places.{copied-table, copied-below}
@@ -31,7 +31,7 @@ module _ {p m₁ m₂ n : ℕ} {a k marks d : List ℕ} {D : Place} {t c : List 
   h = r .halves
 
   -- K E into t
-  pub reduce-first : Factors p (sizes m₂ n m₁) k (place 0 n) d D t (place 0 m₁)
+  pub reduce-first : Factors p (shape m₂ n m₁) k (place 0 n) d D t (place 0 m₁)
   reduce-first =
       record {
         positive = modulus-positive h;
@@ -46,9 +46,9 @@ module _ {p m₁ m₂ n : ℕ} {a k marks d : List ℕ} {D : Place} {t c : List 
         below = blank-below p t (modulus-positive h) (r .t-blank);
       }
 
-  module _ {t′ : List ℕ} (T : IsNegativeProduct p (sizes m₂ n m₁) k d D t t′) {c′ : List ℕ} (copied : Copied k 0 (m₂ * n) c c′) where
+  module _ {t′ : List ℕ} (T : IsNegativeProduct p (shape m₂ n m₁) k d D t t′) {c′ : List ℕ} (copied : Copied k 0 (m₂ * n) c c′) where
     -- K + (-T) B into c
-    pub reduce-second : Factors p (sizes m₂ m₁ n) t′ (place 0 m₁) a (place 0 n) c′ (place 0 n)
+    pub reduce-second : Factors p (shape m₂ m₁ n) t′ (place 0 m₁) a (place 0 n) c′ (place 0 n)
     reduce-second =
         record {
           positive = modulus-positive h;
@@ -66,7 +66,7 @@ module _ {p m₁ m₂ n : ℕ} {a k marks d : List ℕ} {D : Place} {t c : List 
     -- what they leave
     pub reduced :
         {c″ : List ℕ} →
-        Multiplied p (sizes m₂ m₁ n) t′ (place 0 m₁) a (place 0 n) c′ c″ (place 0 n) →
+        Multiplied p (shape m₂ m₁ n) t′ (place 0 m₁) a (place 0 n) c′ c″ (place 0 n) →
         Reduced p (split m₁ m₂ n) a k d D t c t′ c″
     reduced multiplied =
         record {

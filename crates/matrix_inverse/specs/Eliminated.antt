@@ -5,6 +5,7 @@ use mathlib.Core.List.{List}
 use Prim.Native.Nat.{ℕ, _+_, _*_, _≤_, _<_}
 use native.Mathlib.Decide.{ℕ-discrete}
 use lib.ListN.{length, getD, replicate}
+use Rattle.words.specs.Lengths.{longestRow}
 use Rattle.algebra.specs.Choice.{choose, pick}
 use Rattle.algebra.specs.Quasiinverse.{Marks, IsPivotInverse}
 use Rattle.checks.specs.Prime.{IsModulus}
@@ -16,9 +17,9 @@ use Rattle.matrix_mul.specs.Places.{place, Kept}
 -- what it asks: the block of D, n rows and m columns from column `at` on, is 0
 pub record Eliminable (p m n : ℕ) (a d : List ℕ) (at stride : ℕ) (columns rows : List ℕ) : Type 0 where
   pub is-modulus : IsModulus p
-  pub m-most : m ≤ 64
-  pub n-most : n ≤ 64
-  pub stride-most : stride ≤ 64
+  pub m-most : m ≤ longestRow
+  pub n-most : n ≤ longestRow
+  pub stride-most : stride ≤ longestRow
   pub a-long : length a ≡ m * n
   pub a-below : Below p a
   pub d-long : length d ≡ n * stride
@@ -30,7 +31,7 @@ pub record Eliminable (p m n : ℕ) (a d : List ℕ) (at stride : ℕ) (columns 
 
 -- 64 marks, none of them set: in these a half of the rows marks its columns
 unfoldable pub noMarks : List ℕ
-noMarks = replicate 64 0
+noMarks = replicate longestRow 0
 
 -- marks that were added to those that stood
 pub record Marked (n : ℕ) (I : Marks) (xs ys : List ℕ) : Type 0 where

@@ -4,12 +4,13 @@ use mathlib.Core.Path.{_≡_}
 use mathlib.Core.List.{List}
 use Prim.Native.Nat.{ℕ, _+_, _*_, _≤_}
 use lib.ListN.{length}
+use Rattle.words.specs.Lengths.{halfTable, halfRows, quarterTable, longestRow}
 use Rattle.algebra.specs.Matrix.{Matrix, add, negative, product}
 use Rattle.checks.specs.Prime.{IsModulus}
 use Rattle.field.specs.Residue.{residues}
 use Rattle.words.specs.Words.{Below, Blank}
 use Rattle.matrix_mul.specs.declared.Place.{Place}
-use Rattle.matrix_mul.specs.declared.Sizes.{Sizes}
+use Rattle.matrix_mul.specs.declared.Shape.{Shape}
 use Rattle.matrix_mul.specs.Places.{columnsFrom, matrixAt, matrixOf, Kept, Used}
 use Rattle.matrix_inverse.specs.declared.eliminate.Split.{Split}
 
@@ -18,7 +19,7 @@ abbrev pub split : (m₁ m₂ n : ℕ) → Split
 split m₁ m₂ n = record { upper = m₁; lower = m₂; width = n }
 
 -- Z, in rows one behind the other as X is, has become -(X Y)
-pub record IsNegativeProduct (p : ℕ) (s : Sizes) (x y : List ℕ) (Y : Place) (z z′ : List ℕ) : Type 0 where
+pub record IsNegativeProduct (p : ℕ) (s : Shape) (x y : List ℕ) (Y : Place) (z z′ : List ℕ) : Type 0 where
   pub same-length : length z′ ≡ length z
   pub below : Below p z′
   pub result :
@@ -29,17 +30,17 @@ pub record IsNegativeProduct (p : ℕ) (s : Sizes) (x y : List ℕ) (Y : Place) 
 -- what both steps ask: the sizes, and memory that is large enough
 pub record Halves (p : ℕ) (s : Split) (a d : List ℕ) (D : Place) (t c : List ℕ) : Type 0 where
   pub is-modulus : IsModulus p
-  pub upper-most : s .upper ≤ 32
-  pub lower-most : s .lower ≤ 32
-  pub n-most : s .width ≤ 64
-  pub stride-most : D .stride ≤ 64
+  pub upper-most : s .upper ≤ halfRows
+  pub lower-most : s .lower ≤ halfRows
+  pub n-most : s .width ≤ longestRow
+  pub stride-most : D .stride ≤ longestRow
   pub a-long : s .upper * s .width ≤ length a
   pub a-below : Below p a
   pub d-long : length d ≡ s .width * D .stride
   pub d-below : Below p d
   pub fits : D .start + (s .upper + s .lower) ≤ D .stride
-  pub t-long : length t ≡ 1024
-  pub c-long : length c ≡ 2048
+  pub t-long : length t ≡ quarterTable
+  pub c-long : length c ≡ halfTable
 
 -- what the step between asks: K in k, marks of the rows of E, and blank room for T and C
 pub record Reducible (p : ℕ) (s : Split) (a k marks d : List ℕ) (D : Place) (t c : List ℕ) : Type 0 where

@@ -2,14 +2,15 @@
 ghost use mathlib.Core.Path.{_≡_};
 ghost use Prim.Native.Nat.{ℕ, _+_, _*_, _≤_, _<_};
 ghost use lib.ListN.{length, getD};
-ghost use Rattle.field.specs.Four.{Passes};
+ghost use Rattle.matrix_mul.specs.Rows.{Passes};
 ghost use Rattle.matrix_mul.specs.Places.{place, Factors};
 ghost use Rattle.matrix_inverse.specs.Eliminated.{noMarks, Eliminable, Eliminated, BothMarked};
 ghost use Rattle.matrix_inverse.specs.Steps.{IsNegativeProduct, Reducible, Reduced, Joinable, Joined};
 use matrix_mul::Place;
-use matrix_mul::Sizes;
+use matrix_mul::Shape;
 use matrix_mul::add_product;
 use matrix_mul::add_product_within;
+use words::ROW;
 use words::row_room;
 
 // The least position of a number that is not 0, or the length where there is none.
@@ -37,7 +38,7 @@ fn one_row(
     at: usize,
     stride: usize,
     rows: &mut [u32],
-) -> [u32; 64]
+) -> [u32; ROW]
     requires { ⌜ Eliminable p 1 n (now a) (now d) at stride noMarks (now rows) ⌝ }
     ensures { λ r. ⌜ Eliminated p 1 n (now (a .entry)) (now (d .entry)) at stride noMarks (now (rows .entry)) (now (d .exit)) r (now (rows .exit)) ⌝ }
 {
@@ -76,14 +77,14 @@ struct Split {
 // -(X Y) for Z, where the rows of X and those of Z lie one behind the other. The list leads over rows of Y that are zeros.
 fn negative_product(
     p: u32,
-    size: Sizes,
+    size: Shape,
     x: &[u32],
     next: &[u32],
     y: &[u32],
     right: Place,
     z: &mut [u32],
 )
-    requires { ⌜ Factors p size (now x) (place 0 (size .inner)) (now y) right (now z) (place 0 (size .columns)) × Passes (size .inner) (now next) (right .start) (right .stride) (size .columns) (now y) ⌝ }
+    requires { ⌜ Factors p size (now x) (place 0 (size .inner)) (now y) right (now z) (place 0 (size .columns)) × Passes (size .inner) (now next) right (size .columns) (now y) ⌝ }
     ensures { λ _. ⌜ IsNegativeProduct p size (now (x .entry)) (now (y .entry)) right (now (z .entry)) (now (z .exit)) ⌝ }
 {
     let m = size.rows;
@@ -124,7 +125,7 @@ fn reduce_rows(
     let n = split.width;
     let mut next = row_room();
     matrix_mul::list_marked(&marks[..n], &mut next);
-    let first = Sizes {
+    let first = Shape {
         rows: m2,
         inner: n,
         columns: m1,
@@ -132,8 +133,8 @@ fn reduce_rows(
     negative_product(p, first, lower, &next, d, block, t);
     let end = m2 * n;
     words::copy(lower, 0, end, c);
-    let each = field::sums::each_row();
-    let second = Sizes {
+    let each = matrix_mul::rows::each_row();
+    let second = Shape {
         rows: m2,
         inner: m1,
         columns: n,
@@ -163,7 +164,8 @@ fn join_halves(
     block: Place,
 )
     requires { ⌜ Joinable p split (now a) (now t) (now c) (now upper) (now marks) (now d) block ⌝ }
-    ensures { λ _. ⌜ Joined p split (now (a .entry)) (now (t .entry)) (now (d .entry)) (now (d .exit)) block × BothMarked (split .width) (now (upper .entry)) (now (marks .entry)) (now (marks .exit)) ⌝ }
+    ensures { λ _. ⌜ Joined p split (now (a .entry)) (now (t .entry)) (now (d .entry)) (now (d .exit)) block
+        × BothMarked (split .width) (now (upper .entry)) (now (marks .entry)) (now (marks .exit)) ⌝ }
 {
     let m1 = split.upper;
     let m2 = split.lower;
@@ -177,13 +179,13 @@ fn join_halves(
     };
     let mut next = row_room();
     matrix_mul::list_marked(&marks[..n], &mut next);
-    let first = Sizes {
+    let first = Shape {
         rows: m1,
         inner: n,
         columns: m2,
     };
     negative_product(p, first, a, &next, d, right, c);
-    let second = Sizes {
+    let second = Shape {
         rows: n,
         inner: m1,
         columns: m2,
@@ -194,7 +196,7 @@ fn join_halves(
     };
     add_product_within(p, second, upper, at, c, in_c, d, right);
     add_marks(n, upper, marks);
-    let third = Sizes {
+    let third = Shape {
         rows: n,
         inner: m2,
         columns: m1,
@@ -216,7 +218,7 @@ fn half(
     at: usize,
     stride: usize,
     rows: &mut [u32],
-) -> [u32; 64]
+) -> [u32; ROW]
     requires { ⌜ Eliminable p m n (now a) (now d) at stride noMarks (now rows) × (0 < m) ⌝ }
     ensures { λ r. ⌜ Eliminated p m n (now (a .entry)) (now (d .entry)) at stride noMarks (now (rows .entry)) (now (d .exit)) r (now (rows .exit)) ⌝ }
 {
@@ -237,7 +239,7 @@ fn halves(
     at: usize,
     stride: usize,
     rows: &mut [u32],
-) -> [u32; 64]
+) -> [u32; ROW]
     requires { ⌜ Eliminable p m n (now a) (now d) at stride noMarks (now rows) × (1 < m) ⌝ }
     ensures { λ r. ⌜ Eliminated p m n (now (a .entry)) (now (d .entry)) at stride noMarks (now (rows .entry)) (now (d .exit)) r (now (rows .exit)) ⌝ }
 {
@@ -275,7 +277,8 @@ pub fn eliminate(
     rows: &mut [u32],
 )
     requires { ⌜ Eliminable p m n (now a) (now d) at stride (now columns) (now rows) ⌝ }
-    ensures { λ _. ⌜ Eliminated p m n (now (a .entry)) (now (d .entry)) at stride (now (columns .entry)) (now (rows .entry)) (now (d .exit)) (now (columns .exit)) (now (rows .exit)) ⌝ }
+    ensures { λ _. ⌜ Eliminated p m n (now (a .entry)) (now (d .entry)) at stride (now (columns .entry)) (now (rows .entry))
+        (now (d .exit)) (now (columns .exit)) (now (rows .exit)) ⌝ }
 {
     if m == 0 {
         return;

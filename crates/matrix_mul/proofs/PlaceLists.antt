@@ -6,7 +6,7 @@ use native.Mathlib.Decide.{ℕ-discrete}
 use native.Mathlib.Omega.{arith}
 use lib.ListN.{length, getD, set, take}
 use lib.Seq.{getD-set-same, getD-set-other, getD-take, length-take-le}
-use Rattle.field.specs.Four.{Leads, Passes}
+use Rattle.matrix_mul.specs.Rows.{Leads, Passes}
 use Rattle.matrix_mul.specs.declared.Place.{Place}
 use Rattle.matrix_mul.specs.Places.{Used, Listed}
 
@@ -93,7 +93,7 @@ listing-done room listing =
 
 -- where the rows that are not marked are zeros, the list of the first k rows passes over zeros only
 pub listed-passes : {k n : ℕ} {y : List ℕ} {Y : Place} {marks next : List ℕ} → Used k n y Y marks
-    → Listed (take k marks) next → Passes k next (Y .start) (Y .stride) n y
+    → Listed (take k marks) next → Passes k next Y n y
 listed-passes {k} {marks = marks} {next = next} used listed =
     let long : length (take k marks) ≡ k = length-take-le k marks (used .long) in
     record {

@@ -13,15 +13,14 @@ use Rattle.algebra.proofs.Matrices.{entry}
 use Rattle.algebra.proofs.Step.{product-row}
 use Rattle.field.specs.Residue.{Residue, reduce, residues, _⊕_, _⊗_}
 use Rattle.field.specs.View.{line, table}
-use Rattle.words.specs.Words.{Below}
-use Rattle.field.specs.Four.{Passes}
+use Rattle.words.specs.Words.{Below, Copied}
+use Rattle.matrix_mul.specs.Rows.{Passes, Combinable}
 use Rattle.field.proofs.Residues.{reduce-zero, below-of-value, reduce-of-value}
 use Rattle.field.proofs.Field.{residues-ring}
 use Rattle.field.proofs.Views.{table-entry, table-sized}
 use Rattle.matrix_mul.specs.declared.Place.{Place}
-use Rattle.matrix_mul.specs.declared.Sizes.{Sizes}
-use Rattle.matrix_mul.specs.Places.{place, rowAt, sizes, withRows, matrixAt, Block, Kept, Factors, Multiplied, Used}
-use Rattle.words.specs.Words.{Copied}
+use Rattle.matrix_mul.specs.declared.Shape.{Shape}
+use Rattle.matrix_mul.specs.Places.{place, rowAt, shape, withRows, matrixAt, Block, Kept, Factors, Multiplied, ZerosAt, Used}
 use Rattle.matrix_mul.proofs.Places.{tables-equal, table-same, copied-table, same-place, kept-at, kept-none, add-sized, product-sized, row-product}
 use Rattle.words.proofs.Parts.{replaced, replaced-length, replaced-inside, replaced-elsewhere, replaced-below, part-length, part-at}
 
@@ -46,14 +45,14 @@ module _ (p k n : ℕ) (x y : List ℕ) (Y : Place) where
     Entries = (i j : ℕ) → i < m → j < n
         → reduce p (getD z′ (Z .start + i * Z .stride + j) 0) ≡ reduce p (getD z (Z .start + i * Z .stride + j) 0) ⊕ times X m i j
 
-    multiplied-entries : Multiplied p (sizes m k n) x X y Y z z′ Z → Entries
+    multiplied-entries : Multiplied p (shape m k n) x X y Y z z′ Z → Entries
     unfolding Entries times add
     multiplied-entries M i j h l =
         sym (table-entry p z′ (Z .start) (Z .stride) m n i j h l)
         ∙ entry (residues p) (M .result) i j
         ∙ ap (λ r. r ⊕ times X m i j) (table-entry p z (Z .start) (Z .stride) m n i j h l)
 
-    multiplied-of : 0 < p → Kept p z z′ Z m n → Entries → Multiplied p (sizes m k n) x X y Y z z′ Z
+    multiplied-of : 0 < p → Kept p z z′ Z m n → Entries → Multiplied p (shape m k n) x X y Y z z′ Z
     unfolding Entries times add
     multiplied-of positive kept each =
         record {
@@ -95,14 +94,14 @@ kept-row p z z′ z″ Z i n a b =
 
 module _ {p k n : ℕ} {x : List ℕ} {X : Place} {y : List ℕ} {Y : Place} {z : List ℕ} {Z : Place} (positive : 0 < p) where
   -- no row yet
-  pub multiplied-none : Below p z → Multiplied p (sizes 0 k n) x X y Y z z Z
+  pub multiplied-none : Below p z → Multiplied p (shape 0 k n) x X y Y z z Z
   unfolding Entries
   multiplied-none b =
       multiplied-of p k n x y Y 0 X z z Z positive (kept-none p z Z 0 n b) (λ i j h l. absurd (omega arith))
 
   -- the row behind the first i rows
-  pub multiplied-row : {i : ℕ} {z′ z″ : List ℕ} → n ≤ Z .stride → Multiplied p (sizes i k n) x X y Y z z′ Z
-      → Multiplied p (sizes 1 k n) x (rowAt X i k) y Y z′ z″ (rowAt Z i n) → Multiplied p (sizes (i + 1) k n) x X y Y z z″ Z
+  pub multiplied-row : {i : ℕ} {z′ z″ : List ℕ} → n ≤ Z .stride → Multiplied p (shape i k n) x X y Y z z′ Z
+      → Multiplied p (shape 1 k n) x (rowAt X i k) y Y z′ z″ (rowAt Z i n) → Multiplied p (shape (i + 1) k n) x X y Y z z″ Z
   unfolding Entries
   multiplied-row {i} {z′} {z″} apart a b =
       multiplied-of p k n x y Y (i + 1) X z z″ Z positive
@@ -144,7 +143,7 @@ one-row xs at n fits = record { apart = omega arith; inside = λ i h. omega (ari
 pub row-fits : {xs : List ℕ} {X : Place} {n : ℕ} → Block xs X 1 n → X .start + n ≤ length xs
 row-fits b = omega (arith, b .inside 0 (omega arith))
 
-module _ {p : ℕ} {s : Sizes} {x : List ℕ} {X : Place} {y : List ℕ} {Y : Place} {z : List ℕ} {Z : Place} where
+module _ {p : ℕ} {s : Shape} {x : List ℕ} {X : Place} {y : List ℕ} {Y : Place} {z : List ℕ} {Z : Place} where
   -- row i of what a product asks, for memory that has its length and is still below p
   pub factors-row : {i : ℕ} {x′ z′ : List ℕ} → length x′ ≡ length x → Below p x′ → length z′ ≡ length z → Below p z′ → i < s .rows
       → Factors p s x X y Y z Z → Factors p (withRows 1 s) x′ (rowAt X i (s .inner)) y Y z′ (rowAt Z i (s .columns))
@@ -164,7 +163,7 @@ module _ {p : ℕ} {s : Sizes} {x : List ℕ} {X : Place} {y : List ℕ} {Y : Pl
 
 -- the multipliers of a row at the front of other memory
 pub factors-front : {p k n : ℕ} {x : List ℕ} {X : Place} {y : List ℕ} {Y : Place} {z : List ℕ} {Z : Place} {by : List ℕ}
-    → k ≤ length by → Below p by → Factors p (sizes 1 k n) x X y Y z Z → Factors p (sizes 1 k n) by (place 0 k) y Y z Z
+    → k ≤ length by → Below p by → Factors p (shape 1 k n) x X y Y z Z → Factors p (shape 1 k n) by (place 0 k) y Y z Z
 factors-front {k = k} {by = by} l b F =
     record {
       positive = F .positive;
@@ -184,7 +183,7 @@ pub copied-row : (p k : ℕ) {xs : List ℕ} {at : ℕ} {zs by : List ℕ} → C
 copied-row p k copied = copied-table p k 1 k copied (λ i h. omega (arith, only-row i k h))
 
 -- X may be read from another place where it stands too
-pub multiplied-left : {p : ℕ} {s : Sizes} {x : List ℕ} {X : Place} (x′ : List ℕ) (X′ : Place) {y : List ℕ} {Y : Place}
+pub multiplied-left : {p : ℕ} {s : Shape} {x : List ℕ} {X : Place} (x′ : List ℕ) (X′ : Place) {y : List ℕ} {Y : Place}
     {z z′ : List ℕ} {Z : Place} → matrixAt p x X (s .rows) (s .inner) ≡ matrixAt p x′ X′ (s .rows) (s .inner)
     → Multiplied p s x X y Y z z′ Z → Multiplied p s x′ X′ y Y z z′ Z
 multiplied-left {p} {s} x′ X′ {y} {Y} {z = z} {Z = Z} same M =
@@ -224,8 +223,8 @@ is-part {xs} {a} {n} fits =
 
 -- where the multipliers are 0 nothing need be done
 pub row-skipped : {p k n : ℕ} {x : List ℕ} {at : ℕ} {y : List ℕ} {Y : Place} {z : List ℕ} {to : ℕ}
-    → Factors p (sizes 1 k n) x (place at k) y Y z (place to n) → ((t : ℕ) → t < k → getD x (at + t) 0 ≡ 0)
-    → Multiplied p (sizes 1 k n) x (place at k) y Y z z (place to n)
+    → Factors p (shape 1 k n) x (place at k) y Y z (place to n) → ZerosAt x at k
+    → Multiplied p (shape 1 k n) x (place at k) y Y z z (place to n)
 unfolding Entries times
 row-skipped {p} {k} {n} {x} {at} {y} {Y} {z} {to} F zeros =
     multiplied-of p k n x y Y 1 (place at k) z z (place to n) (F .positive) (kept-none p z (place to n) 1 n (F .below))
@@ -246,7 +245,7 @@ row-skipped {p} {k} {n} {x} {at} {y} {Y} {z} {to} F zeros =
 
 -- rows of Z + X Y are zeros where those of X and of Z are
 pub used-product : {p m k n : ℕ} {x : List ℕ} {X : Place} {y : List ℕ} {Y : Place} {z z′ : List ℕ} {Z : Place} {u v both : List ℕ}
-    → 0 < p → Block z Z m n → Multiplied p (sizes m k n) x X y Y z z′ Z → Used m k x X u → Used m n z Z v → m ≤ length both
+    → 0 < p → Block z Z m n → Multiplied p (shape m k n) x X y Y z z′ Z → Used m k x X u → Used m n z Z v → m ≤ length both
     → ((c : ℕ) → c < m → getD both c 0 ≡ 0 → (getD u c 0 ≡ 0) × (getD v c 0 ≡ 0)) → Used m n z′ Z both
 unfolding Entries times
 used-product {p} {m} {k} {n} {x} {X} {y} {Y} {z} {z′} {Z} {both = both} positive block M x-used z-used long split =
@@ -272,25 +271,24 @@ used-product {p} {m} {k} {n} {x} {X} {y} {Y} {z} {z′} {Z} {both = both} positi
 
 -- One row by `combine_listed`: by is X's row, out is Z's row.
 module _ {p k n : ℕ} {x : List ℕ} {at : ℕ} {y : List ℕ} {Y : Place} {z : List ℕ} {to : ℕ} {by out : List ℕ}
-    (F : Factors p (sizes 1 k n) x (place at k) y Y z (place to n))
+    (F : Factors p (shape 1 k n) x (place at k) y Y z (place to n))
     (is-by : IsPart x at k by)
     (is-out : IsPart z to n out)
   where
     -- what combine_listed asks
-    pub row-ready : {next : List ℕ} → Passes k next (Y .start) (Y .stride) n y →
-        (0 < p) × (p ≤ 2147483647) × (length by ≤ 64) × (length out ≤ 64) × Below p by × Below p y
-        × ((t : ℕ) → t < length by → Y .start + t * Y .stride + length out ≤ length y)
-        × Passes (length by) next (Y .start) (Y .stride) (length out) y
+    pub row-ready : {next : List ℕ} → Passes k next Y n y → Combinable p by y Y out × Passes (length by) next Y (length out) y
     row-ready passes = (
-      F .positive,
-      F .in-range,
-      omega (arith, is-by .long, F .inner),
-      omega (arith, is-out .long, F .columns),
-      λ j l.
-          let h : j < k = omega (arith, is-by .long) in
-          rw (is-by .same j h) (F .left-below (at + j) (omega (arith, row-fits (F .left)))),
-      F .right-below,
-      λ t l. omega (arith, is-out .long, F .right .inside t (omega (arith, is-by .long))),
+      record {
+        positive = F .positive;
+        in-range = F .in-range;
+        few = omega (arith, is-by .long, F .inner);
+        narrow = omega (arith, is-out .long, F .columns);
+        by-below = λ j l.
+            let h : j < k = omega (arith, is-by .long) in
+            rw (is-by .same j h) (F .left-below (at + j) (omega (arith, row-fits (F .left))));
+        table-below = F .right-below;
+        inside = λ t l. omega (arith, is-out .long, F .right .inside t (omega (arith, is-by .long)));
+      },
       rw (is-by .long, is-out .long) passes,
     )
 
@@ -331,7 +329,7 @@ module _ {p k n : ℕ} {x : List ℕ} {at : ℕ} {y : List ℕ} {Y : Place} {z :
             ∙ row-product p x (place at k) y Y 1 k n by 0 (omega arith)
             (λ t b. is-by .same t b ∙ ap (λ a. getD x (a + t) 0) start) j l)
 
-        pub row-combined : Multiplied p (sizes 1 k n) x (place at k) y Y z (replaced z to size out′) (place to n)
+        pub row-combined : Multiplied p (shape 1 k n) x (place at k) y Y z (replaced z to size out′) (place to n)
         unfolding Entries
         row-combined =
             multiplied-of p k n x y Y 1 (place at k) z (replaced z to size out′) (place to n) (F .positive) row-kept

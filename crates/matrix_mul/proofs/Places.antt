@@ -16,12 +16,11 @@ use Rattle.algebra.proofs.Matrices.{entries}
 use Rattle.algebra.proofs.Step.{product-row, product-column}
 use Rattle.field.specs.Residue.{reduce, residues, _⊕_, _⊗_, negated}
 use Rattle.field.specs.View.{line, table}
-use Rattle.words.specs.Words.{Below, Blank}
+use Rattle.words.specs.Words.{Below, Blank, Copied}
 use Rattle.field.proofs.Field.{residues-ring}
 use Rattle.field.proofs.Views.{table-entry, table-sized}
 use Rattle.matrix_mul.specs.declared.Place.{Place}
 use Rattle.matrix_mul.specs.Places.{place, matrixAt, Kept}
-use Rattle.words.specs.Words.{Copied}
 
 -- matrices of m rows and n columns are equal if their entries there are
 pub tables-equal : (p m n : ℕ) (X Y : Matrix (residues p)) → Sized (residues p) m n X → Sized (residues p) m n Y

@@ -4,12 +4,13 @@ use mathlib.Core.List.{List}
 use Prim.Native.Nat.{ℕ, _+_, _*_, _≤_, _<_}
 use lib.ListN.{length, getD}
 use Rattle.algebra.specs.Matrix.{Matrix, add, product}
-use Rattle.field.specs.Residue.{residues}
+use Rattle.field.specs.Residue.{reduce, residues, negated, largestModulus}
 use Rattle.field.specs.View.{table}
+use Rattle.words.specs.Lengths.{longestRow}
 use Rattle.words.specs.Words.{Below}
-use Rattle.field.specs.Four.{Leads, PassesOver}
+use Rattle.matrix_mul.specs.Rows.{Leads, PassesOver}
 use Rattle.matrix_mul.specs.declared.Place.{Place}
-use Rattle.matrix_mul.specs.declared.Sizes.{Sizes}
+use Rattle.matrix_mul.specs.declared.Shape.{Shape}
 
 -- a place: where a block begins, and how far the starts of its rows are apart
 abbrev pub place : (start stride : ℕ) → Place
@@ -24,12 +25,12 @@ abbrev pub columnsFrom : Place → ℕ → Place
 columnsFrom X k = place (X .start + k) (X .stride)
 
 -- the sizes of X Y: X has m rows and k columns, Y has k rows and n columns
-abbrev pub sizes : (m k n : ℕ) → Sizes
-sizes m k n = record { rows = m; inner = k; columns = n }
+abbrev pub shape : (m k n : ℕ) → Shape
+shape m k n = record { rows = m; inner = k; columns = n }
 
 -- the same with m rows
-abbrev pub withRows : ℕ → Sizes → Sizes
-withRows m s = sizes m (s .inner) (s .columns)
+abbrev pub withRows : ℕ → Shape → Shape
+withRows m s = shape m (s .inner) (s .columns)
 
 -- the m rows of n numbers at a place, as residues
 abbrev pub matrixAt : (p : ℕ) → List ℕ → Place → (m n : ℕ) → Matrix (residues p)
@@ -55,11 +56,11 @@ pub record Kept (p : ℕ) (xs ys : List ℕ) (X : Place) (m n : ℕ) : Type 0 wh
   pub below : Below p ys
 
 -- what a product of blocks asks: X in x, Y in y and Z in z, each at its place
-pub record Factors (p : ℕ) (s : Sizes) (x : List ℕ) (X : Place) (y : List ℕ) (Y : Place) (z : List ℕ) (Z : Place) : Type 0 where
+pub record Factors (p : ℕ) (s : Shape) (x : List ℕ) (X : Place) (y : List ℕ) (Y : Place) (z : List ℕ) (Z : Place) : Type 0 where
   pub positive : 0 < p
-  pub in-range : p ≤ 2147483647
-  pub inner : s .inner ≤ 64
-  pub columns : s .columns ≤ 64
+  pub in-range : p ≤ largestModulus
+  pub inner : s .inner ≤ longestRow
+  pub columns : s .columns ≤ longestRow
   pub left : Block x X (s .rows) (s .inner)
   pub right : Block y Y (s .inner) (s .columns)
   pub target : Block z Z (s .rows) (s .columns)
@@ -68,20 +69,30 @@ pub record Factors (p : ℕ) (s : Sizes) (x : List ℕ) (X : Place) (y : List �
   pub below : Below p z
 
 -- Z has become Z + X Y
-pub record Multiplied (p : ℕ) (s : Sizes) (x : List ℕ) (X : Place) (y : List ℕ) (Y : Place) (z z′ : List ℕ) (Z : Place) : Type 0 where
+pub record Multiplied (p : ℕ) (s : Shape) (x : List ℕ) (X : Place) (y : List ℕ) (Y : Place) (z z′ : List ℕ) (Z : Place) : Type 0 where
   pub kept : Kept p z z′ Z (s .rows) (s .columns)
   pub result :
       matrixAt p z′ Z (s .rows) (s .columns)
       ≡ add (residues p) (matrixAt p z Z (s .rows) (s .columns))
       (product (residues p) (s .inner) (matrixAt p x X (s .rows) (s .inner)) (matrixAt p y Y (s .inner) (s .columns)))
 
+-- each number of xs has become its negative
+pub record Negated (p : ℕ) (xs ys : List ℕ) : Type 0 where
+  pub same-length : length ys ≡ length xs
+  pub below : Below p ys
+  pub each : (j : ℕ) → j < length xs → reduce p (getD ys j 0) ≡ negated (reduce p (getD xs j 0))
+
+-- the k numbers of xs from the place on are 0
+abbrev pub ZerosAt : List ℕ → (at k : ℕ) → Type 0
+ZerosAt xs at k = (t : ℕ) → t < k → getD xs (at + t) 0 ≡ 0
+
 -- marks of k rows of n numbers: where one is 0 the row is zeros
 pub record Used (k n : ℕ) (y : List ℕ) (Y : Place) (marks : List ℕ) : Type 0 where
   pub long : k ≤ length marks
-  pub zeros : (t : ℕ) → t < k → getD marks t 0 ≡ 0 → (j : ℕ) → j < n → getD y (Y .start + t * Y .stride + j) 0 ≡ 0
+  pub zeros : (t : ℕ) → t < k → getD marks t 0 ≡ 0 → ZerosAt y (Y .start + t * Y .stride) n
 
 -- what a product asks where X lies in the memory of Z, from `start` on: in other columns, and with marks of its rows
-pub record Within (p : ℕ) (s : Sizes) (marks : List ℕ) (start : ℕ) (y : List ℕ) (Y : Place) (z : List ℕ) (Z : Place) : Type 0 where
+pub record FactorsWithin (p : ℕ) (s : Shape) (marks : List ℕ) (start : ℕ) (y : List ℕ) (Y : Place) (z : List ℕ) (Z : Place) : Type 0 where
   pub factors : Factors p s z (place start (Z .stride)) y Y z Z
   pub other-columns : (j l : ℕ) → j < s .inner → l < s .columns → start + j ≡ Z .start + l → ⊥
   pub left-fits : start + s .inner ≤ Z .stride

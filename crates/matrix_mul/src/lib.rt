@@ -1,13 +1,15 @@
-// Products of blocks of residues, row by row through field's combination of rows.
+// Sums of rows and products of blocks of residues: a product goes row by row through a combination of rows. Leaves for the crates
+// above, which meet what each requires.
 ghost use mathlib.Core.Path.{_≡_};
-ghost use Prim.Native.Nat.{ℕ, _+_, _≤_, _<_};
-ghost use lib.ListN.{length, getD};
-ghost use Rattle.algebra.specs.Answers.{Tells};
-ghost use Rattle.field.specs.Residue.{reduce, negated};
-ghost use Rattle.words.specs.Words.{Below, Blank, Zeros};
-ghost use Rattle.field.specs.Four.{Passes};
-ghost use Rattle.matrix_mul.specs.Places.{place, sizes, Factors, Multiplied, Within, Listed};
-ghost use Rattle.words.specs.Words.{Copied};
+ghost use Prim.Native.Nat.{_≤_, _<_};
+ghost use lib.ListN.{length};
+ghost use Rattle.field.specs.Residue.{largestModulus};
+ghost use Rattle.words.specs.Lengths.{longestRow};
+ghost use Rattle.words.specs.Words.{Below};
+ghost use Rattle.matrix_mul.specs.Rows.{Passes};
+ghost use Rattle.matrix_mul.specs.Places.{place, shape, Negated, Factors, Multiplied, ZerosAt, FactorsWithin, Listed};
+
+pub mod rows;
 
 // Where a block of numbers begins, and how far the starts of its rows are apart.
 pub struct Place {
@@ -16,7 +18,7 @@ pub struct Place {
 }
 
 // The sizes of a product X Y: X has `rows` rows and `inner` columns, Y has `inner` rows and `columns` columns.
-pub struct Sizes {
+pub struct Shape {
     pub rows: usize,
     pub inner: usize,
     pub columns: usize,
@@ -24,8 +26,8 @@ pub struct Sizes {
 
 // Makes each number its negative modulo p.
 pub fn negate(p: u32, xs: &mut [u32])
-    requires { ⌜ (0 < p) × (p ≤ 2147483647) × Below p (now xs) ⌝ }
-    ensures { λ _. ⌜ (length (now (xs .exit)) ≡ length (now (xs .entry))) × Below p (now (xs .exit)) × ((j : ℕ) → j < length (now (xs .entry)) → reduce p (getD (now (xs .exit)) j 0) ≡ negated (reduce p (getD (now (xs .entry)) j 0))) ⌝ }
+    requires { ⌜ (0 < p) × (p ≤ largestModulus) × Below p (now xs) ⌝ }
+    ensures { λ _. ⌜ Negated p (now (xs .entry)) (now (xs .exit)) ⌝ }
 {
     let mut j = 0;
     while j < xs.len() {
@@ -36,7 +38,7 @@ pub fn negate(p: u32, xs: &mut [u32])
 
 // Leads from each row to the next one that is marked, or to the end.
 pub fn list_marked(marks: &[u32], next: &mut [u32])
-    requires { ⌜ (length (now marks) ≤ 64) × (length (now marks) ≤ length (now next)) ⌝ }
+    requires { ⌜ (length (now marks) ≤ longestRow) × (length (now marks) ≤ length (now next)) ⌝ }
     ensures { λ _. ⌜ (length (now (next .exit)) ≡ length (now (next .entry))) × Listed (now (marks .entry)) (now (next .exit)) ⌝ }
 {
     let mut later = marks.len();
@@ -64,8 +66,8 @@ fn add_row(
     z: &mut [u32],
     z_at: usize,
 )
-    requires { ⌜ Factors p (sizes 1 k n) (now x) (place «x_at» k) (now y) right (now z) (place «z_at» n) × Passes k (now next) (right .start) (right .stride) n (now y) ⌝ }
-    ensures { λ _. ⌜ Multiplied p (sizes 1 k n) (now (x .entry)) (place «x_at» k) (now (y .entry)) right (now (z .entry)) (now (z .exit)) (place «z_at» n) ⌝ }
+    requires { ⌜ Factors p (shape 1 k n) (now x) (place «x_at» k) (now y) right (now z) (place «z_at» n) × Passes k (now next) right n (now y) ⌝ }
+    ensures { λ _. ⌜ Multiplied p (shape 1 k n) (now (x .entry)) (place «x_at» k) (now (y .entry)) right (now (z .entry)) (now (z .exit)) (place «z_at» n) ⌝ }
 {
     let x_end = x_at + k;
     let by = &x[x_at..x_end];
@@ -73,22 +75,14 @@ fn add_row(
         return;
     }
     let z_end = z_at + n;
-    field::sums::combine_listed(
-        p,
-        by,
-        next,
-        y,
-        right.start,
-        right.stride,
-        &mut z[z_at..z_end],
-    );
+    rows::combine_listed(p, by, next, y, right, &mut z[z_at..z_end]);
 }
 
 // Z + X Y for Z, where X, Y and Z lie in different memory, at the places `left`, `right` and `target`; the list leads over rows
 // of Y that are zeros.
 pub fn add_product(
     p: u32,
-    size: Sizes,
+    size: Shape,
     x: &[u32],
     left: Place,
     next: &[u32],
@@ -97,7 +91,7 @@ pub fn add_product(
     z: &mut [u32],
     target: Place,
 )
-    requires { ⌜ Factors p size (now x) left (now y) right (now z) target × Passes (size .inner) (now next) (right .start) (right .stride) (size .columns) (now y) ⌝ }
+    requires { ⌜ Factors p size (now x) left (now y) right (now z) target × Passes (size .inner) (now next) right (size .columns) (now y) ⌝ }
     ensures { λ _. ⌜ Multiplied p size (now (x .entry)) left (now (y .entry)) right (now (z .entry)) (now (z .exit)) target ⌝ }
 {
     let m = size.rows;
@@ -134,8 +128,9 @@ fn add_row_within(
     z: &mut [u32],
     z_at: usize,
 )
-    requires { ⌜ Factors p (sizes 1 k n) (now z) (place «x_at» k) (now y) right (now z) (place «z_at» n) × Passes k (now next) (right .start) (right .stride) n (now y) × (mark ≡ 0 → (t : ℕ) → t < k → getD (now z) («x_at» + t) 0 ≡ 0) ⌝ }
-    ensures { λ _. ⌜ Multiplied p (sizes 1 k n) (now (z .entry)) (place «x_at» k) (now (y .entry)) right (now (z .entry)) (now (z .exit)) (place «z_at» n) ⌝ }
+    requires { ⌜ Factors p (shape 1 k n) (now z) (place «x_at» k) (now y) right (now z) (place «z_at» n)
+        × Passes k (now next) right n (now y) × (mark ≡ 0 → ZerosAt (now z) «x_at» k) ⌝ }
+    ensures { λ _. ⌜ Multiplied p (shape 1 k n) (now (z .entry)) (place «x_at» k) (now (y .entry)) right (now (z .entry)) (now (z .exit)) (place «z_at» n) ⌝ }
 {
     if mark == 0 {
         return;
@@ -149,7 +144,7 @@ fn add_row_within(
 // rows of X whose marks are 0 are zeros.
 pub fn add_product_within(
     p: u32,
-    size: Sizes,
+    size: Shape,
     marks: &[u32],
     x_start: usize,
     y: &[u32],
@@ -157,10 +152,10 @@ pub fn add_product_within(
     z: &mut [u32],
     target: Place,
 )
-    requires { ⌜ Within p size (now marks) «x_start» (now y) right (now z) target ⌝ }
+    requires { ⌜ FactorsWithin p size (now marks) «x_start» (now y) right (now z) target ⌝ }
     ensures { λ _. ⌜ Multiplied p size (now (z .entry)) (place «x_start» (target .stride)) (now (y .entry)) right (now (z .entry)) (now (z .exit)) target ⌝ }
 {
-    let next = field::sums::each_row();
+    let next = rows::each_row();
     let m = size.rows;
     let mut i = 0;
     while i < m {

@@ -26,6 +26,14 @@ pub record Copied (xs : List ℕ) (start n : ℕ) (zs zs′ : List ℕ) : Type 0
   pub front : (j : ℕ) → j < n → getD zs′ j 0 ≡ getD xs (start + j) 0
   pub rest : (j : ℕ) → n ≤ j → getD zs′ j 0 ≡ getD zs j 0
 
+-- after has the numbers of xs from the place on, and the numbers of before in front of them and behind them
+abbrev pub PutAt : (xs : List ℕ) (at : ℕ) (before after : List ℕ) → Type 0
+PutAt xs at before after =
+    (length after ≡ length before)
+    × ((j : ℕ) → j < length xs → getD after (at + j) 0 ≡ getD xs j 0)
+    × ((q : ℕ) → q < at → getD after q 0 ≡ getD before q 0)
+    × ((q : ℕ) → at + length xs ≤ q → getD after q 0 ≡ getD before q 0)
+
 -- r is the first place where two lists of one length differ, or their length
 pub record FirstDifference (xs ys : List ℕ) (r : ℕ) : Type 0 where
   pub within : r ≤ length xs

@@ -4,34 +4,44 @@ ghost use mathlib.Core.Path.{_≡_};
 ghost use Prim.Native.Nat.{ℕ, _+_, _≤_, _<_};
 ghost use lib.ListN.{length, getD};
 ghost use Rattle.algebra.specs.Answers.{Tells};
-ghost use Rattle.words.specs.Words.{Below, Blank, Zeros, AllMarked, Copied, FirstDifference};
+ghost use Rattle.words.specs.Lengths.{longestRow, largestTable, halfTable, quarterTable};
+ghost use Rattle.words.specs.Words.{Below, Blank, Zeros, AllMarked, Copied, PutAt, FirstDifference};
 
-// 64 zeros: room for the longest row or column.
-pub fn row_room() -> [u32; 64]
-    ensures { λ r. ⌜ Zeros 64 r ⌝ }
+// The numbers of the longest row or column, and of the largest table; of half its rows, and of half the columns of these.
+pub const ROW: usize = 64;
+
+pub const TABLE: usize = 4096;
+
+pub const HALF: usize = 2048;
+
+pub const QUARTER: usize = 1024;
+
+// Zeros: room for the longest row or column.
+pub fn row_room() -> [u32; ROW]
+    ensures { λ r. ⌜ Zeros longestRow r ⌝ }
 {
-    [0u32; 64]
+    [0u32; ROW]
 }
 
-// 4,096 zeros: room for the largest table.
-pub fn table_room() -> [u32; 4096]
-    ensures { λ r. ⌜ Zeros 4096 r ⌝ }
+// Room for the largest table.
+pub fn table_room() -> [u32; TABLE]
+    ensures { λ r. ⌜ Zeros largestTable r ⌝ }
 {
-    [0u32; 4096]
+    [0u32; TABLE]
 }
 
-// 2,048 zeros: room for half the rows of the largest table.
-pub fn half_table() -> [u32; 2048]
-    ensures { λ r. ⌜ Zeros 2048 r ⌝ }
+// Room for half the rows of the largest table.
+pub fn half_table() -> [u32; HALF]
+    ensures { λ r. ⌜ Zeros halfTable r ⌝ }
 {
-    [0u32; 2048]
+    [0u32; HALF]
 }
 
-// 1,024 zeros: room for a quarter of the largest table.
-pub fn quarter_table() -> [u32; 1024]
-    ensures { λ r. ⌜ Zeros 1024 r ⌝ }
+// Room for a quarter of the largest table: half its rows, and half the columns of these.
+pub fn quarter_table() -> [u32; QUARTER]
+    ensures { λ r. ⌜ Zeros quarterTable r ⌝ }
 {
-    [0u32; 1024]
+    [0u32; QUARTER]
 }
 
 // Makes each number 0.
@@ -60,7 +70,7 @@ pub fn copy(xs: &[u32], start: usize, n: usize, zs: &mut [u32])
 // Writes the numbers of `xs` to `out` from the place on; the others stay.
 pub fn put(xs: &[u32], out: &mut [u32], at: usize)
     requires { ⌜ at + length (now xs) ≤ length (now out) ⌝ }
-    ensures { λ _. ⌜ (length (now (out .exit)) ≡ length (now (out .entry))) × ((j : ℕ) → j < length (now (xs .entry)) → getD (now (out .exit)) (at + j) 0 ≡ getD (now (xs .entry)) j 0) × ((q : ℕ) → q < at → getD (now (out .exit)) q 0 ≡ getD (now (out .entry)) q 0) × ((q : ℕ) → at + length (now (xs .entry)) ≤ q → getD (now (out .exit)) q 0 ≡ getD (now (out .entry)) q 0) ⌝ }
+    ensures { λ _. ⌜ PutAt (now (xs .entry)) at (now (out .entry)) (now (out .exit)) ⌝ }
 {
     let mut j = 0;
     while j < xs.len() {

@@ -4,7 +4,7 @@ use mathlib.Core.Path.{_≡_, sym, ap, _∙_}
 use Prim.Native.Nat.{_+_, _*_, _-_, _≤_}
 use native.Mathlib.Omega.{arith}
 use lib.ListN.{length, getD}
-use Rattle.field.proofs.Four.{each-passes}
+use Rattle.matrix_mul.proofs.RowsTaken.{each-passes}
 use Rattle.matrix_mul.specs.Places.{place, withRows, Multiplied}
 use Rattle.matrix_mul.proofs.Places.{kept-at}
 use Rattle.matrix_mul.proofs.PlaceRows.{multiplied-none, multiplied-row, multiplied-left, factors-row, row-kept-elsewhere}
@@ -57,7 +57,7 @@ add-z-at : tie.Need-add-z-at Inv-loop μ-loop
 add-z-at c = omega (arith, in-z (c .before .before .before .before))
 
 slice-aggregate-add-row-within : tie.Need-slice-aggregate-add-row-within Inv-loop μ-loop
-slice-aggregate-add-row-within c = sym (c .before .before .before .before .before .before .before .each-row .ensures .0)
+slice-aggregate-add-row-within c = sym (c .before .before .before .before .before .before .before .each-row .ensures .long)
 
 add-row-within-requires : tie.Need-add-row-within-requires Inv-loop μ-loop
 add-row-within-requires c κs =
@@ -68,7 +68,7 @@ add-row-within-requires c κs =
     let kept = l .inv .1 .kept in
     let turn = i .loop-test .taken in (
       factors-row (kept .same-length) (kept .below) (kept .same-length) (kept .below) turn (s .pre .factors),
-      each-passes _ _ _ _ _ _ (s .pre .factors .inner) (e .0) (e .1),
+      each-passes (s .pre .factors .inner) e,
       λ m t h.
           let here : s .args .x-start + l .i * s .args .target .stride + t ≡ s .args .x-start + t + l .i * s .args .target .stride = omega arith in
           ap (λ q. getD (l .z) q 0) here

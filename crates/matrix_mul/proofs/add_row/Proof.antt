@@ -60,7 +60,7 @@ returns-2 c =
     let s = c .before .before .before .before .before .before .before .before .before .before .before in
     row-combined (s .pre .0) (is-part (row-fits (s .pre .0 .left))) (is-part (row-fits (s .pre .0 .target)))
     (add-sub-cancel-left (s .args .z-at) (s .args .n))
-    (c .before .before .combine-listed .last .1 .1 .1 .1 .1 .1 .0)
+    (c .before .before .combine-listed .last .1 .1 .1 .1 .1 .0)
     (c .before .before .combine-listed .ensures .0)
     (c .before .before .combine-listed .ensures .1)
 

@@ -73,11 +73,12 @@ returns : tie.Need-returns Inv-loop μ-loop
 unfolding opposite
 returns c =
     let l = c .before .loop in
-    let s = c .before .before .before in (
-      l .inv .1 .long,
-      λ i h. below-of-value (s .pre .0) (negated (reduce (s .args .p) (getD (s .args .xs .now) i 0))) (l .inv .1 .passed i (omega arith)),
-      λ j h. reduce-of-value _ (l .inv .1 .passed j (omega arith)),
-    )
+    let s = c .before .before .before in
+    record {
+      same-length = l .inv .1 .long;
+      below = λ i h. below-of-value (s .pre .0) (negated (reduce (s .args .p) (getD (s .args .xs .now) i 0))) (l .inv .1 .passed i (omega arith));
+      each = λ j h. reduce-of-value _ (l .inv .1 .passed j (omega arith));
+    }
 
 pub negate-spec : {M : Type 1} → statement M
 negate-spec =

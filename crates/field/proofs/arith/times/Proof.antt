@@ -4,15 +4,15 @@ use Prim.Native.Nat.{_≤_, _*_}
 use native.Mathlib.Nat.{mul-le-mul, mod-lt}
 use native.Mathlib.Omega.{arith}
 use mathlib.Core.Path.{ap}
-use Rattle.field.specs.Residue.{Residue, reduce}
+use Rattle.field.specs.Residue.{largestModulus, Residue, reduce}
 use Rattle.field.proofs.Residues.{reduce-times}
 use Rattle.field.proofs.arith.times.Statement.{statement}
 use Rattle.field.proofs.arith.times.Tie as tie
 
 mul-result : tie.Need-mul-result
 mul-result c =
-    let l : c .args .a ≤ 2147483647 = omega arith in
-    let r : c .args .b ≤ 2147483647 = omega arith in
+    let l : c .args .a ≤ largestModulus = omega arith in
+    let r : c .args .b ≤ largestModulus = omega arith in
     omega (arith, mul-le-mul l r)
 
 rem-result : tie.Need-rem-result

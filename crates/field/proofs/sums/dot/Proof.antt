@@ -1,4 +1,4 @@
--- `field::sums::dot` meets its contract. The loop's invariant: the two sums hold the halves of the first t products, whose sum
+-- `field::sums::dot` meets its contract. The loop's invariant: the two sums hold the limbs of the first t products, whose sum
 -- is the total in ℕ. What is left at the end is that the residue of the total is the ring's sum of products.
 use mathlib.Core.Path.{_≡_, ap, _∙_}
 use Prim.Native.Nat.{_+_, _*_, _-_, _≤_, _<_}
@@ -6,9 +6,9 @@ use native.Mathlib.Omega.{arith}
 use lib.ListN.{length}
 use borrow.Author.Needs.{needs}
 use Rattle.field.specs.Residue.{reduce}
-use Rattle.field.specs.Halves.{low, high}
+use Rattle.field.specs.Limbs.{low, high}
 use Rattle.field.proofs.Totals.{total, total-zero, total-more, products, reduce-products}
-use Rattle.field.proofs.Halves.{Sums, sums-none, sums-more, sums-room-low, sums-room-high, product-fits, low-fits, high-fits}
+use Rattle.field.proofs.Limbs.{Sums, sums-none, sums-more, sums-low-fits, sums-high-fits, product-fits, low-fits, high-fits}
 use Rattle.field.proofs.sums.dot.Statement.{statement}
 use Rattle.field.proofs.sums.dot.Tie as tie
 
@@ -32,7 +32,10 @@ cast-x : tie.Need-cast-x Inv-loop μ-loop
 cast-x c = omega (arith, c .shared-slice-known3 .given (c .before .before .loop .t))
 
 -- the place of the column that is read in a turn is in the table
-reaches : (c : tie.In-loop Inv-loop μ-loop) → c .before .before .before .before .args .start + c .before .loop .t * c .before .before .before .before .args .step < length (c .before .before .before .before .args .table .now)
+reaches :
+    (c : tie.In-loop Inv-loop μ-loop) →
+    let a = c .before .before .before .before .args in
+    a .start + c .before .loop .t * a .step < length (a .table .now)
 reaches c = c .before .before .before .before .pre .2 (c .before .loop .t) (c .loop-test .taken)
 
 mul-x-2 : tie.Need-mul-x-2 Inv-loop μ-loop
@@ -62,13 +65,13 @@ add-lo : tie.Need-add-lo Inv-loop μ-loop
 unfolding low
 add-lo c =
     let l = c .before .before .before .loop in
-    low-fits (l .lo) _ (sums-room-low (l .t) (l .lo) (l .hi) _ (omega arith) (l .inv .1))
+    low-fits (l .lo) _ (sums-low-fits (l .t) (l .lo) (l .hi) _ (omega arith) (l .inv .1))
 
 add-hi : tie.Need-add-hi Inv-loop μ-loop
 unfolding high
 add-hi c =
     let l = c .before .before .before .loop in
-    high-fits (l .hi) _ (sums-room-high (l .t) (l .lo) (l .hi) _ (omega arith) (l .inv .1)) (mul-x-4 c)
+    high-fits (l .hi) _ (sums-high-fits (l .t) (l .lo) (l .hi) _ (omega arith) (l .inv .1)) (mul-x-4 c)
 
 add-t : tie.Need-add-t Inv-loop μ-loop
 add-t c = omega arith
@@ -85,7 +88,7 @@ loop-again c =
 reduced-requires : tie.Need-reduced-requires Inv-loop μ-loop
 reduced-requires c κs =
     let l = c .before .loop in
-    (c .before .before .before .before .pre .0, sums-room-high (l .t) (l .lo) (l .hi) _ (omega arith) (l .inv .1))
+    (c .before .before .before .before .pre .0, sums-high-fits (l .t) (l .lo) (l .hi) _ (omega arith) (l .inv .1))
 
 returns : tie.Need-returns Inv-loop μ-loop
 returns c =

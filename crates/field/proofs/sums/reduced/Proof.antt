@@ -1,10 +1,10 @@
--- `field::sums::reduced` meets its contract: the high half is reduced first, so that the number put together again has 64 bits.
+-- `field::sums::reduced` meets its contract: the high limb is reduced first, so that the number put together again has 64 bits.
 use borrow.Author.Needs.{needs}
 use Prim.Native.Nat.{_+_, _/_}
 use native.Mathlib.Omega.{arith}
 use Rattle.field.specs.Residue.{reduce}
-use Rattle.field.specs.Halves.{low, high}
-use Rattle.field.proofs.Halves.{high-fits, mod-fits, joined-fits, joined-mod}
+use Rattle.field.specs.Limbs.{limbBase, low, high}
+use Rattle.field.proofs.Limbs.{high-fits, mod-fits, joined-fits, joined-mod}
 use Rattle.field.proofs.sums.reduced.Statement.{statement}
 use Rattle.field.proofs.sums.reduced.Tie as tie
 
@@ -16,7 +16,7 @@ rem-top : tie.Need-rem-top
 rem-top c = search needs
 
 mul-result : tie.Need-mul-result
-mul-result c = omega (arith, mod-fits (c .args .p) (c .args .hi + c .args .lo / 4294967296) (c .pre .0) (c .fits .p))
+mul-result c = omega (arith, mod-fits (c .args .p) (c .args .hi + c .args .lo / limbBase) (c .pre .0) (c .fits .p))
 
 add-result : tie.Need-add-result
 unfolding low high

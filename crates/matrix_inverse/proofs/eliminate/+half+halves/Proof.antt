@@ -9,11 +9,13 @@ use lib.ListN.{length}
 use borrow.Author.Needs.{needs}
 use borrow.Fn.Kinds.{In}
 use borrow.Fn.PlainCycle.{Measures, is, falls, and}
+use Rattle.words.specs.Lengths.{longestRow}
 use Rattle.matrix_mul.specs.Places.{place, Used}
 use Rattle.matrix_inverse.specs.Steps.{split, Halves}
 use Rattle.matrix_inverse.proofs.ElimMarks.{fresh-long}
 use Rattle.matrix_inverse.proofs.ElimColumns.{fresh-columns, columns-joined, marked-used, used-kept}
-use Rattle.matrix_inverse.proofs.ElimHalves.{Splits, halved, cut, upper-size, lower-size, upper-inside, upper-call, lower-long, lower-below, rows-whole, between, reduced-inside, lower-call, after, joined-halves}
+use Rattle.matrix_inverse.proofs.ElimHalves.{Splits, halved, cut, upper-size, lower-size, upper-inside, upper-call, lower-long, lower-below, rows-whole}
+use Rattle.matrix_inverse.proofs.ElimHalves.{between, reduced-inside, lower-call, after, joined-halves}
 use Rattle.matrix_inverse.proofs.eliminate.half.Reads as half
 use Rattle.matrix_inverse.proofs.eliminate.half.Kinds as half-kinds
 use Rattle.matrix_inverse.proofs.eliminate.+half+halves.Lts-half as half-lts
@@ -106,6 +108,10 @@ module _ (t : ℕ) where
   abbrev rooms-of : halves-lts.After-reduce-rows (halves-claims t) (halves-at t) halves.Post → halves-lts.After-half-table (halves-claims t) (halves-at t) halves.Post
   rooms-of c = c .before .before .before .before .before
 
+  -- that place, from the one after the call for the lower rows
+  abbrev reduced-of : halves-lts.After-half2 (halves-claims t) (halves-at t) halves.Post → halves-lts.After-reduce-rows (halves-claims t) (halves-at t) halves.Post
+  reduced-of c = c .before .before .before .before .before .before
+
   splits : (s : halves-lts.Start (halves-claims t) (halves-at t) halves.Post) → Splits (s .args .m) (s .args .m / 2) (s .args .m - s .args .m / 2)
   splits s = halved (s .args .m) (s .pre .1 .0 .m-most)
 
@@ -139,7 +145,7 @@ module _ (t : ℕ) where
       (omega arith, (upper-call (s .pre .1 .0) (splits s), omega arith))
 
   -- its column marks, and that they tell which rows of E are zeros
-  upper-marks : (c : halves-lts.After-half (halves-claims t) (halves-at t) halves.Post) → length (c .half .result) ≡ 64
+  upper-marks : (c : halves-lts.After-half (halves-claims t) (halves-at t) halves.Post) → length (c .half .result) ≡ longestRow
   upper-marks c = c .half .ensures .columns-marked .same-length ∙ fresh-long
 
   upper-used : (c : halves-lts.After-half (halves-claims t) (halves-at t) halves.Post) →
@@ -203,12 +209,12 @@ module _ (t : ℕ) where
   -- the reduced lower rows
   add-middle : halves-lts.Need-add-middle (halves-claims t) (halves-at t) halves.Post
   add-middle c =
-      let s = c .before .before .before .before .before .before .before .before .before .before .before .before .before .before .before .before .before .before .before .before .before in
+      let s = start-of (upper-of (rooms-of (c .before .before))) in
       omega (arith, s .pre .1 .0 .fits, s .pre .1 .0 .stride-most)
 
   mul-end : halves-lts.Need-mul-end (halves-claims t) (halves-at t) halves.Post
   mul-end c =
-      let s = c .before .before .before .before .before .before .before .before .before .before .before .before .before .before .before .before .before .before .before .before .before in
+      let s = start-of (upper-of (rooms-of (c .before .before))) in
       omega (arith, lower-size (s .pre .1 .0) (splits s))
 
   array-share-prefix-c : halves-lts.Need-array-share-prefix-c (halves-claims t) (halves-at t) halves.Post
@@ -235,18 +241,18 @@ module _ (t : ℕ) where
 
   mul-half : halves-lts.Need-mul-half (halves-claims t) (halves-at t) halves.Post
   mul-half c =
-      let s = c .before .before .before .before .before .before .before .before .before .before .before .before .before .before .before .before .before .before .before .before .before .before .before in
+      let s = start-of (upper-of (rooms-of (c .before .before .before .before))) in
       omega (arith, splits s .upper-most)
 
   sub-half : halves-lts.Need-sub-half (halves-claims t) (halves-at t) halves.Post
   sub-half c =
-      let upper = c .before .before .before .before .before .before .before .before .before .before .before .before .before .before .before .before in
+      let upper = upper-of (rooms-of (c .before .before .before .before)) in
       let s = start-of upper in
       omega (arith, upper-inside (s .pre .1 .0) (splits s), rows-whole (s .pre .1 .0) (splits s) (upper .half .ensures))
 
   part-half-start : halves-lts.Need-part-half-start (halves-claims t) (halves-at t) halves.Post
   part-half-start c =
-      let upper = c .before .before .before .before .before .before .before .before .before .before .before .before .before .before .before .before in
+      let upper = upper-of (rooms-of (c .before .before .before .before)) in
       let s = start-of upper in
       omega (arith, upper-inside (s .pre .1 .0) (splits s), rows-whole (s .pre .1 .0) (splits s) (upper .half .ensures))
 
@@ -272,13 +278,13 @@ module _ (t : ℕ) where
   -- what the step after them asks of the memory
   module _ (lower : halves-lts.After-half2 (halves-claims t) (halves-at t) halves.Post) where
     joinable :
-        let reduced = lower .before .before .before .before .before .before in
+        let reduced = reduced-of lower in
         let s = start-of (upper-of (rooms-of reduced)) in
         Halves (s .args .p) (split (s .args .m / 2) (s .args .m - s .args .m / 2) (s .args .n)) (s .args .a .now)
         (lower .half2 .last .1 .1 .1 .1 .0) (place (s .args .at) (s .args .stride))
         (reduced .reduce-rows .last .1 .1 .1 .1 .1 .1 .1 .0) (reduced .reduce-rows .last .1 .1 .1 .1 .1 .1 .1 .1 .0)
     joinable =
-        let reduced = lower .before .before .before .before .before .before in
+        let reduced = reduced-of lower in
         let rooms = rooms-of reduced in
         let upper = upper-of rooms in
         let s = start-of upper in
@@ -296,7 +302,7 @@ module _ (t : ℕ) where
   slice-aggregate-join-halves-2 c = sym (joinable (c .before .before .before .before .before .before) .c-long)
 
   slice-aggregate-join-halves-3 : halves-lts.Need-slice-aggregate-join-halves-3 (halves-claims t) (halves-at t) halves.Post
-  slice-aggregate-join-halves-3 c = sym (upper-marks (c .before .before .before .before .before .before .before .before .before .before .before .before .before .before .before .before .before .before .before .before .before .before .before .before .before))
+  slice-aggregate-join-halves-3 c = sym (upper-marks (upper-of (rooms-of (reduced-of (c .before .before .before .before .before .before .before)))))
 
   slice-aggregate-join-halves-4 : halves-lts.Need-slice-aggregate-join-halves-4 (halves-claims t) (halves-at t) halves.Post
   slice-aggregate-join-halves-4 c = sym (c .before .before .before .before .before .before .before .before .half2 .ensures .columns-marked .same-length ∙ fresh-long)
@@ -304,7 +310,7 @@ module _ (t : ℕ) where
   join-halves-requires : halves-lts.Need-join-halves-requires (halves-claims t) (halves-at t) halves.Post
   join-halves-requires c κs =
       let lower = c .before .before .before .before .before .before .before .before .before in
-      let reduced = lower .before .before .before .before .before .before in
+      let reduced = reduced-of lower in
       let upper = upper-of (rooms-of reduced) in
       let s = start-of upper in
       let h = joinable lower in
@@ -322,7 +328,7 @@ module _ (t : ℕ) where
   returns c =
       let joined = c .before .before .before .before in
       let lower = joined .before .before .before .before .before .before .before .before .before .before in
-      let reduced = lower .before .before .before .before .before .before in
+      let reduced = reduced-of lower in
       let rooms = rooms-of reduced in
       let upper = upper-of rooms in
       let s = start-of upper in

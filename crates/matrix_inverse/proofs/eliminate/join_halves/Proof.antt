@@ -12,6 +12,13 @@ use Rattle.matrix_inverse.proofs.StepJoin.{lower-block, join-first, joi
 use Rattle.matrix_inverse.proofs.eliminate.join_halves.Statement.{statement}
 use Rattle.matrix_inverse.proofs.eliminate.join_halves.Tie as tie
 
+-- the function's entry, from the place after the first product; and that place, from the one after the second
+abbrev start-of : tie.After-negative-product → tie.Start
+start-of c = c .before .before .before .before .before .before .before .before .before .before .before .before .before .before .before
+
+abbrev negative-of : tie.After-add-product-within → tie.After-negative-product
+negative-of c = c .before .before .before .before .before
+
 add-middle : tie.Need-add-middle
 add-middle c = search needs
 
@@ -45,20 +52,20 @@ negative-product-requires c κs =
 add-product-within-requires : tie.Need-add-product-within-requires
 add-product-within-requires c κs =
     let negative = c .before .before .before .before in
-    let pre = negative .before .before .before .before .before .before .before .before .before .before .before .before .before .before .before .pre in
+    let pre = start-of negative .pre in
     let e = negative .negative-product .ensures in
     join-second (pre .halves) _ (e .same-length) (e .below) (pre .upper-used)
 
 add-marks-requires : tie.Need-add-marks-requires
 add-marks-requires c κs =
-    let pre = c .before .before .before .before .before .before .before .before .before .before .before .before .before .before .before .before .before .before .before .before .before .before .before .pre in
+    let pre = start-of (negative-of (c .before .before .before)) .pre in
     (pre .upper-used .long, pre .lower-used .long)
 
 add-product-within-requires-2 : tie.Need-add-product-within-requires-2
 add-product-within-requires-2 c κs =
     let within = c .before .before .before .before .before .before .before .before in
     let both = c .before .before .before .before .add-marks .ensures in
-    let pre = within .before .before .before .before .before .before .before .before .before .before .before .before .before .before .before .before .before .before .before .before .pre in
+    let pre = start-of (negative-of within) .pre in
     let e = within .add-product-within .ensures in
     join-third (pre .halves) (pre .t-below) _ (e .kept)
     (used-product (modulus-positive (pre .halves)) (lower-block (pre .halves)) e (pre .upper-used) (pre .lower-used)
@@ -78,7 +85,7 @@ returns : tie.Need-returns
 returns c =
     let first = c .before .before .before .before .before .before .before .before .before .before .before in
     let negative = c .before .before .before .before .before .before .before .before .before .before .before .before .before .before .before .before in
-    let pre = negative .before .before .before .before .before .before .before .before .before .before .before .before .before .before .before .pre in (
+    let pre = start-of negative .pre in (
       joined (pre .halves) (negative .negative-product .ensures) (first .add-product-within .ensures)
           (c .before .before .add-product-within2 .ensures),
       c .before .before .before .before .before .before .before .add-marks .ensures,

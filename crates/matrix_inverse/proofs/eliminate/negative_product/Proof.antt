@@ -67,13 +67,10 @@ same-length c = search needs
 returns : tie.Need-returns
 returns c =
     let cleared = c .before .before .before .before .before .before .before .before .before .before in
-    let e = c .before .before .negate .ensures in
     negative-product-done (cleared .before .before .before .before .before .before .pre .0) (cleared .clear .last .0) (cleared .clear .ensures .0) (cleared .clear .ensures .1)
     (c .before .before .negate .last .1 .0)
     (c .before .before .before .before .before .before .add-product .ensures)
-    (e .0)
-    (e .1)
-    (e .2)
+    (c .before .before .negate .ensures)
 
 pub negative-product-spec : {M : Type 1} → statement M
 negative-product-spec =

@@ -5,6 +5,7 @@ use native.Mathlib.Nat.{mul-le-mul, pos-of-ne-zero}
 use native.Mathlib.Omega.{arith}
 use lib.ListN.{length}
 use borrow.Author.Needs.{needs}
+use Rattle.words.specs.Lengths.{largestTable}
 use Rattle.matrix_inverse.proofs.ElimMarks.{room-fresh}
 use Rattle.matrix_inverse.proofs.RowOne.{nothing-chosen, row-zero, place-inside, one-chosen}
 use Rattle.matrix_inverse.proofs.eliminate.one_row.Statement.{statement}
@@ -43,13 +44,13 @@ place :
     (c : tie.After-inverse) →
     let s = c .before .before .before .before .before .before .before .before in
     let q = s .args .at + c .before .before .before .least-nonzero .result * s .args .stride in
-    (q < length (s .args .d .now)) × (q < 4096)
+    (q < length (s .args .d .now)) × (q < largestTable)
 place c =
     let s = c .before .before .before .before .before .before .before .before in
     let v = c .before .before .before .least-nonzero .result in
     let inside : v < s .args .n = omega (arith, s .pre .a-long) in
     let here = place-inside (s .args .n) (s .args .stride) (s .args .at) v inside (omega (arith, s .pre .fits)) in
-    let most : s .args .n * s .args .stride ≤ 64 * 64 = mul-le-mul (s .pre .n-most) (s .pre .stride-most) in
+    let most : s .args .n * s .args .stride ≤ largestTable = mul-le-mul (s .pre .n-most) (s .pre .stride-most) in
     (omega (arith, s .pre .d-long), omega arith)
 
 mul-d : tie.Need-mul-d

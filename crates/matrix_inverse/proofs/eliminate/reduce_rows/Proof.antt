@@ -4,7 +4,7 @@ use mathlib.Core.Path.{sym, _∙_}
 use native.Mathlib.Omega.{arith}
 use lib.Seq.{length-take-le}
 use borrow.Author.Needs.{needs}
-use Rattle.field.proofs.Four.{each-passes}
+use Rattle.matrix_mul.proofs.RowsTaken.{each-passes}
 use Rattle.matrix_mul.proofs.PlaceLists.{listed-passes}
 use Rattle.matrix_inverse.proofs.StepReduce.{half-room, reduce-first, reduce-second, reduced}
 use Rattle.matrix_inverse.proofs.eliminate.reduce_rows.Statement.{statement}
@@ -48,7 +48,7 @@ each-row-requires : tie.Need-each-row-requires
 each-row-requires c κs = search needs
 
 slice-aggregate-add-product : tie.Need-slice-aggregate-add-product
-slice-aggregate-add-product c = sym (c .before .before .each-row .ensures .0)
+slice-aggregate-add-product c = sym (c .before .before .each-row .ensures .long)
 
 add-product-requires : tie.Need-add-product-requires
 add-product-requires c κs =
@@ -56,7 +56,7 @@ add-product-requires c κs =
     let negative = c .before .before .before .before .before .before .before .before .before .before in
     let pre = negative .before .before .before .before .before .before .before .before .before .before .before .before .before .before .pre in (
       reduce-second pre (negative .negative-product .ensures) (c .before .before .before .before .before .before .copy .ensures),
-      each-passes _ _ _ _ _ _ (omega (arith, pre .halves .upper-most)) (each .0) (each .1),
+      each-passes (omega (arith, pre .halves .upper-most)) each,
     )
 
 same-length : tie.Need-same-length

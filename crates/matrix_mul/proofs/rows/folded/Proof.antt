@@ -1,11 +1,11 @@
--- `field::sums::folded` meets its contract: the parts of the number are put together with 2^32 and 2^64 modulo p.
+-- `matrix_mul::rows::folded` meets its contract: the parts of the number are put together with 2^32 and 2^64 modulo p.
 use borrow.Author.Needs.{needs}
 use Rattle.field.specs.Residue.{reduce}
-use Rattle.field.specs.Halves.{low, high}
-use Rattle.field.proofs.Halves.{high-fits, mod-fits}
-use Rattle.field.proofs.Powers.{high-fits-times, low-fits-times, two-fit-times, three-fit-times, folded-mod}
-use Rattle.field.proofs.sums.folded.Statement.{statement}
-use Rattle.field.proofs.sums.folded.Tie as tie
+use Rattle.field.specs.Limbs.{low, high}
+use Rattle.field.proofs.Limbs.{high-fits, mod-fits}
+use Rattle.matrix_mul.proofs.Powers.{high-fits-times, low-fits-times, two-fit-times, three-fit-times, folded-mod}
+use Rattle.matrix_mul.proofs.rows.folded.Statement.{statement}
+use Rattle.matrix_mul.proofs.rows.folded.Tie as tie
 
 add-top : tie.Need-add-top
 unfolding high

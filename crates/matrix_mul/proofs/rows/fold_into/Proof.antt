@@ -1,16 +1,16 @@
--- `field::sums::settle` meets its contract. The loop's invariant: the first j numbers have their sums added, the others as they were.
+-- `matrix_mul::rows::fold_into` meets its contract. The loop's invariant: the first j numbers have their sums added, the others as they were.
 use mathlib.Core.Path.{refl, ap, _∙_}
 use Prim.Native.Nat.{_*_, _-_, _%_, _≤_}
 use native.Mathlib.Omega.{arith}
 use lib.ListN.{length}
 use Rattle.field.specs.Residue.{reduce}
-use Rattle.field.specs.Halves.{wholeAt}
-use Rattle.field.specs.Four.{Powers, summedAt}
-use Rattle.field.proofs.Halves.{word-fits, whole-low}
-use Rattle.field.proofs.Four.{mod-short, quarter-product, one-fits}
+use Rattle.field.specs.Limbs.{limbBase}
+use Rattle.matrix_mul.specs.Rows.{Powers, wholeAt, summedAt}
+use Rattle.field.proofs.Limbs.{word-fits, whole-low}
+use Rattle.matrix_mul.proofs.RowsTaken.{mod-short, quarter-product, one-fits}
 use Rattle.words.proofs.Walk.{Walked, walked-none, walked-more}
-use Rattle.field.proofs.sums.settle.Statement.{statement}
-use Rattle.field.proofs.sums.settle.Tie as tie
+use Rattle.matrix_mul.proofs.rows.fold_into.Statement.{statement}
+use Rattle.matrix_mul.proofs.rows.fold_into.Tie as tie
 
 abbrev Inv-loop : tie.InvT-loop
 Inv-loop p lo hi out₀ once twice j₀ out j = (j ≤ length out₀) × Walked j (summedAt p (wholeAt lo hi) out₀) out₀ out
@@ -19,7 +19,10 @@ abbrev μ-loop : tie.MeasureT-loop
 μ-loop p lo hi out₀ once twice j₀ out j = length out₀ - j
 
 -- 2^32 and 2^64 modulo p
-powers : (c : tie.Start Inv-loop μ-loop) → Powers (c .args .p) (4294967296 % c .args .p) (4294967296 % c .args .p * (4294967296 % c .args .p) % c .args .p)
+powers :
+    (c : tie.Start Inv-loop μ-loop) →
+    let once = limbBase % c .args .p in
+    Powers (c .args .p) once (once * once % c .args .p)
 powers c =
     record {
       short-once = mod-short (c .args .p) _ (c .pre .0) (c .pre .1);
@@ -58,7 +61,7 @@ cast-folded c = omega (arith, c .slice-known2 .given (c .before .before .before 
 add-folded : tie.Need-add-folded Inv-loop μ-loop
 add-folded c =
     let j = c .before .before .before .loop .j in
-    word-fits _ _ (c .before .before .before .before .before .pre .2 .room-lo j (omega arith)) (c .slice-known2 .given j)
+    word-fits _ _ (c .before .before .before .before .before .pre .2 .fits-lo j (omega arith)) (c .slice-known2 .given j)
 
 mul-folded-3 : tie.Need-mul-folded-3 Inv-loop μ-loop
 mul-folded-3 c = omega arith
@@ -69,7 +72,7 @@ element-copy-out-folded-2 c = omega arith
 folded-requires : tie.Need-folded-requires Inv-loop μ-loop
 folded-requires c κs =
     let s = c .before .before .before .before .before .before in
-    (s .pre .0, powers s, s .pre .2 .room-hi (c .before .before .before .before .loop .j) (omega arith))
+    (s .pre .0, powers s, s .pre .2 .fits-hi (c .before .before .before .before .loop .j) (omega arith))
 
 mul-out : tie.Need-mul-out Inv-loop μ-loop
 mul-out c = omega arith
@@ -101,8 +104,8 @@ returns c =
     let l = c .before .loop in
     record { long = l .inv .1 .long; summed-at = λ j h. l .inv .1 .passed j (omega arith) }
 
-pub settle-spec : {M : Type 1} → statement M
-settle-spec =
+pub fold-into-spec : {M : Type 1} → statement M
+fold-into-spec =
     tie.close
     (tie.spec
     Inv-loop

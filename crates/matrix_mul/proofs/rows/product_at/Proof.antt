@@ -1,13 +1,13 @@
--- `field::sums::product_at` meets its contract: both factors are short, so that the product is a quarter of what 64 bits hold.
+-- `matrix_mul::rows::product_at` meets its contract: both factors are short, so that the product is a quarter of what 64 bits hold.
 use mathlib.Core.Path.{refl}
 use Prim.Native.Nat.{_+_, _*_}
 use borrow.Author.Needs.{needs}
 use native.Mathlib.Omega.{arith}
 use lib.ListN.{getD}
-use Rattle.field.specs.Four.{Quarter, productAt}
-use Rattle.field.proofs.Four.{quarter-product, one-fits}
-use Rattle.field.proofs.sums.product_at.Statement.{statement}
-use Rattle.field.proofs.sums.product_at.Tie as tie
+use Rattle.matrix_mul.specs.Rows.{Quarter, productAt}
+use Rattle.matrix_mul.proofs.RowsTaken.{quarter-product, one-fits}
+use Rattle.matrix_mul.proofs.rows.product_at.Statement.{statement}
+use Rattle.matrix_mul.proofs.rows.product_at.Tie as tie
 
 cast-result : tie.Need-cast-result
 cast-result c = search needs
@@ -27,7 +27,10 @@ cast-result-2 c =
     omega (arith, c .shared-slice-known .given (a .row .at + a .j))
 
 -- the product is a quarter of what 64 bits hold
-quarter : (c : tie.After-shared-slice-known) → Quarter (c .before .before .before .args .row .times * getD (c .before .before .before .args .table .now) (c .before .before .before .args .row .at + c .before .before .before .args .j) 0)
+quarter :
+    (c : tie.After-shared-slice-known) →
+    let a = c .before .before .before .args in
+    Quarter (a .row .times * getD (a .table .now) (a .row .at + a .j) 0)
 quarter c =
     let s = c .before .before .before in
     quarter-product (s .args .row .times) _ (s .pre .1 .short) (s .pre .0 (s .args .row .at + s .args .j))

@@ -1,14 +1,14 @@
--- `field::sums::four_at` meets its contract: each product is a quarter of what 64 bits hold less 2^32, so that the four together fit
+-- `matrix_mul::rows::four_at` meets its contract: each product is a quarter of what 64 bits hold less 2^32, so that the four together fit
 -- and leave room.
 use Prim.Native.Nat.{_+_}
 use borrow.Author.Needs.{needs}
 use native.Mathlib.Omega.{arith}
-use Rattle.field.specs.Halves.{Room}
-use Rattle.field.specs.Four.{fourAt}
-use Rattle.field.proofs.Halves.{room-fits}
-use Rattle.field.proofs.Four.{two-fit, three-fit, four-room}
-use Rattle.field.proofs.sums.four_at.Statement.{statement}
-use Rattle.field.proofs.sums.four_at.Tie as tie
+use Rattle.field.specs.Limbs.{LimbFits}
+use Rattle.matrix_mul.specs.Rows.{fourAt}
+use Rattle.field.proofs.Limbs.{number-fits}
+use Rattle.matrix_mul.proofs.RowsTaken.{two-fit, three-fit, four-fit}
+use Rattle.matrix_mul.proofs.rows.four_at.Statement.{statement}
+use Rattle.matrix_mul.proofs.rows.four_at.Tie as tie
 
 product-at-requires : tie.Need-product-at-requires
 product-at-requires c κs = search needs
@@ -30,13 +30,16 @@ product-at-requires-4 : tie.Need-product-at-requires-4
 product-at-requires-4 c κs = search needs
 
 -- the four together leave room for 2^32
-room : (c : tie.After-product-at4) → Room (c .before .before .before .product-at .result + c .before .before .product-at2 .result + c .before .product-at3 .result + c .product-at4 .result)
+room :
+    (c : tie.After-product-at4) →
+    let three = c .before .before .before .product-at .result + c .before .before .product-at2 .result + c .before .product-at3 .result in
+    LimbFits (three + c .product-at4 .result)
 room c =
-    four-room _ _ _ _ (c .before .before .before .product-at .ensures .1) (c .before .before .product-at2 .ensures .1)
+    four-fit _ _ _ _ (c .before .before .before .product-at .ensures .1) (c .before .before .product-at2 .ensures .1)
     (c .before .product-at3 .ensures .1) (c .product-at4 .ensures .1)
 
 add-result-3 : tie.Need-add-result-3
-add-result-3 c = room-fits _ (room c)
+add-result-3 c = number-fits _ (room c)
 
 returns : tie.Need-returns
 unfolding fourAt

@@ -1,18 +1,19 @@
--- `field::sums::each_row` meets its contract. The loop's invariant: the first t rows are followed by the next.
+-- `matrix_mul::rows::each_row` meets its contract. The loop's invariant: the first t rows are followed by the next.
 use mathlib.Core.Path.{_≡_, _∙_}
 use Prim.Native.Nat.{ℕ, _+_, _-_, _≤_, _<_}
 use native.Mathlib.Omega.{arith}
 use lib.ListN.{length, getD, length-set}
 use lib.Seq.{getD-set-same, getD-set-other}
+use Rattle.words.specs.Lengths.{longestRow}
 use borrow.Author.Count.{below-none, below-more}
-use Rattle.field.proofs.sums.each_row.Statement.{statement}
-use Rattle.field.proofs.sums.each_row.Tie as tie
+use Rattle.matrix_mul.proofs.rows.each_row.Statement.{statement}
+use Rattle.matrix_mul.proofs.rows.each_row.Tie as tie
 
 abbrev Inv-loop : tie.InvT-loop
-Inv-loop next₀ t₀ next t = (t ≤ 64) × (length next ≡ 64) × ((s : ℕ) → s < t → getD next s 0 ≡ s + 1)
+Inv-loop next₀ t₀ next t = (t ≤ longestRow) × (length next ≡ longestRow) × ((s : ℕ) → s < t → getD next s 0 ≡ s + 1)
 
 abbrev μ-loop : tie.MeasureT-loop
-μ-loop next₀ t₀ next t = 64 - t
+μ-loop next₀ t₀ next t = longestRow - t
 
 row-room-requires : tie.Need-row-room-requires Inv-loop μ-loop
 row-room-requires c κs = tt
@@ -51,7 +52,7 @@ loop-again c =
 returns : tie.Need-returns Inv-loop μ-loop
 returns c =
     let l = c .before .loop in
-    (l .inv .1, λ s h. l .inv .2 s (omega arith))
+    record { long = l .inv .1; one-on = λ s h. l .inv .2 s (omega arith) }
 
 pub each-row-spec : {M : Type 1} → statement M
 each-row-spec =

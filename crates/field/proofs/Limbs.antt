@@ -1,23 +1,24 @@
--- The laws of halves: adding the halves of a product apart adds the product, k halves stay within k times the largest half,
--- and so there is room for 4096 of them. `Within` is opened here alone, so that no invariant shows its large number.
+-- The laws of limbs: adding the limbs of a product apart adds the product, k limbs stay within k times the largest limb, and so
+-- 4096 of them fit. `Within` is opened here alone, so that no invariant shows its large number.
 use mathlib.Core.Path.{_≡_, refl, sym, ap, _∙_}
-use Prim.Native.Nat.{ℕ, zero, suc, _+_, _*_, _/_, _%_, _<_, _≤_}
+use Prim.Native.Nat.{ℕ, zero, suc, _+_, _*_, _-_, _/_, _%_, _<_, _≤_}
 use native.Mathlib.Nat.{mod-lt, mod-add-div, mod-add-mod, mul-le-mul}
 use native.Mathlib.Omega.{arith}
 use lib.ListN.{getD, replicate}
 use mir.Val.{Fits}
 use mir.Syntax.{w32, w64}
-use Rattle.field.specs.Halves.{low, high, whole, Room}
+use Rattle.words.specs.Lengths.{largestTable}
+use Rattle.field.specs.Limbs.{limbBase, low, high, whole, LimbFits}
 use Rattle.field.proofs.Residues.{mod-times}
 
 pub whole-zero : whole 0 0 ≡ 0
 unfolding whole
 whole-zero = refl
 
--- the halves of x added apart add x
+-- the limbs of x added apart add x
 pub whole-add : (lo hi x : ℕ) → whole (lo + low x) (hi + high x) ≡ whole lo hi + x
 unfolding low high whole
-whole-add lo hi x = omega (arith, mod-add-div x 4294967296)
+whole-add lo hi x = omega (arith, mod-add-div x limbBase)
 
 -- what is added to the low sum is added
 pub whole-low : (n m lo hi : ℕ) → n ≡ m → whole (lo + n) hi ≡ m + whole lo hi
@@ -27,31 +28,31 @@ whole-low n m lo hi e = omega arith
 -- the product of two numbers of 32 bits has 64
 pub product-fits : (a b : ℕ) → Fits w32 a → Fits w32 b → Fits w64 (a * b)
 product-fits a b f g =
-    let ha : a ≤ 4294967295 = omega arith in
-    let hb : b ≤ 4294967295 = omega arith in
+    let ha : a ≤ limbBase - 1 = omega arith in
+    let hb : b ≤ limbBase - 1 = omega arith in
     omega (arith, mul-le-mul ha hb)
 
--- where there is room, a half fits
-pub low-fits : (n x : ℕ) → Room n → Fits w64 (n + low x)
-unfolding Room low
+-- where one more limb fits, this one does
+pub low-fits : (n x : ℕ) → LimbFits n → Fits w64 (n + low x)
+unfolding LimbFits low
 low-fits n x r = omega arith
 
-pub high-fits : (n x : ℕ) → Room n → Fits w64 x → Fits w64 (n + high x)
-unfolding Room high
+pub high-fits : (n x : ℕ) → LimbFits n → Fits w64 x → Fits w64 (n + high x)
+unfolding LimbFits high
 high-fits n x r f = omega arith
 
-pub room-fits : (n : ℕ) → Room n → Fits w64 n
-unfolding Room
-room-fits n r = omega arith
+pub number-fits : (n : ℕ) → LimbFits n → Fits w64 n
+unfolding LimbFits
+number-fits n r = omega arith
 
 -- a number of 32 bits fits too
-pub word-fits : (n x : ℕ) → Room n → Fits w32 x → Fits w64 (n + x)
-unfolding Room
+pub word-fits : (n x : ℕ) → LimbFits n → Fits w32 x → Fits w64 (n + x)
+unfolding LimbFits
 word-fits n x r f = omega arith
 
--- n is no more than k times the largest half
+-- n is no more than k times the largest limb
 pub Within : ℕ → ℕ → Type 0
-Within k n = n ≤ k * 4294967295
+Within k n = n ≤ k * (limbBase - 1)
 
 pub within-zero : Within 0 0
 unfolding Within
@@ -65,9 +66,9 @@ pub within-high : (k n x : ℕ) → Within k n → Fits w64 x → Within (k + 1)
 unfolding Within high
 within-high k n x h f = omega arith
 
-pub within-room : (k n : ℕ) → k ≤ 4096 → Within k n → Room n
-unfolding Within Room
-within-room k n h w = omega arith
+pub within-fits : (k n : ℕ) → k ≤ largestTable → Within k n → LimbFits n
+unfolding Within LimbFits
+within-fits k n h w = omega arith
 
 pub within-more : (k m n : ℕ) → k ≤ m → Within k n → Within m n
 unfolding Within
@@ -77,27 +78,27 @@ within-more k m n h w = omega arith
 pub mod-fits : (p n : ℕ) → 0 < p → Fits w32 p → Fits w32 (n % p)
 mod-fits p n pos f = omega (arith, mod-lt n pos)
 
--- a high half reduced modulo p, put above a low half, has 64 bits
-pub joined-fits : (p h l : ℕ) → 0 < p → Fits w32 p → Fits w64 (h % p * 4294967296 + low l)
+-- a high limb reduced modulo p, put above a low limb, has 64 bits
+pub joined-fits : (p h l : ℕ) → 0 < p → Fits w32 p → Fits w64 (h % p * limbBase + low l)
 unfolding low
 joined-fits p h l pos f = omega (arith, mod-lt h pos)
 
 -- and is, modulo p, the number itself
-pub joined-mod : (p lo hi : ℕ) → ((hi + high lo) % p * 4294967296 + low lo) % p ≡ whole lo hi % p
+pub joined-mod : (p lo hi : ℕ) → ((hi + high lo) % p * limbBase + low lo) % p ≡ whole lo hi % p
 unfolding low high whole
 joined-mod p lo hi =
-    sym (mod-add-mod (top % p * 4294967296) p (lo % 4294967296))
-    ∙ ap (λ n. (n + lo % 4294967296) % p) (mod-times top 4294967296 p)
-    ∙ mod-add-mod (top * 4294967296) p (lo % 4294967296)
+    sym (mod-add-mod (top % p * limbBase) p (lo % limbBase))
+    ∙ ap (λ n. (n + lo % limbBase) % p) (mod-times top limbBase p)
+    ∙ mod-add-mod (top * limbBase) p (lo % limbBase)
     ∙ ap (λ n. n % p) same
   where
     top : ℕ
-    top = hi + lo / 4294967296
+    top = hi + lo / limbBase
 
-    same : top * 4294967296 + lo % 4294967296 ≡ lo + 4294967296 * hi
-    same = omega (arith, mod-add-div lo 4294967296)
+    same : top * limbBase + lo % limbBase ≡ lo + limbBase * hi
+    same = omega (arith, mod-add-div lo limbBase)
 
--- lo and hi are the sums of the halves of no more than k products, which together make v
+-- lo and hi are the sums of the limbs of no more than k products, which together make v
 pub record Sums (k lo hi v : ℕ) : Type 0 where
   pub low-within : Within k lo
   pub high-within : Within k hi
@@ -124,9 +125,9 @@ sums-widen k m lo hi v h s =
       same = s .same;
     }
 
--- there is room for 4096 products
-pub sums-room-low : (k lo hi v : ℕ) → k ≤ 4096 → Sums k lo hi v → Room lo
-sums-room-low k lo hi v h s = within-room k lo h (s .low-within)
+-- the limbs of 4096 products fit
+pub sums-low-fits : (k lo hi v : ℕ) → k ≤ largestTable → Sums k lo hi v → LimbFits lo
+sums-low-fits k lo hi v h s = within-fits k lo h (s .low-within)
 
-pub sums-room-high : (k lo hi v : ℕ) → k ≤ 4096 → Sums k lo hi v → Room hi
-sums-room-high k lo hi v h s = within-room k hi h (s .high-within)
+pub sums-high-fits : (k lo hi v : ℕ) → k ≤ largestTable → Sums k lo hi v → LimbFits hi
+sums-high-fits k lo hi v h s = within-fits k hi h (s .high-within)

@@ -1,31 +1,32 @@
 -- Three numbers that are put together with 2^32 and 2^64 modulo p: they have 64 bits, and are modulo p the number itself.
 use mathlib.Core.Path.{_≡_, refl, sym, ap, ap₂, _∙_}
-use Prim.Native.Nat.{ℕ, _+_, _*_, _/_, _%_, _^_, _≤_}
+use Prim.Native.Nat.{ℕ, _+_, _*_, _-_, _/_, _%_, _^_, _≤_}
 use native.Mathlib.Nat.{mod-add-div, mul-le-mul}
 use native.Mathlib.Omega.{arith}
 use mir.Val.{Fits}
 use mir.Syntax.{w64}
-use Rattle.field.specs.Halves.{low, high, whole}
-use Rattle.field.specs.Four.{Short, Powers}
+use Rattle.field.specs.Limbs.{limbBase, low, high, whole}
+use Rattle.field.specs.Residue.{largestModulus}
+use Rattle.matrix_mul.specs.Rows.{Short, Powers}
 use Rattle.field.proofs.Residues.{modular, mod-times, times-mod}
 
 -- two such numbers have 64 bits together, with room for 2^32
 pub Half : ℕ → Type 0
-Half n = 2 * n + 4294967296 ≤ 2 ^ 64
+Half n = 2 * n + limbBase ≤ 2 ^ 64
 
 -- a number of 32 bits times a short number
 half-low : (x r : ℕ) → Short r → Half (low x * r)
 unfolding Half Short low
 half-low x r s =
-    let h : x % 4294967296 ≤ 4294967295 = omega arith in
-    let k : r ≤ 2147483646 = omega arith in
+    let h : x % limbBase ≤ limbBase - 1 = omega arith in
+    let k : r ≤ largestModulus - 1 = omega arith in
     omega (arith, mul-le-mul h k)
 
 half-high : (x r : ℕ) → Fits w64 x → Short r → Half (high x * r)
 unfolding Half Short high
 half-high x r f s =
-    let h : x / 4294967296 ≤ 4294967295 = omega arith in
-    let k : r ≤ 2147483646 = omega arith in
+    let h : x / limbBase ≤ limbBase - 1 = omega arith in
+    let k : r ≤ largestModulus - 1 = omega arith in
     omega (arith, mul-le-mul h k)
 
 pub half-fits : (n : ℕ) → Half n → Fits w64 n
@@ -65,10 +66,14 @@ mod-powers p b r s x y z once twice =
     (ap (λ n. y * n % p) once ∙ times-mod y b p))
     refl
 
-pub folded-mod : (p once twice lo hi : ℕ) → Powers p once twice → (high (hi + high lo) * twice + low (hi + high lo) * once + low lo) % p ≡ whole lo hi % p
+pub folded-mod : (p once twice lo hi : ℕ) → Powers p once twice
+    → (high (hi + high lo) * twice + low (hi + high lo) * once + low lo) % p ≡ whole lo hi % p
 unfolding low high whole
 folded-mod p once twice lo hi powers =
-    mod-powers p 4294967296 once twice _ _ _ (powers .once) (powers .twice) ∙ ap (λ n. n % p) same
+    mod-powers p limbBase once twice _ _ _ (powers .once) (powers .twice) ∙ ap (λ n. n % p) same
   where
-    same : (hi + lo / 4294967296) / 4294967296 * (4294967296 * 4294967296) + (hi + lo / 4294967296) % 4294967296 * 4294967296 + lo % 4294967296 ≡ lo + 4294967296 * hi
-    same = omega (arith, mod-add-div lo 4294967296, mod-add-div (hi + lo / 4294967296) 4294967296)
+    top : ℕ
+    top = hi + lo / limbBase
+
+    same : top / limbBase * (limbBase * limbBase) + top % limbBase * limbBase + lo % limbBase ≡ lo + limbBase * hi
+    same = omega (arith, mod-add-div lo limbBase, mod-add-div top limbBase)

@@ -1,16 +1,16 @@
--- `field::sums::add_rows` meets its contract. The loop's invariant: both lists have the halves added at the first j places, and
+-- `matrix_mul::rows::add_rows` meets its contract. The loop's invariant: both lists have the limbs added at the first j places, and
 -- are at the others as they were.
 use mathlib.Core.List.{List}
 use Prim.Native.Nat.{ℕ, _+_, _-_, _≤_}
 use native.Mathlib.Omega.{arith}
 use lib.ListN.{getD}
-use Rattle.field.specs.Halves.{low, high}
-use Rattle.field.specs.Four.{fourAt}
-use Rattle.field.proofs.Halves.{low-fits, high-fits}
-use Rattle.field.proofs.Four.{inside-at}
+use Rattle.field.specs.Limbs.{low, high}
+use Rattle.matrix_mul.specs.Rows.{fourAt}
+use Rattle.field.proofs.Limbs.{low-fits, high-fits}
+use Rattle.matrix_mul.proofs.RowsTaken.{inside-at}
 use Rattle.words.proofs.Walk.{Walked, walked-none, walked-more}
-use Rattle.field.proofs.sums.add_rows.Statement.{statement}
-use Rattle.field.proofs.sums.add_rows.Tie as tie
+use Rattle.matrix_mul.proofs.rows.add_rows.Statement.{statement}
+use Rattle.matrix_mul.proofs.rows.add_rows.Tie as tie
 
 -- what add_rows leaves at a place
 with-low : (ℕ → ℕ) → List ℕ → ℕ → ℕ
@@ -30,16 +30,7 @@ loop-holds : tie.Need-loop-holds Inv-loop μ-loop
 loop-holds c = (omega arith, walked-none _ _, walked-none _ _)
 
 four-at-requires : tie.Need-four-at-requires Inv-loop μ-loop
-four-at-requires c κs =
-    let s = c .before .before .before in
-    let j = c .before .loop .j in
-    let l = c .loop-test .taken in (
-      s .pre .1,
-      inside-at _ j _ _ l (s .pre .2),
-      inside-at _ j _ _ l (s .pre .3),
-      inside-at _ j _ _ l (s .pre .4),
-      inside-at _ j _ _ l (s .pre .5),
-    )
+four-at-requires c κs = inside-at (c .loop-test .taken) (c .before .before .before .pre .1)
 
 mul-lo : tie.Need-mul-lo Inv-loop μ-loop
 mul-lo c = omega arith
@@ -51,7 +42,7 @@ add-lo : tie.Need-add-lo Inv-loop μ-loop
 unfolding low
 add-lo c =
     let l = c .before .before .before .loop in
-    low-fits _ _ (rw (l .inv .1 .left (l .j) (omega arith)) (c .before .before .before .before .before .pre .0 .room-lo (l .j) (omega arith)))
+    low-fits _ _ (rw (l .inv .1 .left (l .j) (omega arith)) (c .before .before .before .before .before .pre .0 .fits-lo (l .j) (omega arith)))
 
 element-write-lo : tie.Need-element-write-lo Inv-loop μ-loop
 element-write-lo c = omega arith
@@ -66,7 +57,7 @@ add-hi : tie.Need-add-hi Inv-loop μ-loop
 unfolding high
 add-hi c =
     let l = c .before .before .before .before .loop in
-    high-fits _ _ (rw (l .inv .2 .left (l .j) (omega arith)) (c .before .before .before .before .before .before .pre .0 .room-hi (l .j) (omega arith)))
+    high-fits _ _ (rw (l .inv .2 .left (l .j) (omega arith)) (c .before .before .before .before .before .before .pre .0 .fits-hi (l .j) (omega arith)))
     (record { fits = c .before .before .four-at .ok })
 
 element-write-hi : tie.Need-element-write-hi Inv-loop μ-loop

@@ -1,16 +1,16 @@
--- `field::sums::add_four` meets its contract. The loop's invariant: the first j numbers have the four products added, the others are
+-- `matrix_mul::rows::add_four` meets its contract. The loop's invariant: the first j numbers have the four products added, the others are
 -- as they were.
 use mathlib.Core.Path.{ap}
 use Prim.Native.Nat.{_-_, _%_, _<_, _≤_}
 use native.Mathlib.Omega.{arith}
 use lib.ListN.{length}
 use Rattle.field.specs.Residue.{reduce}
-use Rattle.field.specs.Four.{fourAt, summedAt}
-use Rattle.field.proofs.Halves.{word-fits, mod-fits}
-use Rattle.field.proofs.Four.{inside-at}
+use Rattle.matrix_mul.specs.Rows.{fourAt, summedAt}
+use Rattle.field.proofs.Limbs.{word-fits, mod-fits}
+use Rattle.matrix_mul.proofs.RowsTaken.{inside-at}
 use Rattle.words.proofs.Walk.{Walked, walked-none, walked-more}
-use Rattle.field.proofs.sums.add_four.Statement.{statement}
-use Rattle.field.proofs.sums.add_four.Tie as tie
+use Rattle.matrix_mul.proofs.rows.add_four.Statement.{statement}
+use Rattle.matrix_mul.proofs.rows.add_four.Tie as tie
 
 abbrev Inv-loop : tie.InvT-loop
 Inv-loop p table a b c d out₀ j₀ out j = (j ≤ length out₀) × Walked j (summedAt p (fourAt table a b c d) out₀) out₀ out
@@ -23,15 +23,7 @@ loop-holds c = (omega arith, walked-none _ _)
 
 four-at-requires : tie.Need-four-at-requires Inv-loop μ-loop
 four-at-requires c κs =
-    let s = c .before .before .before .before in
-    let j = c .before .loop .j in
-    let l : j < length (s .args .out .now) = omega (arith, c .before .loop .inv .1 .long, c .loop-test .taken) in (
-      s .pre .1,
-      inside-at _ j _ _ l (s .pre .2),
-      inside-at _ j _ _ l (s .pre .3),
-      inside-at _ j _ _ l (s .pre .4),
-      inside-at _ j _ _ l (s .pre .5),
-    )
+    inside-at (omega (arith, c .before .loop .inv .1 .long, c .loop-test .taken)) (c .before .before .before .before .pre .1)
 
 mul-x : tie.Need-mul-x Inv-loop μ-loop
 mul-x c = omega arith

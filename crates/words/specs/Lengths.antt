@@ -1,0 +1,20 @@
+-- How many numbers the rooms hold. 01: a table has up to 64 rows and up to 64 columns.
+use Prim.Native.Nat.{ℕ}
+
+-- the longest row or column
+abbrev pub longestRow : ℕ
+longestRow = 64
+
+-- half of that
+abbrev pub halfRows : ℕ
+halfRows = 32
+
+-- the largest table; half of its rows; half of the columns of these
+abbrev pub largestTable : ℕ
+largestTable = 4096
+
+abbrev pub halfTable : ℕ
+halfTable = 2048
+
+abbrev pub quarterTable : ℕ
+quarterTable = 1024
