@@ -18,10 +18,6 @@ use Rattle.algebra.proofs.Transpose.{transposed, mixed-transpose}
 
 module _ (R : Ring) (L : IsCommutativeRing R) where
   module _ {m n : ℕ} {A D : Matrix R} {I J : Marks} (Q : IsPivotInverse R m n A D I J) where
-    -- no member of I is beyond the columns
-    pub column-end : (c : ℕ) → n ≤ c → I c ≡ false
-    column-end c l = is-false (I c) (λ e. not-le-of-lt (Q .columns c e) l)
-
     -- no member of J is beyond the rows
     pub row-end : (y : ℕ) → m ≤ y → J y ≡ false
     row-end y l = is-false (J y) (λ e. not-le-of-lt (Q .rows y e) l)

@@ -5,6 +5,7 @@ use mathlib.Core.List.{List, [], _++_}
 use Prim.Native.Nat.{ℕ, zero, suc, _+_, _*_, _-_, _≤_, _<_}
 use native.Mathlib.Omega.{arith}
 use lib.ListN.{length, getD, replicate}
+use Rattle.checks.specs.Largest.{largest}
 use Rattle.algebra.specs.Choice.{choose}
 use Rattle.algebra.specs.Matrix.{Matrix}
 use Rattle.algebra.specs.Quasiinverse.{Marks, count}
@@ -39,7 +40,7 @@ module _ (n : ℕ) (I : Marks) (xs : List ℕ) (e : xs ≡ marksOf n I) where
   marks-at : (c : ℕ) → c < n → getD xs c 0 ≡ choose (I c) 1 0
   marks-at c l = ap (λ l. getD l c 0) e ∙ getD-tabulate n (λ k. choose (I k) 1 0) c l
 
-  marks-few : n ≤ 64 → (length xs ≤ 64) × ((c : ℕ) → c < length xs → getD xs c 0 ≤ 1)
+  marks-few : n ≤ largest → (length xs ≤ largest) × ((c : ℕ) → c < length xs → getD xs c 0 ≤ 1)
   marks-few h = (omega (arith, marks-long), (λ c l. rw (marks-at c (rw marks-long at l)) (small (I c))))
     where
       small : (b : Bool) → choose b 1 0 ≤ 1
@@ -51,7 +52,7 @@ module _ (n : ℕ) (I : Marks) (xs : List ℕ) (e : xs ≡ marksOf n I) where
 
 -- of the marks of I that were written
 module _ {p : ℕ} {ok : IsModulus p} {m n : ℕ} {a d columns rows : List ℕ} (i : StoresInverse p ok m n a d columns rows) where
-  pub columns-few : n ≤ 64 → (length columns ≤ 64) × ((c : ℕ) → c < length columns → getD columns c 0 ≤ 1)
+  pub columns-few : n ≤ largest → (length columns ≤ largest) × ((c : ℕ) → c < length columns → getD columns c 0 ≤ 1)
   columns-few h = marks-few n (columnsOf p ok m n a) columns (i .columns-written) h
 
   pub columns-sum : total (length columns) (λ c. getD columns c 0) ≡ tableRank p ok m n a

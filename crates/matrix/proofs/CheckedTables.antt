@@ -10,6 +10,7 @@ use lib.Dec.{eqb, ltb, leb}
 use lib.ListN.{length, getD, List·getD-eq-default}
 use lib.Seq.{ext-getD}
 use borrow.Author.Tests.{eqb-true, eqb-false, ltb-true, leb-true, lt-ltb, not-true}
+use Rattle.checks.specs.Largest.{largest}
 use Rattle.algebra.specs.Choice.{choose}
 use Rattle.algebra.specs.Quasiinverse.{IsPivotInverse}
 use Rattle.algebra.proofs.Counts.{true-not-false}
@@ -104,7 +105,7 @@ prime-checked p t =
 -- a table of m rows and n columns passes the checks of the calls
 unfoldable pub isTable : (p m n : ℕ) → List ℕ → Bool
 isTable p m n a =
-    isPrime p and leb p 2147483647 and leb m 64 and leb n 64 and eqb (length a) (m * n) and areBelow p a
+    isPrime p and leb p 2147483647 and leb m largest and leb n largest and eqb (length a) (m * n) and areBelow p a
 
 pub table-checked : (p m n : ℕ) (a : List ℕ) → isTable p m n a ≡ true → Checked p m n a
 unfolding isTable

@@ -179,7 +179,9 @@ passed-holds e t =
 
 -- every starred example passes, computed
 all-pass : every passes tableExamples ≡ true
-unfolding every passes passesSystem isSystem becomesSo differing tableExamples isTable isPrime holdsInverse areBelow areSame areMarks isFirstDifference isPivotInverse everyBelow _and_ same flatten vectorsFrom firstFrom marked vectorOf kernelVector mixOf count sum unit product apply table tabulate reduce _⊕_ _⊗_ negated
+unfolding every passes passesSystem isSystem becomesSo differing tableExamples
+    isTable isPrime holdsInverse areBelow areSame areMarks isFirstDifference isPivotInverse everyBelow _and_ same
+    flatten vectorsFrom firstFrom marked vectorOf kernelVector mixOf count sum unit product apply table tabulate reduce _⊕_ _⊗_ negated
 all-pass = refl
 
 -- every starred example holds

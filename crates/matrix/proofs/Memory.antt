@@ -2,13 +2,14 @@
 -- marks sums to the number of members, and products of tables are sums of products along lines of memory.
 use mathlib.Core.Path.{_≡_, sym, ap, ap₂, _∙_}
 use mathlib.Core.Bool.{true, false, not}
-use mathlib.Core.List.{List}
+use mathlib.Core.List.{List, _++_}
 use Prim.Native.Nat.{ℕ, zero, suc, _+_, _*_, _-_, _/_, _%_, _≤_, _<_}
 use native.Mathlib.Nat.{zero-add, mul-one, mul-zero, mod-lt, div-lt-iff-lt-mul, div-add-mod', pos-of-ne-zero, le-step, lt-suc-self, mul-le-mul, mul-le-mul-right}
 use native.Mathlib.Omega.{arith}
 use lib.ListN.{length, getD, take, drop, replicate, length-take, length-drop, length-replicate, getD-replicate}
 use borrow.Author.Tests.{eq-eqb, ne-eqb}
-use lib.Seq.{getD-take, getD-drop, ext-getD}
+use lib.Seq.{getD-take, getD-drop, ext-getD, take-at}
+use Rattle.checks.specs.Largest.{largest}
 use Rattle.algebra.specs.Choice.{choose}
 use Rattle.algebra.specs.Matrix.{Matrix, sum, unit, product, apply}
 use Rattle.algebra.specs.Quasiinverse.{Marks, count}
@@ -91,9 +92,14 @@ row-inside i m n h = omega (arith, mul-le-mul-right n h)
 pub place-inside : (i j m n : ℕ) → i < m → j < n → j + i * n < m * n
 place-inside i j m n h l = omega (arith, row-inside i m n h)
 
--- a table has at most 4,096 numbers
-pub table-most : (n m : ℕ) → n ≤ 64 → m ≤ 64 → n * m ≤ 4096
+-- how many numbers a table has at most
+pub table-most : (n m : ℕ) → n ≤ largest → m ≤ largest → n * m ≤ largest * largest
 table-most n m h l = omega (arith, mul-le-mul h l)
+
+-- a table that was written to the front of a room, read again
+pub table-again : (p m n : ℕ) (d rest : List ℕ) {D : Matrix (residues p)} → length d ≡ n * m → table p d 0 m n m ≡ D
+    → table p (take (n * m) (d ++ rest)) 0 m n m ≡ D
+table-again p m n d rest e h = ap (λ l. table p l 0 m n m) (take-at d rest (n * m) e) ∙ h
 
 -- k numbers of x from s on, as the code lends them, are a line of x
 pub part-long : (x : List ℕ) (s k : ℕ) → s + k ≤ length x → length (take (s + k - s) (drop s x)) ≡ k

@@ -1,7 +1,7 @@
 -- How the numbers that the code compares decide a system: where A(Dw) and w agree at every place they are equal, and the
 -- first place where they differ is 01's row y.
-use mathlib.Core.Path.{_≡_, sym, ap, _∙_, fun-ext, subst}
-use mathlib.Core.Bool.{true, false}
+use mathlib.Core.Path.{_≡_, sym, ap, ap₂, _∙_, fun-ext, subst}
+use mathlib.Core.Bool.{Bool, true, false}
 use mathlib.Core.List.{List}
 use Prim.Native.Nat.{ℕ, _≤_, _<_}
 use native.Mathlib.Omega.{arith}
@@ -13,7 +13,7 @@ use Rattle.algebra.proofs.Applied.{apply-same}
 use Rattle.algebra.proofs.Choice.{pick-yes, pick-no}
 use Rattle.checks.specs.declared.Refusal.the-variants.{Insoluble}
 use Rattle.checks.specs.Told.{results, refused}
-use Rattle.checks.specs.Outcome.{outcome}
+use Rattle.checks.specs.Outcome.{Outcome, outcome}
 use Rattle.checks.specs.Prime.{IsModulus}
 use Rattle.field.specs.Residue.{residues, reduce}
 use Rattle.field.specs.View.{table}
@@ -23,7 +23,7 @@ use Rattle.field.proofs.Residues.{reduce-small, reduce-value}
 use Rattle.field.proofs.Written.{length-tabulate, getD-tabulate}
 use Rattle.matrix.specs.Decide.{equal?, solves?}
 use Rattle.matrix.specs.Calls.{tableOf, tableRank, inverseOf, wanted, candidate, firstRow, solution}
-use Rattle.matrix.specs.Parts.{vectorOf}
+use Rattle.matrix.specs.Parts.{vectorOf, solveTold}
 use Rattle.words.specs.Words.{FirstDifference}
 use Rattle.matrix.proofs.First.{first-is}
 
@@ -117,3 +117,8 @@ module _ (p : ℕ) (ok : IsModulus p) (m n : ℕ) (a d w z x image : List ℕ) (
   refused-by u′ l e =
       ap (λ u. outcome (refused Insoluble) (z, u)) (e ∙ ap (λ X. numbers m (mixOf (residues p) n (tableOf p m n a) X y)) is-D)
       ∙ sym (somewhere p ok m n a w z (h .w-long) (h .w-below) y first-there l)
+
+-- what is told of a system whose answer is known, by the rank where it is solved
+pub told-so : (r : ℕ) (b : Bool) {k : ℕ} {t : Bool} {lent : List ℕ × List ℕ} {x : Outcome (List ℕ × List ℕ)} → r ≡ k → t ≡ b
+    → outcome (solveTold k t) lent ≡ x → outcome (solveTold r b) lent ≡ x
+told-so r b {lent = lent} e f h = ap₂ (λ q c. outcome (solveTold q c) lent) e (sym f) ∙ h

@@ -8,7 +8,7 @@ use Rattle.algebra.specs.Choice.{choose}
 use Rattle.algebra.specs.Matrix.{Matrix}
 use Rattle.algebra.specs.Quasiinverse.{Marks, count, IsPivotInverse}
 use Rattle.algebra.proofs.Independent.{count-most}
-use Rattle.algebra.proofs.Marked.{columns-are-chosen, rows-are-chosen, rank-counted, inverse-is, inverse-pivots}
+use Rattle.algebra.proofs.Marked.{columns-are-chosen, rows-are-chosen, rank-counted, columns-counted, inverse-is, inverse-pivots}
 use Rattle.checks.specs.Prime.{IsModulus}
 use Rattle.field.specs.Residue.{residues}
 use Rattle.field.specs.View.{table}
@@ -46,7 +46,7 @@ module _ (p : ℕ) (ok : IsModulus p) (m n : ℕ) (a : List ℕ) where
 
   -- I has r members, so the rank is at most the number of columns
   pub columns-many : count n (columnsOf p ok m n a) ≡ tableRank p ok m n a
-  columns-many = rank-is table-pivots
+  columns-many = columns-counted (residues p) (field p ok) (combinations p ok) m n (tableOf p m n a)
 
   pub rank-most : tableRank p ok m n a ≤ n
   rank-most = subst (λ r. r ≤ n) columns-many (count-most n (columnsOf p ok m n a))

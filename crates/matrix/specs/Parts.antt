@@ -1,24 +1,28 @@
 -- What the parts of the calls ask and leave: leaves' contracts over tables in memory, not document 01's.
 use mathlib.Core.Path.{_≡_}
-use mathlib.Core.Bool.{not}
+use mathlib.Core.Bool.{Bool, true, false, not}
 use mathlib.Core.List.{List, _++_}
 use Prim.Native.Nat.{ℕ, _+_, _*_, _-_, _≤_}
 use lib.ListN.{length, getD, replicate}
 use lib.Dec.{eqb}
 use Rattle.algebra.specs.Matrix.{Vector, sum}
 use Rattle.algebra.specs.Quasiinverse.{Marks, count}
+use Rattle.checks.specs.declared.Refusal.the-variants.{Insoluble}
+use Rattle.checks.specs.Largest.{largest}
 use Rattle.checks.specs.Prime.{IsModulus}
+use Rattle.checks.specs.Told.{Told, results, refused}
+use Rattle.checks.specs.Outcome.{outcome}
 use Rattle.field.specs.Residue.{Residue, residues, reduce, _⊗_}
 use Rattle.field.specs.View.{line, table, Reaches}
 use Rattle.words.specs.Words.{Below}
 use Rattle.field.specs.Written.{rowsOf, marksOf}
-use Rattle.matrix.specs.Calls.{columnsOf, rowMarksOf, tableRank, inverseOf, vectorsFrom, basisOf}
+use Rattle.matrix.specs.Calls.{columnsOf, rowMarksOf, tableRank, inverseOf, vectorsFrom, basisOf, solution}
 
 -- a table of m rows and n columns that has passed the checks
 pub record Checked (p m n : ℕ) (a : List ℕ) : Type 0 where
   pub is-modulus : IsModulus p
-  pub m-most : m ≤ 64
-  pub n-most : n ≤ 64
+  pub m-most : m ≤ largest
+  pub n-most : n ≤ largest
   pub a-long : length a ≡ m * n
   pub a-below : Below p a
 
@@ -38,15 +42,15 @@ pub record StoresInverse (p : ℕ) (ok : IsModulus p) (m n : ℕ) (a d columns r
 -- a table a of m rows and n columns, and D's memory d, n rows and m columns
 pub record Tables (p m n : ℕ) (a d : List ℕ) : Type 0 where
   pub is-modulus : IsModulus p
-  pub m-most : m ≤ 64
-  pub n-most : n ≤ 64
+  pub m-most : m ≤ largest
+  pub n-most : n ≤ largest
   pub a-long : length a ≡ m * n
   pub d-long : length d ≡ n * m
 
 -- row i of x, k numbers long, lies in x, and k numbers of column j of y, whose rows are `width` long, in y
 pub record Crossing (p k : ℕ) (x : List ℕ) (i : ℕ) (y : List ℕ) (j width : ℕ) : Type 0 where
   pub is-modulus : IsModulus p
-  pub short : k ≤ 64
+  pub short : k ≤ largest
   pub row : i * k + k ≤ length x
   pub column : Reaches k j width (length y)
 
@@ -81,7 +85,17 @@ pub record System (p m n : ℕ) (w z u : List ℕ) : Type 0 where
   pub z-long : length z ≡ n
   pub u-long : length u ≡ m
 
--- d holds the table's D, and r is its rank
-pub record Solver (p : ℕ) (ok : IsModulus p) (m n : ℕ) (a d : List ℕ) (r : ℕ) : Type 0 where
-  pub is-D : table p d 0 m n m ≡ inverseOf p ok m n a
-  pub is-rank : r ≡ tableRank p ok m n a
+-- what solve tells of a system over a table of rank r: that it is solved, or that there is no solution
+abbrev pub solveTold : ℕ → Bool → Told
+solveTold r true = results r
+solveTold r false = refused Insoluble
+
+-- what is told, and z′ and u′, are what 01's solution of the system is
+abbrev pub IsSolution : (p m n : ℕ) (a w z : List ℕ) → Told → (z′ u′ : List ℕ) → Type 0
+IsSolution p m n a w z told z′ u′ = (ok : IsModulus p) → outcome told (z′, u′) ≡ solution p ok m n a w z
+
+-- and so, where d holds the table's D, is whether the system is solved
+abbrev pub SolvedBy : (p m n : ℕ) (a d w z : List ℕ) → Bool → (z′ u′ : List ℕ) → Type 0
+SolvedBy p m n a d w z solved z′ u′ =
+    (ok : IsModulus p) → table p d 0 m n m ≡ inverseOf p ok m n a
+    → outcome (solveTold (tableRank p ok m n a) solved) (z′, u′) ≡ solution p ok m n a w z

@@ -6,6 +6,7 @@ ghost use lib.ListN.{length, getD};
 ghost use Rattle.algebra.specs.Matrix.{unit, apply};
 ghost use Rattle.algebra.specs.Kernel.{kernelVector};
 ghost use Rattle.algebra.specs.Solve.{mixOf};
+ghost use Rattle.checks.specs.Largest.{largest};
 ghost use Rattle.checks.specs.Prime.{IsModulus};
 ghost use Rattle.field.specs.Residue.{residues, _⊕_, negated};
 ghost use Rattle.field.specs.View.{table};
@@ -15,7 +16,7 @@ ghost use Rattle.matrix.specs.Parts.{Tables, Crossing, crossed, vectorOf
 
 // The sum of marks, each 0 or 1.
 pub fn count_marks(xs: &[u32]) -> u32
-    requires { ⌜ (length (now xs) ≤ 64) × ((i : ℕ) → i < length (now xs) → getD (now xs) i 0 ≤ 1) ⌝ }
+    requires { ⌜ (length (now xs) ≤ largest) × ((i : ℕ) → i < length (now xs) → getD (now xs) i 0 ≤ 1) ⌝ }
     ensures { λ r. ⌜ r ≡ total (length (now (xs .entry))) (λ i. getD (now (xs .entry)) i 0) ⌝ }
 {
     let mut r: u32 = 0;
@@ -76,7 +77,7 @@ pub fn row_mix(p: u32, m: usize, n: usize, a: &[u32], d: &[u32], y: usize, u: &m
 
 // X w, where x has `rows` rows of k numbers.
 pub fn times_vector(p: u32, rows: usize, k: usize, x: &[u32], w: &[u32], out: &mut [u32])
-    requires { ⌜ IsModulus p × (k ≤ 64) × (length (now x) ≡ rows * k) × (length (now w) ≡ k) × (length (now out) ≡ rows) ⌝ }
+    requires { ⌜ IsModulus p × (k ≤ largest) × (length (now x) ≡ rows * k) × (length (now w) ≡ k) × (length (now out) ≡ rows) ⌝ }
     ensures { λ _. ⌜ now (out .exit) ≡ numbers rows (apply (residues p) k (table p (now (x .entry)) 0 k rows k) (vectorOf p (now (w .entry)))) ⌝ }
 {
     let mut i = 0;

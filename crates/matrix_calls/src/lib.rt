@@ -7,7 +7,6 @@ ghost use Rattle.checks.specs.Outcome.{outcome};
 use checks::Refusal;
 use checks::Verdict;
 pub use matrix::TableAnswer;
-use matrix::parts;
 use words::all_below;
 
 pub mod work;
@@ -22,7 +21,9 @@ pub fn quasiinverse(
     columns: &mut [u32],
     rows: &mut [u32],
 ) -> TableAnswer
-    ensures { λ r. ⌜ outcome (tableTold r) (now (d .exit), (now (columns .exit), now (rows .exit))) ≡ quasiinverseCall p m n (now (a .entry)) (now (d .entry)) (now (columns .entry)) (now (rows .entry)) ⌝ }
+    ensures { λ r.
+        ⌜ outcome (tableTold r) (now (d .exit), (now (columns .exit), now (rows .exit)))
+        ≡ quasiinverseCall p m n (now (a .entry)) (now (d .entry)) (now (columns .entry)) (now (rows .entry)) ⌝ }
 {
     if let Verdict::Refused(kind) = checks::table_sizes(p, m, n) {
         return TableAnswer::Refused(kind);
@@ -44,8 +45,7 @@ pub fn quasiinverse(
     if !all_below(p, a) {
         return TableAnswer::Refused(Refusal::Number);
     }
-    parts::invert(p, height, width, a, d, columns, rows);
-    TableAnswer::Done(parts::count_marks(columns))
+    TableAnswer::Done(work::invert_ranked(p, height, width, a, d, columns, rows))
 }
 
 // The kernel of the table: one vector for each column outside I, vector after vector at the front of the basis, the rest 0, and

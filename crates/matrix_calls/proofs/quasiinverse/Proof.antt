@@ -1,6 +1,5 @@
--- `matrix_calls::quasiinverse` meets its contract: each return is the refusal by the first check that fails, or D, I and J, which
--- invert leaves, with the number of marks of I.
-use mathlib.Core.Path.{_∙_}
+-- `matrix_calls::quasiinverse` meets its contract: each return is the refusal by the first check that fails, or D, I and J with the
+-- rank.
 use native.Mathlib.Omega.{arith}
 use borrow.Author.Needs.{needs}
 use Rattle.algebra.proofs.Answers.{guard-left, guard-taken}
@@ -9,7 +8,6 @@ use Rattle.checks.specs.Sizes.{tableSizes}
 use Rattle.checks.proofs.InOrder.{fails-here}
 use Rattle.matrix.specs.Parts.{Checked, InverseRoom}
 use Rattle.matrix.proofs.Answers.{_then_, past-sizes, sizes-passed, sizes-failed, quasiinverse-refused, quasiinverse-done}
-use Rattle.matrix.proofs.Basis.{columns-few, columns-sum}
 use Rattle.matrix.proofs.Memory.{table-most}
 use Rattle.matrix_calls.proofs.quasiinverse.Statement.{statement}
 use Rattle.matrix_calls.proofs.quasiinverse.Tie as tie
@@ -107,39 +105,30 @@ room c =
     let l = c .before .before in
     record { d-long = l .before .before .if2 .left; columns-long = l .before .if3 .left; rows-long = l .if4 .left }
 
-invert-requires : tie.Need-invert-requires
-invert-requires c κs =
+invert-ranked-requires : tie.Need-invert-ranked-requires
+invert-ranked-requires c κs =
     let b = c .before .before .before in
     (checked b, room b)
 
--- invert has returned
-abbrev asked : tie.After-invert → tie.Else5
-asked c = c .before .before .before .before
-
-abbrev inverted : tie.After-count-marks-arg → tie.After-invert
-inverted c = c .before .before .before .before .before .before .before
-
-count-marks-requires : tie.Need-count-marks-requires
-count-marks-requires c κs =
-    let i = inverted c in
-    let k = checked (asked i) in
-    columns-few (i .invert .ensures (k .is-modulus)) (k .n-most)
+-- invert_ranked has returned
+abbrev inverted : tie.After-slice-known6 → tie.After-invert-ranked
+inverted c = c .before .before .before .before .before .before
 
 same-length : tie.Need-same-length
-same-length c = inverted (c .before) .invert .kept .1 .1 .1 .1 .0
+same-length c = inverted c .invert-ranked .kept .1 .1 .1 .1 .0
 
 same-length-2 : tie.Need-same-length-2
-same-length-2 c = inverted (c .before) .invert .kept .1 .1 .1 .1 .1 .0
+same-length-2 c = inverted c .invert-ranked .kept .1 .1 .1 .1 .1 .0
 
 same-length-3 : tie.Need-same-length-3
-same-length-3 c = inverted (c .before) .invert .kept .1 .1 .1 .1 .1 .1 .0
+same-length-3 c = inverted c .invert-ranked .kept .1 .1 .1 .1 .1 .1 .0
 
 returns-7 : tie.Need-returns-7
 returns-7 c =
-    let i = inverted (c .before) in
-    let b = asked i in
-    quasiinverse-done _ _ _ _ _ _ _ _ _ _ _ (checked b) (room b) (i .invert .ensures)
-    (λ ok. c .count-marks .ensures ∙ columns-sum (i .invert .ensures ok))
+    let i = inverted c in
+    let b = i .before .before .before .before in
+    let e = i .invert-ranked .ensures in
+    quasiinverse-done _ _ _ _ _ _ _ _ _ _ _ (checked b) (room b) (λ ok. e ok .0) (λ ok. e ok .1)
 
 pub quasiinverse-spec : {M : Type 1} → statement M
 quasiinverse-spec =
@@ -157,8 +146,7 @@ quasiinverse-spec =
     returns-5
     all-below-requires
     returns-6
-    invert-requires
-    count-marks-requires
+    invert-ranked-requires
     same-length
     same-length-2
     same-length-3

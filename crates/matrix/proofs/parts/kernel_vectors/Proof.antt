@@ -5,6 +5,7 @@ use mathlib.Core.Logic.{⊎-elim}
 use Prim.Native.Nat.{ℕ, _+_, _*_, _-_, _≤_}
 use native.Mathlib.Omega.{arith}
 use lib.ListN.{length}
+use Rattle.checks.specs.Largest.{largest}
 use Rattle.algebra.specs.Quasiinverse.{count}
 use Rattle.field.specs.View.{table}
 use Rattle.matrix.specs.Parts.{marked}
@@ -23,14 +24,14 @@ abbrev μ-loop : tie.MeasureT-loop
 loop-holds : tie.Need-loop-holds Inv-loop μ-loop
 loop-holds c = (omega arith, filled-none _ _ _ _ _ _)
 
--- n, which is at most 64, so that n × n is at most 4096
+-- n, and how large n × n is at most
 abbrev width : tie.At-loop Inv-loop μ-loop → ℕ
 width c = c .before .before .before .before .before .args .n
 
-few : (c : tie.At-loop Inv-loop μ-loop) → width c ≤ 64
+few : (c : tie.At-loop Inv-loop μ-loop) → width c ≤ largest
 few c = c .before .before .before .before .before .pre .0 .n-most
 
-square : (c : tie.At-loop Inv-loop μ-loop) → width c * width c ≤ 4096
+square : (c : tie.At-loop Inv-loop μ-loop) → width c * width c ≤ largest * largest
 square c = table-most (width c) (width c) (few c) (few c)
 
 -- the basis keeps its length, has room for the k vectors and, in a turn, for the next one

@@ -1,5 +1,5 @@
 -- `matrix_calls::work::solve_by` meets its contract: x is Dw, image is A(Dw), and where they differ first decides the answer.
-use mathlib.Core.Path.{_≡_, sym, _∙_}
+use mathlib.Core.Path.{_≡_, refl, sym, _∙_}
 use mathlib.Core.List.{List}
 use Prim.Native.Nat.{ℕ}
 use native.Mathlib.Omega.{arith}
@@ -78,9 +78,9 @@ same-length-3 : tie.Need-same-length-3
 same-length-3 c = c .before .before .row-mix .kept .1 .1 .1 .1 .1 .1 .0
 
 returns : tie.Need-returns
-returns c ok v =
+returns c ok is-D =
     let t = c .before .before .before .before in
-    refused-by _ ok _ _ _ _ _ _ _ _ _ (v .is-D) (compared (t .before)) _ (t .if1 .taken) (c .before .before .row-mix .ensures)
+    refused-by _ ok _ _ _ _ _ _ _ _ _ is-D (compared (t .before)) _ (t .if1 .taken) (c .before .before .row-mix .ensures)
 
 copy-requires : tie.Need-copy-requires
 copy-requires c κs =
@@ -103,12 +103,12 @@ same-length-7 : tie.Need-same-length-7
 same-length-7 c = c .before .before .clear .kept .0
 
 returns-2 : tie.Need-returns-2
-returns-2 c ok v =
+returns-2 c ok is-D =
     let e = c .before .before .before .before .before .before .before .before .before in
     let s = start (e .before) in
     let z = c .before .before .before .before .before .before .copy in
     let u = c .before .before .clear in
-    solved-by _ ok _ _ _ _ _ _ _ _ _ (v .is-D) (compared (e .before)) _ _ _ (e .if1 .left) (v .is-rank)
+    solved-by _ ok _ _ _ _ _ _ _ _ _ is-D (compared (e .before)) _ _ _ (e .if1 .left) refl
     (copied-whole _ (Dw (e .before)) (z .last .1 .1 .1 .0) (long (e .before)) (z .ensures .same-length ∙ s .pre .1 .z-long) (z .ensures .front))
     (zeros-written _ _ (u .ensures .0 ∙ s .pre .1 .u-long) (u .ensures .1))
 
