@@ -15,14 +15,14 @@ use Rattle.matrix_mul.specs.Places.{place, shape, Block, Factors, Kept, Multipl
 use Rattle.matrix_inverse.specs.Steps.{split, IsNegativeProduct, Halves, Joined}
 use Rattle.matrix_mul.proofs.Places.{kept-trans, kept-wider, table-kept}
 use Rattle.matrix_inverse.proofs.StepNegative.{rows-block, columns-block}
-use Rattle.matrix_inverse.proofs.StepReduce.{modulus-positive, quarter-room}
+use Rattle.matrix_inverse.proofs.StepReduce.{modulus-positive, quarter-room, factors}
 
 module _ {p m₁ m₂ n : ℕ} {a d : List ℕ} {at stride : ℕ} {t c : List ℕ}
     (h : Halves p (split m₁ m₂ n) a d (place at stride) t c)
   where
     -- the columns of F
-    pub lower-block : Block d (place (at + m₁) stride) n m₂
-    lower-block = columns-block d (at + m₁) stride n m₂ (h .d-long) (omega (arith, h .fits))
+    pub lower-block : Block p d (place (at + m₁) stride) n m₂
+    lower-block = columns-block d (at + m₁) stride n m₂ (h .d-long) (omega (arith, h .fits)) (h .d-below)
 
     small-room : m₁ * m₂ ≤ length c
     small-room = omega (arith, mul-le-mul (h .upper-most) (h .lower-most), h .c-long)
@@ -30,41 +30,19 @@ module _ {p m₁ m₂ n : ℕ} {a d : List ℕ} {at stride : ℕ} {t c : List �
     -- B F into c
     pub join-first : Below p c → Factors p (shape m₁ n m₂) a (place 0 n) d (place (at + m₁) stride) c (place 0 m₂)
     join-first c-below =
-        record {
-          positive = modulus-positive h;
-          in-range = h .is-modulus .in-range;
-          inner = h .n-most;
-          columns = omega (arith, h .lower-most);
-          left = rows-block a m₁ n (h .a-long);
-          right = lower-block;
-          target = rows-block c m₁ m₂ small-room;
-          left-below = h .a-below;
-          right-below = h .d-below;
-          below = c-below;
-        }
+        factors h (h .n-most) (omega (arith, h .lower-most)) (rows-block a m₁ n (h .a-long) (h .a-below)) lower-block
+        (rows-block c m₁ m₂ small-room c-below)
 
     -- F + E (-(B F)) for F
-    pub join-second :
-        (c′ : List ℕ) →
-        length c′ ≡ length c →
-        Below p c′ →
-        {upper : List ℕ} →
-        Used n m₁ d (place at stride) upper →
-        FactorsWithin p (shape n m₁ m₂) upper at c′ (place 0 m₂) d (place (at + m₁) stride)
-    join-second c′ long c-below used =
+    pub join-second : {c′ upper : List ℕ} → length c′ ≡ length c → Below p c′ → Used n m₁ d (place at stride) upper
+        → FactorsWithin p (shape n m₁ m₂) upper at c′ (place 0 m₂) d (place (at + m₁) stride)
+    join-second {c′} long c-below used =
         record {
-          factors = record {
-            positive = modulus-positive h;
-            in-range = h .is-modulus .in-range;
-            inner = omega (arith, h .upper-most);
-            columns = omega (arith, h .lower-most);
-            left = columns-block d at stride n m₁ (h .d-long) (omega (arith, h .fits));
-            right = rows-block c′ m₁ m₂ (omega (arith, small-room));
-            target = lower-block;
-            left-below = h .d-below;
-            right-below = c-below;
-            below = h .d-below;
-          };
+          factors =
+              factors h (omega (arith, h .upper-most)) (omega (arith, h .lower-most))
+              (columns-block d at stride n m₁ (h .d-long) (omega (arith, h .fits)) (h .d-below))
+              (rows-block c′ m₁ m₂ (omega (arith, small-room)) c-below)
+              lower-block;
           other-columns = λ j l s o e. omega arith;
           left-fits = omega (arith, h .fits);
           target-fits = omega (arith, h .fits);
@@ -72,28 +50,22 @@ module _ {p m₁ m₂ n : ℕ} {a d : List ℕ} {at stride : ℕ} {t c : List �
         }
 
     -- E + G (-T) for E
-    module _ (t-below : Below p t) (d′ : List ℕ) (kept : Kept p d d′ (place (at + m₁) stride) n m₂) where
-      pub join-third : {marks : List ℕ} → Used n m₂ d′ (place (at + m₁) stride) marks
-          → FactorsWithin p (shape n m₂ m₁) marks (at + m₁) t (place 0 m₁) d′ (place at stride)
-      join-third used =
-          record {
-            factors = record {
-              positive = modulus-positive h;
-              in-range = h .is-modulus .in-range;
-              inner = omega (arith, h .lower-most);
-              columns = omega (arith, h .upper-most);
-              left = columns-block d′ (at + m₁) stride n m₂ (kept .same-length ∙ h .d-long) (omega (arith, h .fits));
-              right = rows-block t m₂ m₁ (quarter-room h);
-              target = columns-block d′ at stride n m₁ (kept .same-length ∙ h .d-long) (omega (arith, h .fits));
-              left-below = kept .below;
-              right-below = t-below;
-              below = kept .below;
-            };
-            other-columns = λ j l s o e. omega arith;
-            left-fits = omega (arith, h .fits);
-            target-fits = omega (arith, h .fits);
-            used = used;
-          }
+    pub join-third : Below p t → {d′ marks : List ℕ} → Kept p d d′ (place (at + m₁) stride) n m₂
+        → Used n m₂ d′ (place (at + m₁) stride) marks
+        → FactorsWithin p (shape n m₂ m₁) marks (at + m₁) t (place 0 m₁) d′ (place at stride)
+    join-third t-below {d′} kept used =
+        let long = kept .same-length ∙ h .d-long in
+        record {
+          factors =
+              factors h (omega (arith, h .lower-most)) (omega (arith, h .upper-most))
+              (columns-block d′ (at + m₁) stride n m₂ long (omega (arith, h .fits)) (kept .below))
+              (rows-block t m₂ m₁ (quarter-room h) t-below)
+              (columns-block d′ at stride n m₁ long (omega (arith, h .fits)) (kept .below));
+          other-columns = λ j l s o e. omega arith;
+          left-fits = omega (arith, h .fits);
+          target-fits = omega (arith, h .fits);
+          used = used;
+        }
 
     -- what they leave
     module _ {c′ d′ d″ : List ℕ}

@@ -27,17 +27,18 @@ pub row-inside : (m n i : ℕ) → i < m → 0 + i * n + n ≤ m * n
 row-inside m n i h = omega (arith, mul-le-mul-right n h)
 
 -- such rows from the front of a list, and how many numbers they are
-pub rows-block : (xs : List ℕ) (m n : ℕ) → m * n ≤ length xs → Block xs (place 0 n) m n
-rows-block xs m n h = record { apart = omega arith; inside = λ i l. omega (arith, row-inside m n i l) }
+pub rows-block : {p : ℕ} (xs : List ℕ) (m n : ℕ) → m * n ≤ length xs → Below p xs → Block p xs (place 0 n) m n
+rows-block xs m n h below = record { apart = omega arith; inside = λ i l. omega (arith, row-inside m n i l); below = below }
 
-pub block-long : (xs : List ℕ) (m n : ℕ) → Block xs (place 0 n) m n → m * n ≤ length xs
+pub block-long : {p : ℕ} (xs : List ℕ) (m n : ℕ) → Block p xs (place 0 n) m n → m * n ≤ length xs
 block-long xs zero n b = omega arith
 block-long xs (suc m) n b = omega (arith, b .inside m (omega arith))
 
 -- k columns of D from column `at` on
-pub columns-block : (d : List ℕ) (at stride n k : ℕ) → length d ≡ n * stride → at + k ≤ stride → Block d (place at stride) n k
-columns-block d at stride n k long fits =
-    record { apart = omega arith; inside = λ i l. omega (arith, mul-le-mul-right stride l) }
+pub columns-block : {p : ℕ} (d : List ℕ) (at stride n k : ℕ) → length d ≡ n * stride → at + k ≤ stride → Below p d
+    → Block p d (place at stride) n k
+columns-block d at stride n k long fits below =
+    record { apart = omega arith; inside = λ i l. omega (arith, mul-le-mul-right stride l); below = below }
 
 -- the front and the rest of a list whose numbers are below p
 pub taken-below : (p : ℕ) (xs : List ℕ) (k : ℕ) → Below p xs → Below p (take k xs)
@@ -79,10 +80,8 @@ module _ {p m k n : ℕ} {x y : List ℕ} {Y : Place} {z : List ℕ} (f : Factor
             columns = f .columns;
             left = f .left;
             right = f .right;
-            target = rows-block cleared m n (omega (arith, cleared-long, size-inside));
-            left-below = f .left-below;
-            right-below = f .right-below;
-            below = front-below z (m * n) zeros size p (f .below) (blank-below p zeros (f .positive) blank) size-inside;
+            target = rows-block cleared m n (omega (arith, cleared-long, size-inside))
+                (front-below z (m * n) zeros size p (f .target .below) (blank-below p zeros (f .positive) blank) size-inside);
           }
 
       -- Z becomes X Y and then, number by number, its negative; `front` is what stands there then

@@ -9,7 +9,8 @@ use Rattle.algebra.specs.Matrix.{add, product}
 use Rattle.field.specs.Residue.{residues}
 use Rattle.field.proofs.Views.{blank-below}
 use Rattle.matrix_mul.specs.declared.Place.{Place}
-use Rattle.matrix_mul.specs.Places.{place, shape, matrixOf, Factors, Multiplied}
+use Rattle.matrix_mul.specs.Places.{place, shape, matrixOf, Block, Factors, Multiplied}
+use Rattle.words.specs.Lengths.{longestRow}
 use Rattle.words.specs.Words.{Copied}
 use Rattle.matrix_inverse.specs.Steps.{split, IsNegativeProduct, Halves, Reducible, Reduced}
 use Rattle.matrix_mul.proofs.Places.{copied-table, copied-below}
@@ -23,6 +24,20 @@ module _ {p m₁ m₂ n : ℕ} {a d : List ℕ} {D : Place} {t c : List ℕ} (h 
   pub quarter-room : m₂ * m₁ ≤ length t
   quarter-room = omega (arith, mul-le-mul (h .lower-most) (h .upper-most), h .t-long)
 
+  -- what a product of blocks of no more than 64 columns asks
+  pub factors : {m k w : ℕ} {x : List ℕ} {X : Place} {y : List ℕ} {Y : Place} {z : List ℕ} {Z : Place} → k ≤ longestRow → w ≤ longestRow
+      → Block p x X m k → Block p y Y k w → Block p z Z m w → Factors p (shape m k w) x X y Y z Z
+  factors inner columns left right target =
+      record {
+        positive = modulus-positive;
+        in-range = h .is-modulus .in-range;
+        inner = inner;
+        columns = columns;
+        left = left;
+        right = right;
+        target = target;
+      }
+
   pub half-room : m₂ * n ≤ length c
   half-room = omega (arith, mul-le-mul (h .lower-most) (h .n-most), h .c-long)
 
@@ -33,35 +48,20 @@ module _ {p m₁ m₂ n : ℕ} {a k marks d : List ℕ} {D : Place} {t c : List 
   -- K E into t
   pub reduce-first : Factors p (shape m₂ n m₁) k (place 0 n) d D t (place 0 m₁)
   reduce-first =
-      record {
-        positive = modulus-positive h;
-        in-range = h .is-modulus .in-range;
-        inner = h .n-most;
-        columns = omega (arith, h .upper-most);
-        left = rows-block k m₂ n (omega (arith, r .lower-long));
-        right = columns-block d (D .start) (D .stride) n m₁ (h .d-long) (omega (arith, h .fits));
-        target = rows-block t m₂ m₁ (quarter-room h);
-        left-below = r .lower-below;
-        right-below = h .d-below;
-        below = blank-below p t (modulus-positive h) (r .t-blank);
-      }
+      factors h (h .n-most) (omega (arith, h .upper-most))
+      (rows-block k m₂ n (omega (arith, r .lower-long)) (r .lower-below))
+      (columns-block d (D .start) (D .stride) n m₁ (h .d-long) (omega (arith, h .fits)) (h .d-below))
+      (rows-block t m₂ m₁ (quarter-room h) (blank-below p t (modulus-positive h) (r .t-blank)))
 
   module _ {t′ : List ℕ} (T : IsNegativeProduct p (shape m₂ n m₁) k d D t t′) {c′ : List ℕ} (copied : Copied k 0 (m₂ * n) c c′) where
     -- K + (-T) B into c
     pub reduce-second : Factors p (shape m₂ m₁ n) t′ (place 0 m₁) a (place 0 n) c′ (place 0 n)
     reduce-second =
-        record {
-          positive = modulus-positive h;
-          in-range = h .is-modulus .in-range;
-          inner = omega (arith, h .upper-most);
-          columns = h .n-most;
-          left = rows-block t′ m₂ m₁ (omega (arith, quarter-room h, T .same-length));
-          right = rows-block a m₁ n (h .a-long);
-          target = rows-block c′ m₂ n (omega (arith, half-room h, copied .same-length));
-          left-below = T .below;
-          right-below = h .a-below;
-          below = copied-below (modulus-positive h) (r .c-blank) (omega (arith, r .lower-long)) (r .lower-below) copied;
-        }
+        factors h (omega (arith, h .upper-most)) (h .n-most)
+        (rows-block t′ m₂ m₁ (omega (arith, quarter-room h, T .same-length)) (T .below))
+        (rows-block a m₁ n (h .a-long) (h .a-below))
+        (rows-block c′ m₂ n (omega (arith, half-room h, copied .same-length))
+        (copied-below (modulus-positive h) (r .c-blank) (omega (arith, r .lower-long)) (r .lower-below) copied))
 
     -- what they leave
     pub reduced :

@@ -136,11 +136,11 @@ module _ {p k n : ℕ} {x : List ℕ} {X : Place} {y : List ℕ} {Y : Place} {z 
       by-row r j h l (no g) = let e : r ≡ i = omega arith in rw e (last j l)
 
 -- a block of one row
-one-row : (xs : List ℕ) (at n : ℕ) → at + n ≤ length xs → Block xs (place at n) 1 n
-one-row xs at n fits = record { apart = omega arith; inside = λ i h. omega (arith, only-row i n h) }
+one-row : {p : ℕ} (xs : List ℕ) (at n : ℕ) → at + n ≤ length xs → Below p xs → Block p xs (place at n) 1 n
+one-row xs at n fits below = record { apart = omega arith; inside = λ i h. omega (arith, only-row i n h); below = below }
 
 -- and what it says of the list
-pub row-fits : {xs : List ℕ} {X : Place} {n : ℕ} → Block xs X 1 n → X .start + n ≤ length xs
+pub row-fits : {p : ℕ} {xs : List ℕ} {X : Place} {n : ℕ} → Block p xs X 1 n → X .start + n ≤ length xs
 row-fits b = omega (arith, b .inside 0 (omega arith))
 
 module _ {p : ℕ} {s : Shape} {x : List ℕ} {X : Place} {y : List ℕ} {Y : Place} {z : List ℕ} {Z : Place} where
@@ -153,12 +153,9 @@ module _ {p : ℕ} {s : Shape} {x : List ℕ} {X : Place} {y : List ℕ} {Y : Pl
         in-range = F .in-range;
         inner = F .inner;
         columns = F .columns;
-        left = one-row x′ (X .start + i * X .stride) (s .inner) (omega (arith, F .left .inside i h));
+        left = one-row x′ (X .start + i * X .stride) (s .inner) (omega (arith, F .left .inside i h)) xb;
         right = F .right;
-        target = one-row z′ (Z .start + i * Z .stride) (s .columns) (omega (arith, F .target .inside i h));
-        left-below = xb;
-        right-below = F .right-below;
-        below = zb;
+        target = one-row z′ (Z .start + i * Z .stride) (s .columns) (omega (arith, F .target .inside i h)) zb;
       }
 
 -- the multipliers of a row at the front of other memory
@@ -170,12 +167,9 @@ factors-front {k = k} {by = by} l b F =
       in-range = F .in-range;
       inner = F .inner;
       columns = F .columns;
-      left = one-row by 0 k (omega arith);
+      left = one-row by 0 k (omega arith) b;
       right = F .right;
       target = F .target;
-      left-below = b;
-      right-below = F .right-below;
-      below = F .below;
     }
 
 -- a row that was copied to the front
@@ -227,7 +221,7 @@ pub row-skipped : {p k n : ℕ} {x : List ℕ} {at : ℕ} {y : List ℕ} {Y : Pl
     → Multiplied p (shape 1 k n) x (place at k) y Y z z (place to n)
 unfolding Entries times
 row-skipped {p} {k} {n} {x} {at} {y} {Y} {z} {to} F zeros =
-    multiplied-of p k n x y Y 1 (place at k) z z (place to n) (F .positive) (kept-none p z (place to n) 1 n (F .below))
+    multiplied-of p k n x y Y 1 (place at k) z z (place to n) (F .positive) (kept-none p z (place to n) 1 n (F .target .below))
     (λ i j h l.
     sym
     (ap (λ r. reduce p (getD z (to + i * n + j) 0) ⊕ r) (product-row (residues p) ring k _ _ i (row-zero i h) j)
@@ -245,7 +239,7 @@ row-skipped {p} {k} {n} {x} {at} {y} {Y} {z} {to} F zeros =
 
 -- rows of Z + X Y are zeros where those of X and of Z are
 pub used-product : {p m k n : ℕ} {x : List ℕ} {X : Place} {y : List ℕ} {Y : Place} {z z′ : List ℕ} {Z : Place} {u v both : List ℕ}
-    → 0 < p → Block z Z m n → Multiplied p (shape m k n) x X y Y z z′ Z → Used m k x X u → Used m n z Z v → m ≤ length both
+    → 0 < p → Block p z Z m n → Multiplied p (shape m k n) x X y Y z z′ Z → Used m k x X u → Used m n z Z v → m ≤ length both
     → ((c : ℕ) → c < m → getD both c 0 ≡ 0 → (getD u c 0 ≡ 0) × (getD v c 0 ≡ 0)) → Used m n z′ Z both
 unfolding Entries times
 used-product {p} {m} {k} {n} {x} {X} {y} {Y} {z} {z′} {Z} {both = both} positive block M x-used z-used long split =
@@ -285,8 +279,8 @@ module _ {p k n : ℕ} {x : List ℕ} {at : ℕ} {y : List ℕ} {Y : Place} {z :
         narrow = omega (arith, is-out .long, F .columns);
         by-below = λ j l.
             let h : j < k = omega (arith, is-by .long) in
-            rw (is-by .same j h) (F .left-below (at + j) (omega (arith, row-fits (F .left))));
-        table-below = F .right-below;
+            rw (is-by .same j h) (F .left .below (at + j) (omega (arith, row-fits (F .left))));
+        table-below = F .right .below;
         inside = λ t l. omega (arith, is-out .long, F .right .inside t (omega (arith, is-by .long)));
       },
       rw (is-by .long, is-out .long) passes,
@@ -311,7 +305,7 @@ module _ {p k n : ℕ} {x : List ℕ} {at : ℕ} {y : List ℕ} {Y : Place} {z :
               same-length = replaced-length z to size out′ fits long′;
               elsewhere = λ q o.
                   replaced-elsewhere z to size out′ fits long′ q (λ j l e. o 0 j (omega arith) (omega arith) (omega arith));
-              below = replaced-below z to size out′ fits long′ p (F .below)
+              below = replaced-below z to size out′ fits long′ p (F .target .below)
                   (λ j l. below-of-value (F .positive) (reduce p (getD out j 0) ⊕ row-sum j) (each j (omega arith)));
             }
 

@@ -40,10 +40,11 @@ matrixAt p xs X m n = table p xs (X .start) (X .stride) m n
 abbrev pub matrixOf : (p : ℕ) → List ℕ → (m n : ℕ) → Matrix (residues p)
 matrixOf p xs m n = table p xs 0 n m n
 
--- m rows of n numbers lie in xs at a place, one row behind the other
-pub record Block (xs : List ℕ) (X : Place) (m n : ℕ) : Type 0 where
+-- m rows of n numbers lie in xs at a place, one row behind the other, and all numbers of xs are below p
+pub record Block (p : ℕ) (xs : List ℕ) (X : Place) (m n : ℕ) : Type 0 where
   pub apart : n ≤ X .stride
   pub inside : (i : ℕ) → i < m → X .start + i * X .stride + n ≤ length xs
+  pub below : Below p xs
 
 -- q is no place of that block
 abbrev pub Elsewhere : (X : Place) (m n q : ℕ) → Type 0
@@ -61,12 +62,9 @@ pub record Factors (p : ℕ) (s : Shape) (x : List ℕ) (X : Place) (y : List �
   pub in-range : p ≤ largestModulus
   pub inner : s .inner ≤ longestRow
   pub columns : s .columns ≤ longestRow
-  pub left : Block x X (s .rows) (s .inner)
-  pub right : Block y Y (s .inner) (s .columns)
-  pub target : Block z Z (s .rows) (s .columns)
-  pub left-below : Below p x
-  pub right-below : Below p y
-  pub below : Below p z
+  pub left : Block p x X (s .rows) (s .inner)
+  pub right : Block p y Y (s .inner) (s .columns)
+  pub target : Block p z Z (s .rows) (s .columns)
 
 -- Z has become Z + X Y
 pub record Multiplied (p : ℕ) (s : Shape) (x : List ℕ) (X : Place) (y : List ℕ) (Y : Place) (z z′ : List ℕ) (Z : Place) : Type 0 where

@@ -55,18 +55,6 @@ pub fn clear(xs: &mut [u32])
     }
 }
 
-// Copies n numbers of xs, from start on, to the front of zs.
-pub fn copy(xs: &[u32], start: usize, n: usize, zs: &mut [u32])
-    requires { ⌜ (start + n ≤ length (now xs)) × (n ≤ length (now zs)) ⌝ }
-    ensures { λ _. ⌜ Copied (now (xs .entry)) start n (now (zs .entry)) (now (zs .exit)) ⌝ }
-{
-    let mut j = 0;
-    while j < n {
-        zs[j] = xs[start + j];
-        j += 1;
-    }
-}
-
 // Writes the numbers of `xs` to `out` from the place on; the others stay.
 pub fn put(xs: &[u32], out: &mut [u32], at: usize)
     requires { ⌜ at + length (now xs) ≤ length (now out) ⌝ }
@@ -79,19 +67,13 @@ pub fn put(xs: &[u32], out: &mut [u32], at: usize)
     }
 }
 
-// Whether two rows of the same length have the same numbers.
-pub fn same(xs: &[u32], ys: &[u32]) -> bool
-    requires { ⌜ length (now xs) ≡ length (now ys) ⌝ }
-    ensures { λ r. ⌜ Tells r (now (xs .entry) ≡ now (ys .entry)) ⌝ }
+// Copies n numbers of xs, from start on, to the front of zs.
+pub fn copy(xs: &[u32], start: usize, n: usize, zs: &mut [u32])
+    requires { ⌜ (start + n ≤ length (now xs)) × (n ≤ length (now zs)) ⌝ }
+    ensures { λ _. ⌜ Copied (now (xs .entry)) start n (now (zs .entry)) (now (zs .exit)) ⌝ }
 {
-    let mut j = 0;
-    while j < xs.len() {
-        if xs[j] != ys[j] {
-            return false;
-        }
-        j += 1;
-    }
-    true
+    let end = start + n;
+    put(&xs[start..end], zs, 0);
 }
 
 // The first place where two lists of one length differ, or their length.
@@ -109,18 +91,12 @@ pub fn first_difference(xs: &[u32], ys: &[u32]) -> usize
     i
 }
 
-// Whether every number is 0.
-pub fn all_zero(xs: &[u32]) -> bool
-    ensures { λ r. ⌜ Tells r (Blank (now (xs .entry))) ⌝ }
+// Whether two rows of the same length have the same numbers.
+pub fn same(xs: &[u32], ys: &[u32]) -> bool
+    requires { ⌜ length (now xs) ≡ length (now ys) ⌝ }
+    ensures { λ r. ⌜ Tells r (now (xs .entry) ≡ now (ys .entry)) ⌝ }
 {
-    let mut j = 0;
-    while j < xs.len() {
-        if xs[j] != 0 {
-            return false;
-        }
-        j += 1;
-    }
-    true
+    xs.len() <= first_difference(xs, ys)
 }
 
 // Whether no number is 0.
@@ -149,4 +125,11 @@ pub fn all_below(p: u32, numbers: &[u32]) -> bool
         i += 1;
     }
     true
+}
+
+// Whether every number is 0.
+pub fn all_zero(xs: &[u32]) -> bool
+    ensures { λ r. ⌜ Tells r (Blank (now (xs .entry))) ⌝ }
+{
+    all_below(1, xs)
 }

@@ -22,7 +22,7 @@ entry c = c .before .before .before .before .before .before
 loop-holds : tie.Need-loop-holds Inv-loop μ-loop
 loop-holds c =
     let s = c .before .before .before .before in
-    (omega arith, multiplied-none (s .pre .0 .positive) (s .pre .0 .below))
+    (omega arith, multiplied-none (s .pre .0 .positive) (s .pre .0 .target .below))
 
 -- the rows of a turn lie in x and z
 module _ (c : tie.In-loop Inv-loop μ-loop) where
@@ -49,7 +49,7 @@ add-row-requires c κs =
     let turn = c .before .before .before .before .before in
     let kept = turn .before .loop .inv .1 .kept in
     let pre = entry turn .pre in
-    (factors-row refl (pre .0 .left-below) (kept .same-length) (kept .below) (turn .loop-test .taken) (pre .0), pre .1)
+    (factors-row refl (pre .0 .left .below) (kept .same-length) (kept .below) (turn .loop-test .taken) (pre .0), pre .1)
 
 add-i : tie.Need-add-i Inv-loop μ-loop
 add-i c = omega arith

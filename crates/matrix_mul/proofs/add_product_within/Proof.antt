@@ -28,7 +28,7 @@ each-row-requires c κs = tt
 loop-holds : tie.Need-loop-holds Inv-loop μ-loop
 loop-holds c =
     let s = c .before .before .before .before in
-    (omega arith, multiplied-none (s .pre .factors .positive) (s .pre .factors .below))
+    (omega arith, multiplied-none (s .pre .factors .positive) (s .pre .factors .target .below))
 
 -- the rows of a turn lie in z
 module _ (c : tie.In-loop Inv-loop μ-loop) where

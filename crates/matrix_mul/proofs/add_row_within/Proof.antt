@@ -33,7 +33,7 @@ add-row-requires c κs =
     let room = c .before .before .before .before .before .before .row-room .ensures in
     let copied = c .before .before .before .copy .ensures in (
       factors-front (omega (arith, room .0, copied .same-length, s .pre .0 .inner))
-          (copied-below (s .pre .0 .positive) (room .1) (row-fits (s .pre .0 .left)) (s .pre .0 .left-below) copied)
+          (copied-below (s .pre .0 .positive) (room .1) (row-fits (s .pre .0 .left)) (s .pre .0 .left .below) copied)
           (s .pre .0),
       s .pre .1,
     )

@@ -1,72 +1,47 @@
--- `words::copy` meets its contract. The loop's invariant: the first j numbers of zs are those of xs from start
--- on, the others as they were.
-use mathlib.Core.Path.{refl}
-use Prim.Native.Nat.{_+_, _-_, _≤_}
+-- `words::copy` meets its contract: the numbers from start on are put to the front.
+use mathlib.Core.Path.{_∙_}
+use Prim.Native.Nat.{_+_, _-_}
+use native.Mathlib.Nat.{zero-add}
 use native.Mathlib.Omega.{arith}
-use lib.ListN.{getD}
-use Rattle.words.proofs.Walk.{Walked, walked-none, walked-more}
+use borrow.Author.Needs.{needs}
+use Rattle.words.proofs.Parts.{part-length, part-at}
 use Rattle.words.proofs.copy.Statement.{statement}
 use Rattle.words.proofs.copy.Tie as tie
 
-abbrev Inv-loop : tie.InvT-loop
-Inv-loop xs start n zs₀ j₀ zs j = (j ≤ n) × Walked j (λ t. getD xs (start + t) 0) zs₀ zs
+add-end : tie.Need-add-end
+add-end c = search needs
 
-abbrev μ-loop : tie.MeasureT-loop
-μ-loop xs start n zs₀ j₀ zs j = n - j
+mul-put : tie.Need-mul-put
+mul-put c = search needs
 
-loop-holds : tie.Need-loop-holds Inv-loop μ-loop
-loop-holds c = (omega arith, walked-none _ _)
+sub-put : tie.Need-sub-put
+sub-put c = search needs
 
-add-zs : tie.Need-add-zs Inv-loop μ-loop
-add-zs c = omega arith
+part-put-start : tie.Need-part-put-start
+part-put-start c = search needs
 
-mul-zs : tie.Need-mul-zs Inv-loop μ-loop
-mul-zs c = omega arith
+part-put-end : tie.Need-part-put-end
+part-put-end c = search needs
 
-shared-slice-read-zs : tie.Need-shared-slice-read-zs Inv-loop μ-loop
-shared-slice-read-zs c = omega arith
+put-requires : tie.Need-put-requires
+put-requires c κs = search needs
 
-mul-zs-2 : tie.Need-mul-zs-2 Inv-loop μ-loop
-mul-zs-2 c = omega arith
+same-length : tie.Need-same-length
+same-length c = search needs
 
-slice-write-zs : tie.Need-slice-write-zs Inv-loop μ-loop
-slice-write-zs c = omega arith
-
-add-j : tie.Need-add-j Inv-loop μ-loop
-add-j c = omega arith
-
-loop-less : tie.Need-loop-less Inv-loop μ-loop
-loop-less c = omega arith
-
-loop-again : tie.Need-loop-again Inv-loop μ-loop
-loop-again c = (omega arith, walked-more _ _ _ _ _ (c .before .before .loop .inv .1) (omega arith) refl)
-
-same-length : tie.Need-same-length Inv-loop μ-loop
-same-length c = omega arith
-
-returns : tie.Need-returns Inv-loop μ-loop
+returns : tie.Need-returns
 returns c =
-    let l = c .before .loop in
+    let s = c .before .before .before .before .before .before .before in
+    let a = s .args in
+    let e = c .before .before .put .ensures in
+    let size = a .start + a .n - a .start in
+    let long = part-length (a .xs .now) (a .start) size (omega arith) in
     record {
-      same-length = l .inv .1 .long;
-      front = λ j h. l .inv .1 .passed j (omega arith);
-      rest = λ j h. l .inv .1 .left j (omega arith);
+      same-length = e .0;
+      front = λ j h. (rw zero-add at (e .1 j (omega (arith, long)))) ∙ part-at (a .xs .now) (a .start) size j (omega arith);
+      rest = λ j h. e .3 j (omega (arith, long));
     }
 
 pub copy-spec : {M : Type 1} → statement M
 copy-spec =
-    tie.close
-    (tie.spec
-    Inv-loop
-    μ-loop
-    loop-holds
-    add-zs
-    mul-zs
-    shared-slice-read-zs
-    mul-zs-2
-    slice-write-zs
-    add-j
-    loop-less
-    loop-again
-    same-length
-    returns)
+    tie.close (tie.spec add-end mul-put sub-put part-put-start part-put-end put-requires same-length returns)

@@ -1,70 +1,32 @@
--- `words::same` meets its contract. The loop's invariant: the first j numbers agree.
+-- `words::same` meets its contract: lists of one length are the same where the first difference is not before their end.
 use mathlib.Core.Path.{_≡_, ap}
-use Prim.Native.Nat.{ℕ, _-_, _≤_, _<_}
+use mathlib.Core.List.{List}
+use Prim.Native.Nat.{ℕ, _≤_, _<_}
+use native.Mathlib.Decide.{decLt}
 use native.Mathlib.Omega.{arith}
 use lib.ListN.{length, getD}
 use lib.Seq.{ext-getD}
-use borrow.Author.Count.{below-more}
-use Rattle.algebra.proofs.Answers.{tells-yes, tells-no}
+use borrow.Author.Needs.{needs}
+use Rattle.algebra.proofs.Answers.{tells-leb}
+use Rattle.words.specs.Words.{FirstDifference}
 use Rattle.words.proofs.same.Statement.{statement}
 use Rattle.words.proofs.same.Tie as tie
 
-abbrev Inv-loop : tie.InvT-loop
-Inv-loop xs ys j₀ j = (j ≤ length xs) × ((i : ℕ) → i < j → getD xs i 0 ≡ getD ys i 0)
+-- of two equal lists no place differs
+not-before : {xs ys : List ℕ} {r : ℕ} → FirstDifference xs ys r → xs ≡ ys → Dec (r < length xs) → length xs ≤ r
+not-before {r = r} d e (yes h) = absurd (d .differs h (ap (λ zs. getD zs r 0) e))
+not-before d e (no h) = omega arith
 
-abbrev μ-loop : tie.MeasureT-loop
-μ-loop xs ys j₀ j = length xs - j
+first-difference-requires : tie.Need-first-difference-requires
+first-difference-requires c κs = search needs
 
-loop-holds : tie.Need-loop-holds Inv-loop μ-loop
-loop-holds c = (omega arith, λ i h. omega arith)
-
-mul-if1 : tie.Need-mul-if1 Inv-loop μ-loop
-mul-if1 c = omega arith
-
-shared-slice-read-if1 : tie.Need-shared-slice-read-if1 Inv-loop μ-loop
-shared-slice-read-if1 c = omega arith
-
-mul-if1-2 : tie.Need-mul-if1-2 Inv-loop μ-loop
-mul-if1-2 c = omega arith
-
-shared-slice-read-if1-2 : tie.Need-shared-slice-read-if1-2 Inv-loop μ-loop
-shared-slice-read-if1-2 c = omega arith
-
-returns : tie.Need-returns Inv-loop μ-loop
+returns : tie.Need-returns
 returns c =
-    let j = c .before .before .before .before .loop .j in
-    tells-no (λ e. c .if1 .taken (ap (λ zs. getD zs j 0) e))
-
-add-j : tie.Need-add-j Inv-loop μ-loop
-add-j c = omega arith
-
-loop-less : tie.Need-loop-less Inv-loop μ-loop
-loop-less c = omega arith
-
-loop-again : tie.Need-loop-again Inv-loop μ-loop
-loop-again c =
-    let l = c .before .before .before .before .loop in
-    (omega arith, below-more _ (l .j) (l .inv .1) (c .if1 .left))
-
-returns-2 : tie.Need-returns-2 Inv-loop μ-loop
-returns-2 c =
-    let a = c .before .before .args in
-    let l = c .before .loop in
-    tells-yes (ext-getD 0 (a .xs .now) (a .ys .now) (c .before .before .pre) (λ i h. l .inv .1 i (omega arith)))
+    let s = c .before .before .before in
+    let d = c .first-difference .ensures in
+    tells-leb (length (s .args .xs .now)) (c .first-difference .result)
+    (λ h. ext-getD 0 _ _ (s .pre) (λ i l. d .before i (omega arith)))
+    (λ e. not-before d e (decLt _ _))
 
 pub same-spec : {M : Type 1} → statement M
-same-spec =
-    tie.close
-    (tie.spec
-    Inv-loop
-    μ-loop
-    loop-holds
-    mul-if1
-    shared-slice-read-if1
-    mul-if1-2
-    shared-slice-read-if1-2
-    returns
-    add-j
-    loop-less
-    loop-again
-    returns-2)
+same-spec = tie.close (tie.spec first-difference-requires returns)

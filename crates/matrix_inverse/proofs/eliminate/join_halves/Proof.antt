@@ -54,7 +54,7 @@ add-product-within-requires c κs =
     let negative = c .before .before .before .before in
     let pre = start-of negative .pre in
     let e = negative .negative-product .ensures in
-    join-second (pre .halves) _ (e .same-length) (e .below) (pre .upper-used)
+    join-second (pre .halves) (e .same-length) (e .below) (pre .upper-used)
 
 add-marks-requires : tie.Need-add-marks-requires
 add-marks-requires c κs =
@@ -67,7 +67,7 @@ add-product-within-requires-2 c κs =
     let both = c .before .before .before .before .add-marks .ensures in
     let pre = start-of (negative-of within) .pre in
     let e = within .add-product-within .ensures in
-    join-third (pre .halves) (pre .t-below) _ (e .kept)
+    join-third (pre .halves) (pre .t-below) (e .kept)
     (used-product (modulus-positive (pre .halves)) (lower-block (pre .halves)) e (pre .upper-used) (pre .lower-used)
     (omega (arith, pre .lower-used .long, both .same-length))
     (both-zero both))
