@@ -2,28 +2,17 @@
 ghost use mathlib.Core.Path.{_≡_};
 ghost use Prim.Native.Nat.{_+_, _*_, _≤_, _<_};
 ghost use lib.ListN.{length};
-ghost use Rattle.frame.specs.Format.{width};
+ghost use Rattle.codec.specs.BigEndian.{width};
 ghost use Rattle.frame.specs.Bitmap.{recordBits, standing};
 ghost use Rattle.frame.specs.Reading.{readFrame};
-ghost use Rattle.frame.specs.Stages.{numberAt, valueAfter, checksFrom, Judged, multipliersFrom};
+ghost use Rattle.frame.specs.Stages.{valueAfter, checksFrom, Judged, multipliersFrom};
+ghost use Rattle.codec.specs.BigEndian.{width};
 ghost use Rattle.frame.specs.Told.{readTold};
 ghost use Rattle.frame.specs.Calls.{readOutcome};
 ghost use Rattle.checks.specs.Outcome.{outcome};
 use super::ReadAnswer;
 use super::bitmap;
 use checks::Refusal;
-
-// The number whose four bytes stand at the place, most significant first.
-fn number_at(bytes: &[u8], at: usize) -> u32
-    requires { ⌜ at + width ≤ length (now bytes) ⌝ }
-    ensures { λ r. ⌜ r ≡ numberAt (now (bytes .entry)) at ⌝ }
-{
-    let a = bytes[at] as u32;
-    let b = bytes[at + 1] as u32;
-    let c = bytes[at + 2] as u32;
-    let d = bytes[at + 3] as u32;
-    ((a * 256 + b) * 256 + c) * 256 + d
-}
 
 // Judges the multipliers that stand from the place on, and the value behind them: the value, or why the first bad one is refused.
 fn judged(p: u32, bytes: &[u8], start: usize, count: usize) -> ReadAnswer
@@ -33,7 +22,7 @@ fn judged(p: u32, bytes: &[u8], start: usize, count: usize) -> ReadAnswer
     let mut at = start;
     let mut left = count;
     while 0 < left {
-        let x = number_at(bytes, at);
+        let x = codec::number_at(bytes, at);
         if x == 0 {
             return ReadAnswer::Refused(Refusal::ZeroMultiplier);
         }
@@ -43,7 +32,7 @@ fn judged(p: u32, bytes: &[u8], start: usize, count: usize) -> ReadAnswer
         at += 4;
         left -= 1;
     }
-    let value = number_at(bytes, at);
+    let value = codec::number_at(bytes, at);
     if p <= value {
         return ReadAnswer::Refused(Refusal::Number);
     }
@@ -59,7 +48,7 @@ fn fill(map: [u8; 8], bytes: &[u8], start: usize, multipliers: &mut [u32])
     let mut j = 0;
     while j < multipliers.len() {
         if bitmap::stands(map, j) {
-            multipliers[j] = number_at(bytes, at);
+            multipliers[j] = codec::number_at(bytes, at);
             at += 4;
         } else {
             multipliers[j] = 0;
