@@ -9,6 +9,9 @@ ghost use Rattle.codec.specs.Placed.{placed, Put};
 ghost use Rattle.codec.specs.BigEndian.{width, bytesOf, numberAt};
 ghost use Rattle.codec.specs.Decimal.{digit, decimal, signedDecimal};
 
+// The bytes of a number.
+pub const WIDTH: usize = 4;
+
 // The number whose two bytes stand at the place, most significant first.
 pub fn pair_at(bytes: &[u8], at: usize) -> u32
     requires { ⌜ at + 2 ≤ length (now bytes) ⌝ }

@@ -56,7 +56,9 @@ pub record Filling (map bytes : List ℕ) (start n at j : ℕ) (xs : List ℕ) :
   pub room : at + width * count map j (n - j) ≤ length bytes
   pub filled : take j xs ++ multipliersFrom map bytes at j (n - j) ≡ multipliersFrom map bytes start 0 n
 
-pub filling-none : (map bytes : List ℕ) (start : ℕ) (xs : List ℕ) → start + width * standing (recordBits (length xs) map) ≤ length bytes → Filling map bytes start (length xs) start 0 xs
+pub filling-none :
+    (map bytes : List ℕ) (start : ℕ) (xs : List ℕ) → start + width * standing (recordBits (length xs) map) ≤ length bytes
+    → Filling map bytes start (length xs) start 0 xs
 filling-none map bytes start xs h =
     let all : length xs - 0 ≡ length xs = omega arith in
     record {

@@ -8,6 +8,9 @@ ghost use Rattle.checks.specs.Largest.{largest};
 ghost use Rattle.codec.specs.Placed.{placed};
 ghost use Rattle.frame.specs.Bitmap.{bitAt, standing, ClearFrom, mapFrom, mapOf, mapBits};
 
+// The bits of a map: one for every record that there can be.
+const BITS: usize = 64;
+
 // The map of the first len bytes; the bytes after them are 0.
 pub fn from_bytes(bytes: &[u8], len: usize) -> [u8; 8]
     requires { ⌜ (len ≤ 8) × (len ≤ length (now bytes)) ⌝ }
@@ -72,7 +75,7 @@ pub fn unpadded(map: [u8; 8], n: usize) -> bool
     ensures { λ r. ⌜ Tells r (ClearFrom n largest map) ⌝ }
 {
     let mut j = n;
-    while j < 64 {
+    while j < BITS {
         if stands(map, j) {
             return false;
         }

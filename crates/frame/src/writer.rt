@@ -9,6 +9,7 @@ ghost use Rattle.codec.specs.Placed.{placed, Put};
 ghost use Rattle.frame.specs.Format.{longest, packed, frameOf};
 ghost use Rattle.frame.specs.Bitmap.{mapOf};
 use super::bitmap;
+use codec::WIDTH;
 
 // The bytes of the longest frame.
 pub const LONGEST: usize = 268;
@@ -23,7 +24,7 @@ fn put_multipliers(map: [u8; 8], multipliers: &[u32], from: usize, bytes: &mut [
     while j < multipliers.len() {
         if bitmap::stands(map, j) {
             codec::put_number(bytes, at, multipliers[j]);
-            at += 4;
+            at += WIDTH;
         }
         j += 1;
     }
@@ -36,9 +37,9 @@ pub fn write_frame(n: usize, multipliers: &[u32], value: u32, bytes: &mut [u8]) 
 {
     let map = bitmap::of(multipliers);
     let len = (n + 7) / 8;
-    let end = len + 4 * bitmap::standing(map);
+    let end = len + WIDTH * bitmap::standing(map);
     bitmap::put(map, len, bytes);
     put_multipliers(map, multipliers, len, bytes);
     codec::put_number(bytes, end, value);
-    end + 4
+    end + WIDTH
 }

@@ -2,7 +2,24 @@
 use mathlib.Core.Path.{_≡_, refl}
 use mathlib.Core.List.{[], _∷_, _++_}
 use lib.IntN.{pos, negsuc}
-use Rattle.sheet_text.specs.Lines.{newWord, repeatWord, conflictWord, refusedWord, missingWord, unknownWord, space, lineFeed, wordLine, newLine, repeatLine, conflictLine, refusedLine, missingLine, recordText, recordLine}
+use Rattle.sheet_text.specs.Lines.{
+  newWord,
+  repeatWord,
+  conflictWord,
+  refusedWord,
+  missingWord,
+  unknownWord,
+  space,
+  lineFeed,
+  wordLine,
+  newLine,
+  repeatLine,
+  conflictLine,
+  refusedLine,
+  missingLine,
+  recordText,
+  recordLine,
+}
 use Rattle.codec.specs.Decimal.{digitsWithin, decimal, minus, signedDecimal}
 
 pub example :
