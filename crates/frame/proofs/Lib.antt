@@ -1,14 +1,12 @@
+pub mod Bytes
 pub mod Bits
 pub mod BitMaps
-pub mod ReadNumbers
 pub mod ReadJudging
 pub mod ReadFilling
 pub mod ReadChecks
-pub mod Bytes
 pub mod RoundMap
 pub mod RoundNumbers
 pub mod Round
-pub mod WritePut
 pub mod WriteMap
 pub mod WriteNumbers
 pub mod WriteFrame

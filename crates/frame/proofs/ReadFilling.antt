@@ -10,12 +10,13 @@ use native.Mathlib.Omega.{arith}
 use lib.ListN.{length, set, take, length-set}
 use lib.Seq.{take-suc-set, take-all, append-snoc}
 use Rattle.algebra.specs.Choice.{choose}
-use Rattle.frame.specs.Format.{width}
+use Rattle.codec.specs.BigEndian.{width}
 use Rattle.frame.specs.Bitmap.{bitAt, bitsFrom, standing, recordBits}
 use Rattle.frame.specs.Reading.{spread}
-use Rattle.frame.specs.Stages.{numberAt, multipliersFrom}
+use Rattle.frame.specs.Stages.{multipliersFrom}
+use Rattle.codec.specs.BigEndian.{numberAt}
 use Rattle.frame.proofs.Bits.{bits-more, count, count-more, count-record-bits}
-use Rattle.frame.proofs.ReadNumbers.{numbers-more}
+use Rattle.frame.proofs.Bytes.{numbers-more}
 
 -- the standing bits and the multipliers, by the first bit
 standing-true : (bs : List Bool) → standing (true ∷ bs) ≡ suc (standing bs)
@@ -40,7 +41,7 @@ module _ (map bytes : List ℕ) (at j : ℕ) where
   unfolding multipliersFrom bitsFrom spread
   multipliers-none = refl
 
-  multipliers-stands : (k : ℕ) → bitAt map j ≡ true → multipliersFrom map bytes at j (suc k) ≡ numberAt bytes at ∷ multipliersFrom map bytes (at + width) (suc j) k
+  multipliers-stands : (k : ℕ) → bitAt map j ≡ true → multipliersFrom map bytes at j (suc k) ≡ numberAt width bytes at ∷ multipliersFrom map bytes (at + width) (suc j) k
   unfolding multipliersFrom
   multipliers-stands k e = rw (bits-more, e, standing-true, numbers-more, spread-stands)
 
@@ -55,7 +56,9 @@ pub record Filling (map bytes : List ℕ) (start n at j : ℕ) (xs : List ℕ) :
   pub room : at + width * count map j (n - j) ≤ length bytes
   pub filled : take j xs ++ multipliersFrom map bytes at j (n - j) ≡ multipliersFrom map bytes start 0 n
 
-pub filling-none : (map bytes : List ℕ) (start : ℕ) (xs : List ℕ) → start + width * standing (recordBits (length xs) map) ≤ length bytes → Filling map bytes start (length xs) start 0 xs
+pub filling-none :
+    (map bytes : List ℕ) (start : ℕ) (xs : List ℕ) → start + width * standing (recordBits (length xs) map) ≤ length bytes
+    → Filling map bytes start (length xs) start 0 xs
 filling-none map bytes start xs h =
     let all : length xs - 0 ≡ length xs = omega arith in
     record {
@@ -93,10 +96,10 @@ module _ (map bytes : List ℕ) (start n at j : ℕ) (xs : List ℕ) (f : Fillin
         filled = rw (add-one, take-suc-set xs j v fits, append-snoc, ← step, ← left) (f .filled);
       }
 
-  pub filling-stands : bitAt map j ≡ true → Filling map bytes start n (at + width) (j + 1) (set xs j (numberAt bytes at))
+  pub filling-stands : bitAt map j ≡ true → Filling map bytes start n (at + width) (j + 1) (set xs j (numberAt width bytes at))
   unfolding width
   filling-stands e =
-      next (numberAt bytes at) (at + width) (omega (arith, reach true e)) (multipliers-stands map bytes at j (n - suc j) e)
+      next (numberAt width bytes at) (at + width) (omega (arith, reach true e)) (multipliers-stands map bytes at j (n - suc j) e)
 
   pub filling-absent : bitAt map j ≡ false → Filling map bytes start n at (j + 1) (set xs j 0)
   unfolding width

@@ -10,10 +10,11 @@ use Rattle.checks.specs.declared.Refusal.{Refusal}
 use Rattle.checks.specs.declared.Refusal.the-variants.{Number, ZeroMultiplier}
 use Rattle.checks.specs.InOrder.{AllHold, FirstFailing}
 use Rattle.checks.proofs.InOrder.{none-left, holds-and, fails-here, fails-later}
-use Rattle.frame.specs.Format.{width}
+use Rattle.codec.specs.BigEndian.{width}
 use Rattle.frame.specs.Reading.{numbersIn}
-use Rattle.frame.specs.Stages.{numberAt, valueAfter, checksFrom}
-use Rattle.frame.proofs.ReadNumbers.{numbers-none, numbers-more}
+use Rattle.frame.specs.Stages.{valueAfter, checksFrom}
+use Rattle.codec.specs.BigEndian.{numberAt}
+use Rattle.frame.proofs.Bytes.{numbers-none, numbers-more}
 
 -- the numbers before the place are good, so that what is left, up to the end, decides
 pub record Judging (p : ℕ) (bytes : List ℕ) (start k at left : ℕ) : Type 0 where
@@ -29,7 +30,7 @@ module _ (p : ℕ) (bytes : List ℕ) (start k at left : ℕ) (g : Judging p byt
   unfolding width
   judging-room = omega (arith, g .ends)
 
-  module _ (x : ℕ) (read : x ≡ numberAt bytes at) (more : 0 < left) where
+  module _ (x : ℕ) (read : x ≡ numberAt width bytes at) (more : 0 < left) where
     numbers : numbersIn left (drop at bytes) ≡ x ∷ numbersIn (left - 1) (drop (at + width) bytes)
     numbers =
         let e : left ≡ suc (left - 1) = omega arith in
@@ -56,7 +57,7 @@ module _ (p : ℕ) (bytes : List ℕ) (start k at left : ℕ) (g : Judging p byt
         }
 
   -- the value is the last number
-  module _ (v : ℕ) (read : v ≡ numberAt bytes at) (none : left ≡ 0) where
+  module _ (v : ℕ) (read : v ≡ numberAt width bytes at) (none : left ≡ 0) where
     last : valueAfter bytes at left ≡ v
     unfolding valueAfter numberAt width
     last =

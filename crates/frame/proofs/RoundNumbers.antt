@@ -14,7 +14,8 @@ use Rattle.words.specs.Words.{Below}
 use Rattle.frame.specs.Format.{stands, packed, valueBytes}
 use Rattle.frame.specs.Bitmap.{standing}
 use Rattle.frame.specs.Reading.{spread, numberChecks}
-use Rattle.frame.proofs.Bytes.{values-none, values-more, below-head, below-tail, below-cons}
+use Rattle.frame.proofs.Bytes.{values-none, values-more}
+use Rattle.codec.proofs.BigEndian.{below-head, below-tail, below-cons}
 
 -- ---- the multipliers that are written
 

@@ -1,18 +1,21 @@
 -- The writer's three steps, one behind the other, leave the frame at the front of the lent bytes and the rest as it was. The
 -- lent bytes have room for each step, since no frame is longer than the longest one.
 use mathlib.Core.Path.{_≡_, refl, ap, _∙_}
-use mathlib.Core.Bool.{Bool}
 use mathlib.Core.List.{List, [], _∷_, _++_}
 use Prim.Native.Nat.{ℕ, zero, suc, _+_, _*_, _≤_}
 use native.Mathlib.Omega.{arith}
-use lib.ListN.{length, take, drop, length-append}
+use lib.ListN.{length, take, length-append}
 use Rattle.field.specs.Written.{tabulate}
-use Rattle.frame.specs.Format.{width, mapLength, longest, bytesOf, stands, mapByte, mapBytes, packed, frameOf}
-use Rattle.frame.specs.Put.{placed}
-use Rattle.frame.proofs.Bytes.{bytes-length, one-value}
+use Rattle.frame.specs.Format.{mapLength, longest, stands, mapByte, mapBytes, packed, frameOf}
+use Rattle.frame.specs.Bitmap.{standing, mapOf, mapBits}
+use Rattle.codec.specs.BigEndian.{width, bytesOf}
+use Rattle.codec.specs.Placed.{placed}
+use Rattle.frame.proofs.Bytes.{one-value}
+use Rattle.codec.proofs.BigEndian.{bytes-length}
 use Rattle.frame.proofs.RoundMap.{map-length}
-use Rattle.frame.proofs.WritePut.{placed-length, placed-front, placed-next}
-use Rattle.frame.proofs.WriteNumbers.{packed-short}
+use Rattle.codec.proofs.Placed.{placed-length, placed-next}
+use Rattle.frame.proofs.WriteNumbers.{packed-length, packed-short}
+use Rattle.frame.proofs.WriteMap.{standing-of}
 
 take-tabulate : (k n : ℕ) (f : ℕ → ℕ) → k ≤ n → take k (tabulate n f) ≡ tabulate k f
 unfolding tabulate
@@ -25,9 +28,9 @@ pub map-short : (n : ℕ) → n ≤ 64 → mapLength n ≤ 8
 unfolding mapLength
 map-short n h = omega arith
 
-pub map-front : (n : ℕ) (bits : List Bool) → n ≤ 64 → take (mapLength n) (tabulate 8 (mapByte bits)) ≡ mapBytes n bits
-unfolding mapBytes
-map-front n bits h = take-tabulate (mapLength n) 8 (mapByte bits) (map-short n h)
+pub map-front : (n : ℕ) (xs : List ℕ) → n ≤ 64 → take (mapLength n) (mapOf xs) ≡ mapBytes n (stands xs)
+unfolding mapBytes mapOf
+map-front n xs h = take-tabulate (mapLength n) 8 (mapByte (stands xs)) (map-short n h)
 
 module _ (n : ℕ) (xs : List ℕ) (size : n ≤ 64) (long : length xs ≡ n) (old : List ℕ) (lent : length old ≡ longest) where
   abbrev with-map : List ℕ
@@ -49,35 +52,34 @@ module _ (n : ℕ) (xs : List ℕ) (size : n ≤ 64) (long : length xs ≡ n) (o
   numbers-long =
       placed-length (mapLength n) (packed xs) with-map (omega (arith, packed-short xs, numbers-room)) ∙ map-long
 
-  pub value-room : mapLength n + length (packed xs) + width ≤ length with-numbers
-  unfolding longest width
-  value-room = omega (arith, numbers-long, map-short n size, packed-short xs)
-
   -- the steps put the frame at once
   front : with-numbers ≡ placed 0 (mapBytes n (stands xs) ++ packed xs) old
-  unfolding longest width
   front =
       let map = mapBytes n (stands xs) in
       let at : mapLength n ≡ 0 + length map = omega (arith, map-length n (stands xs)) in
       ap (λ (k : ℕ). placed k (packed xs) with-map) at
-      ∙ placed-next 0 map (packed xs) old (omega (arith, map-length n (stands xs), map-short n size, packed-short xs))
+      ∙ placed-next 0 map (packed xs) old (omega arith)
 
   one-frame : (v : ℕ) → frameOf n xs (v ∷ []) ≡ mapBytes n (stands xs) ++ packed xs ++ bytesOf width v
   unfolding frameOf
   one-frame v = rw (one-value v)
 
-  -- and what is left is the frame, and behind it what stood there
-  pub frame-written :
-      (v : ℕ) → placed (mapLength n + length (packed xs)) (bytesOf width v) with-numbers ≡ frameOf n xs (v ∷ []) ++ drop (length (frameOf n xs (v ∷ []))) old
-  unfolding longest width
-  frame-written v =
-      let done = mapBytes n (stands xs) ++ packed xs in
-      let at : mapLength n + length (packed xs) ≡ 0 + length done =
-      omega (arith, map-length n (stands xs), length-append (mapBytes n (stands xs)) (packed xs)) in
-      rw (front, at, one-frame v)
-      (placed-next 0 done (bytesOf width v) old (omega (arith, map-short n size, packed-short xs, bytes-length width v))
-      ∙ placed-front (done ++ bytesOf width v) old)
+  -- the value stands where the map's count says
+  module _ (count : ℕ) (counted : count ≡ standing (mapBits (mapOf xs))) (v : ℕ) where
+    place : mapLength n + width * count ≡ mapLength n + length (packed xs)
+    place = rw (counted, standing-of xs (omega arith), packed-length)
 
-  pub frame-end : (v : ℕ) → mapLength n + length (packed xs) + width ≡ length (frameOf n xs (v ∷ []))
-  frame-end v =
-      rw (one-frame v, length-append, length-append, map-length, bytes-length width v)
+    pub value-room : mapLength n + width * count + width ≤ length with-numbers
+    unfolding longest width
+    value-room = omega (arith, place, numbers-long, map-short n size, packed-short xs)
+
+    -- and what is left is the frame, and behind it what stood there
+    pub frame-written : placed (mapLength n + width * count) (bytesOf width v) with-numbers ≡ placed 0 (frameOf n xs (v ∷ [])) old
+    frame-written =
+        let done = mapBytes n (stands xs) ++ packed xs in
+        let at : mapLength n + width * count ≡ 0 + length done =
+        omega (arith, place, map-length n (stands xs), length-append (mapBytes n (stands xs)) (packed xs)) in
+        rw (front, at, one-frame v) (placed-next 0 done (bytesOf width v) old (omega arith))
+
+    pub frame-end : mapLength n + width * count + width ≡ 0 + length (frameOf n xs (v ∷ []))
+    frame-end = rw (place, one-frame v, length-append, length-append, map-length, bytes-length width v) (omega arith)

@@ -1,25 +1,29 @@
--- The bit map as the writer makes it, one record after the other: a multiplier that is not 0 adds 2^(j mod 8) to byte j/8,
--- and 0 adds nothing. A byte is packed from eight bits (RoundMap), so both are said of packed numbers first.
+-- The bit map of multipliers as the code makes it, one record after the other: a multiplier that is not 0 adds 2^(j mod 8) to
+-- byte j/8, and 0 adds nothing. A byte is packed from eight bits (RoundMap), so both are said of packed numbers first. Last, which
+-- of its bits stand, and how many.
 use mathlib.Core.Path.{_≡_, refl, sym, ap, _∙_}
-use mathlib.Core.Bool.{Bool, true, false, not}
-use mathlib.Core.List.{List, [], _∷_}
-use Prim.Native.Nat.{ℕ, zero, suc, _+_, _*_, _/_, _%_, _^_, _<_}
+use mathlib.Core.Bool.{Bool, true, false, not, true≢false}
+use mathlib.Core.List.{List, [], _∷_, append-nil}
+use Prim.Native.Nat.{ℕ, zero, suc, _+_, _*_, _/_, _%_, _^_, _<_, _≤_}
 use native.Mathlib.Nat.{pow-zero, pow-suc, one-mul, mod-eq-of-lt, not-suc-le-zero}
 use native.Mathlib.Numerals.{add-one}
 use native.Mathlib.Decide.{ℕ-discrete}
 use native.Mathlib.Omega.{arith}
-use borrow.Author.Tests.{eq-eqb, ne-eqb}
+use borrow.Author.Tests.{eq-eqb, ne-eqb, eqb-true, not-false}
 use lib.Dec.{eqb}
 use lib.Pow.{pow-lt}
 use lib.ListN.{length, getD, set, take, length-set, length-take, List·getD-eq-default}
-use lib.Seq.{getD-set-same, getD-set-other}
+use lib.Seq.{ext-getD, getD-set-same, getD-set-other}
 use mir.Val.{Fits}
 use mir.Syntax.{w8}
 use Rattle.field.specs.Written.{tabulate}
 use Rattle.field.proofs.Written.{length-tabulate, getD-tabulate, is-tabulate}
-use Rattle.frame.specs.Format.{stands, mapByte}
-use Rattle.frame.proofs.RoundMap.{pack, pack-more, pack-same, pack-below, map-byte}
-use Rattle.frame.proofs.RoundNumbers.{stands-length}
+use Rattle.checks.specs.Largest.{largest}
+use Rattle.frame.specs.Format.{stands, mapByte, mapBytes, mapLength}
+use Rattle.frame.specs.Bitmap.{bitAt, standing, recordBits, ClearFrom, mapOf, mapBits}
+use Rattle.frame.proofs.RoundMap.{pack, pack-more, pack-same, pack-below, map-byte, map-bit, record-bits-length, record-bit}
+use Rattle.frame.proofs.RoundNumbers.{kept, stands-length, standing-kept}
+use Rattle.frame.proofs.BitMaps.{standing-first}
 
 -- ---- one bit more
 
@@ -76,7 +80,8 @@ module _ (xs : List ℕ) (j : ℕ) (h : j < length xs) where
       (λ t d. prefix-other xs j (8 * (j / 8) + t) h (λ e. d (omega arith))))
 
   -- 0 adds nothing
-  pub map-skips : getD xs j 0 ≡ 0 → tabulate 8 (mapByte (stands (take j xs))) ≡ tabulate 8 (mapByte (stands (take (j + 1) xs)))
+  pub map-skips : getD xs j 0 ≡ 0 → mapOf (take j xs) ≡ mapOf (take (j + 1) xs)
+  unfolding mapOf
   map-skips e =
       let f = mapByte (stands (take j xs)) in
       rw add-one
@@ -88,34 +93,66 @@ module _ (xs : List ℕ) (j : ℕ) (h : j < length xs) where
     one-bit = rw one-mul (mod-eq-of-lt (pow-lt {i = j % 8} {j = 8} (omega arith)))
 
     -- byte j/8 with its bit
-    marked-byte :
-        getD (tabulate 8 (mapByte (stands (take j xs)))) (j / 8) 0 + 1 * 2 ^ (j % 8) % 256 ≡ mapByte (stands (take (suc j) xs)) (j / 8)
+    marked-byte : getD (mapOf (take j xs)) (j / 8) 0 + 1 * 2 ^ (j % 8) % 256 ≡ mapByte (stands (take (suc j) xs)) (j / 8)
+    unfolding mapOf
     marked-byte = rw (getD-tabulate 8 (mapByte (stands (take j xs))) (j / 8) (omega arith), one-bit) (sym (byte-marked n))
 
-    pub marked-fits : Fits w8 (getD (tabulate 8 (mapByte (stands (take j xs)))) (j / 8) 0 + 1 * 2 ^ (j % 8) % 256)
+    pub marked-fits : Fits w8 (getD (mapOf (take j xs)) (j / 8) 0 + 1 * 2 ^ (j % 8) % 256)
     marked-fits = record { fits = rw (marked-byte, map-byte) (pack-below _ 8) }
 
     -- any other multiplier makes bit j mod 8 of byte j/8 stand
     pub map-marks :
-        set (tabulate 8 (mapByte (stands (take j xs)))) (j / 8) (getD (tabulate 8 (mapByte (stands (take j xs)))) (j / 8) 0 + 1 * 2 ^ (j % 8) % 256)
-        ≡ tabulate 8 (mapByte (stands (take (j + 1) xs)))
+        set (mapOf (take j xs)) (j / 8) (getD (mapOf (take j xs)) (j / 8) 0 + 1 * 2 ^ (j % 8) % 256) ≡ mapOf (take (j + 1) xs)
+    unfolding mapOf
     map-marks =
-        let f = mapByte (stands (take j xs)) in
         rw (add-one, marked-byte)
         (is-tabulate 8 (mapByte (stands (take (suc j) xs))) _ (length-set (tabulate 8 f) (j / 8) _ ∙ length-tabulate 8 f)
         (λ b k. by-place b k (ℕ-discrete b (j / 8))))
       where
+        f : ℕ → ℕ
+        f = mapByte (stands (take j xs))
+
         by-place :
             (b : ℕ) → b < 8 → Dec (b ≡ j / 8)
-            → getD (set (tabulate 8 (mapByte (stands (take j xs)))) (j / 8) (mapByte (stands (take (suc j) xs)) (j / 8))) b 0 ≡ mapByte (stands (take (suc j) xs)) b
-        by-place b k (yes e) =
-            let f = mapByte (stands (take j xs)) in
-            rw (sym e) (getD-set-same (tabulate 8 f) b _ 0 (omega (arith, length-tabulate 8 f)))
+            → getD (set (tabulate 8 f) (j / 8) (mapByte (stands (take (suc j) xs)) (j / 8))) b 0 ≡ mapByte (stands (take (suc j) xs)) b
+        by-place b k (yes e) = rw (sym e) (getD-set-same (tabulate 8 f) b _ 0 (omega (arith, length-tabulate 8 f)))
         by-place b k (no d) =
-            let f = mapByte (stands (take j xs)) in
             getD-set-other (tabulate 8 f) (j / 8) b _ 0 d ∙ getD-tabulate 8 f b k ∙ sym (byte-same b (λ i q e. absurd (d (omega arith))))
 
 -- no record, no bit
-pub map-none : 0 ∷ 0 ∷ 0 ∷ 0 ∷ 0 ∷ 0 ∷ 0 ∷ 0 ∷ [] ≡ tabulate 8 (mapByte (stands []))
-unfolding tabulate mapByte stands
+pub map-none : 0 ∷ 0 ∷ 0 ∷ 0 ∷ 0 ∷ 0 ∷ 0 ∷ 0 ∷ [] ≡ mapOf []
+unfolding mapOf tabulate mapByte stands
 map-none = refl
+
+-- ---- its bits
+
+stands-at : (xs : List ℕ) (j : ℕ) → j < length xs → getD (stands xs) j false ≡ not (eqb (getD xs j 0) 0)
+unfolding stands
+stands-at [] j h = absurd (not-suc-le-zero h)
+stands-at (x ∷ xs) zero h = refl
+stands-at (x ∷ xs) (suc j) h = stands-at xs j (omega arith)
+
+module _ (xs : List ℕ) where
+  -- bit j is record j's, and does not stand where there is no record
+  bit-of : (j : ℕ) → j < largest → bitAt (mapOf xs) j ≡ getD (stands xs) j false
+  unfolding mapOf mapBytes mapLength
+  bit-of j h = rw append-nil at (map-bit largest (stands xs) [] j (omega arith))
+
+  -- it stands where the multiplier is not 0
+  pub stands-of : (j : ℕ) → j < largest → j < length xs → bitAt (mapOf xs) j ≡ true → getD xs j 0 ≡ 0 → ⊥
+  stands-of j h l e z = true≢false (sym e ∙ bit-of j h ∙ stands-at xs j l ∙ ap not (eq-eqb (getD xs j 0) 0 z))
+
+  pub absent-of : (j : ℕ) → j < largest → j < length xs → bitAt (mapOf xs) j ≡ false → getD xs j 0 ≡ 0
+  absent-of j h l e = eqb-true _ _ (not-false _ (sym (stands-at xs j l) ∙ sym (bit-of j h) ∙ e))
+
+  -- so the standing bits are as many as the multipliers that are not 0
+  pub standing-of : length xs ≤ largest → standing (mapBits (mapOf xs)) ≡ length (kept xs)
+  standing-of h =
+      let n = length xs in
+      let bits : recordBits n (mapOf xs) ≡ stands xs =
+      ext-getD false (recordBits n (mapOf xs)) (stands xs) (record-bits-length n (mapOf xs) ∙ sym (stands-length xs))
+      (λ j l.
+      let k : j < n = omega (arith, record-bits-length n (mapOf xs)) in
+      record-bit n (mapOf xs) j k ∙ bit-of j (omega arith)) in
+      let clear : ClearFrom n largest (mapOf xs) = λ j l k. bit-of j l ∙ List·getD-eq-default (stands xs) false (omega (arith, stands-length xs)) in
+      standing-first n (mapOf xs) h clear ∙ ap standing bits ∙ standing-kept xs

@@ -11,11 +11,13 @@ use lib.Dec.{eqb}
 use lib.ListN.{length, getD, take, length-append, length-take}
 use lib.Seq.{take-suc, take-length}
 use Rattle.algebra.specs.Choice.{choose}
-use Rattle.frame.specs.Format.{width, bytesOf, packed}
-use Rattle.frame.specs.Put.{placed}
-use Rattle.frame.proofs.Bytes.{bytes-length, value-bytes-length}
-use Rattle.frame.proofs.RoundNumbers.{packed-kept, kept-length}
-use Rattle.frame.proofs.WritePut.{placed-length, placed-none, placed-next}
+use Rattle.frame.specs.Format.{packed}
+use Rattle.codec.specs.BigEndian.{width, bytesOf}
+use Rattle.codec.specs.Placed.{placed}
+use Rattle.frame.proofs.Bytes.{value-bytes-length}
+use Rattle.codec.proofs.BigEndian.{bytes-length}
+use Rattle.frame.proofs.RoundNumbers.{kept, packed-kept, kept-length}
+use Rattle.codec.proofs.Placed.{placed-length, placed-none, placed-next}
 
 packed-append : (xs ys : List ℕ) → packed (xs ++ ys) ≡ packed xs ++ packed ys
 unfolding packed
@@ -30,9 +32,12 @@ packed-none : packed [] ≡ []
 unfolding packed
 packed-none = refl
 
--- each multiplier takes at most its bytes
+-- each multiplier that is not 0 takes its bytes
+pub packed-length : (xs : List ℕ) → length (packed xs) ≡ width * length (kept xs)
+packed-length xs = rw packed-kept (value-bytes-length (kept xs))
+
 pub packed-short : (xs : List ℕ) → length (packed xs) ≤ width * length xs
-packed-short xs = rw (packed-kept, value-bytes-length) (mul-le-mul-left width (kept-length xs))
+packed-short xs = rw packed-length (mul-le-mul-left width (kept-length xs))
 
 module _ (xs : List ℕ) (j : ℕ) (h : j < length xs) where
   packed-more : packed (take (j + 1) xs) ≡ packed (take j xs) ++ choose (eqb (getD xs j 0) 0) [] (bytesOf width (getD xs j 0))
@@ -45,7 +50,7 @@ module _ (xs : List ℕ) (j : ℕ) (h : j < length xs) where
   packed-adds n = packed-more ∙ rw (ne-eqb (getD xs j 0) 0 n)
 
 -- after j multipliers: the place behind them, and the bytes
-pub record Put (from : ℕ) (xs : List ℕ) (j at : ℕ) (old new : List ℕ) : Type 0 where
+pub record Packing (from : ℕ) (xs : List ℕ) (j at : ℕ) (old new : List ℕ) : Type 0 where
   pub place : at ≡ from + length (packed (take j xs))
   pub bytes : new ≡ placed from (packed (take j xs)) old
 
@@ -56,27 +61,27 @@ module _ (from : ℕ) (xs : List ℕ) (old : List ℕ) (room : from + width * le
       length-take-at-most : (j : ℕ) (xs : List ℕ) → length (take j xs) ≤ j
       length-take-at-most j xs = omega (arith, length-take j xs)
 
-  pub put-none : Put from xs 0 from old old
-  put-none = record { place = rw packed-none (omega arith); bytes = rw packed-none (sym (placed-none from old)) }
+  pub packing-none : Packing from xs 0 from old old
+  packing-none = record { place = rw packed-none (omega arith); bytes = rw packed-none (sym (placed-none from old)) }
 
-  pub put-length : (j at : ℕ) (new : List ℕ) → j ≤ length xs → Put from xs j at old new → length new ≡ length old
-  put-length j at new h w =
+  pub packing-length : (j at : ℕ) (new : List ℕ) → j ≤ length xs → Packing from xs j at old new → length new ≡ length old
+  packing-length j at new h w =
       ap length (w .bytes)
       ∙ placed-length from (packed (take j xs)) old (omega (arith, part-short j h, mul-le-mul-left width h))
 
   -- there is room for the next number
-  pub put-room : (j at : ℕ) (new : List ℕ) → j < length xs → Put from xs j at old new → at + width ≤ length new
-  put-room j at new h w =
-      rw (put-length j at new (omega arith) w, w .place)
+  pub packing-room : (j at : ℕ) (new : List ℕ) → j < length xs → Packing from xs j at old new → at + width ≤ length new
+  packing-room j at new h w =
+      rw (packing-length j at new (omega arith) w, w .place)
       (omega (arith, part-short j (omega arith), mul-le-mul-left width h))
 
-  pub put-skip : (j at : ℕ) (new : List ℕ) → j < length xs → getD xs j 0 ≡ 0 → Put from xs j at old new → Put from xs (j + 1) at old new
-  put-skip j at new h e w = record { place = rw (packed-skips xs j h e) (w .place); bytes = rw (packed-skips xs j h e) (w .bytes) }
+  pub packing-skip : (j at : ℕ) (new : List ℕ) → j < length xs → getD xs j 0 ≡ 0 → Packing from xs j at old new → Packing from xs (j + 1) at old new
+  packing-skip j at new h e w = record { place = rw (packed-skips xs j h e) (w .place); bytes = rw (packed-skips xs j h e) (w .bytes) }
 
-  pub put-more :
-      (j at : ℕ) (new : List ℕ) → j < length xs → (getD xs j 0 ≡ 0 → ⊥) → Put from xs j at old new
-      → Put from xs (j + 1) (at + width) old (placed at (bytesOf width (getD xs j 0)) new)
-  put-more j at new h n w =
+  pub packing-more :
+      (j at : ℕ) (new : List ℕ) → j < length xs → (getD xs j 0 ≡ 0 → ⊥) → Packing from xs j at old new
+      → Packing from xs (j + 1) (at + width) old (placed at (bytesOf width (getD xs j 0)) new)
+  packing-more j at new h n w =
       record {
         place = rw (packed-adds xs j h n, w .place, length-append, bytes-length width (getD xs j 0)) (omega arith);
         bytes =
@@ -86,5 +91,5 @@ module _ (from : ℕ) (xs : List ℕ) (old : List ℕ) (room : from + width * le
       }
 
   -- after all of them
-  pub put-all : (at : ℕ) (new : List ℕ) → Put from xs (length xs) at old new → (at ≡ from + length (packed xs)) × (new ≡ placed from (packed xs) old)
-  put-all at new w = (rw (take-length xs) at (w .place), rw (take-length xs) at (w .bytes))
+  pub packing-all : (at : ℕ) (new : List ℕ) → Packing from xs (length xs) at old new → new ≡ placed from (packed xs) old
+  packing-all at new w = rw (take-length xs) at (w .bytes)

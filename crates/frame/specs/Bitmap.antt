@@ -1,5 +1,5 @@
 -- 01, "Frame bytes": the bits of a bit map, and which of them stand. "The bit map is worked on as eight bytes, whichever n is
--- given": such a map is built from the front of a frame.
+-- given": such a map is built from the front of a frame or from multipliers.
 use mathlib.Core.Path.{_≡_}
 use mathlib.Core.Bool.{Bool, false}
 use mathlib.Core.List.{List, [], _∷_, _++_}
@@ -8,7 +8,8 @@ use lib.ListN.{getD, take, replicate}
 use lib.Dec.{eqb}
 use Rattle.algebra.specs.Choice.{choose}
 use Rattle.checks.specs.Largest.{largest}
-use Rattle.frame.specs.Format.{mapLength}
+use Rattle.field.specs.Written.{tabulate}
+use Rattle.frame.specs.Format.{mapLength, stands, mapByte}
 
 -- bit j of the bit map at the front of the bytes
 unfoldable pub bitAt : List ℕ → ℕ → Bool
@@ -41,6 +42,10 @@ Unpadded n bytes = ClearFrom n (8 * mapLength n) bytes
 -- the map whose first len bytes stand at the front of the bytes; the others are 0
 unfoldable pub mapFrom : ℕ → List ℕ → List ℕ
 mapFrom len bytes = take len bytes ++ replicate (8 - len) 0
+
+-- the map of multipliers, whose bits stand where they are not 0
+unfoldable pub mapOf : List ℕ → List ℕ
+mapOf xs = tabulate 8 (mapByte (stands xs))
 
 -- all of its bits, a bit for every record that there can be
 abbrev pub mapBits : List ℕ → List Bool

@@ -1,10 +1,10 @@
 -- The checks of read, write and seal in order, and what each call comes to. 01: "For these, n is 1 to 64, and the order is 1, 2,
 -- 3, then the checks above (writing: multipliers, then value; sealing: multipliers, then records)."
-use mathlib.Core.List.{List, [], _∷_, _++_}
+use mathlib.Core.List.{List, [], _∷_}
 use Prim.Native.Nat.{ℕ}
 use native.Mathlib.Decide.{decLt}
 use lib.IntN.{ℤ, pos}
-use lib.ListN.{length, drop}
+use lib.ListN.{length}
 use Rattle.checks.specs.declared.Refusal.{Refusal}
 use Rattle.checks.specs.declared.Refusal.the-variants.{Length, Number}
 use Rattle.checks.specs.Told.{gives, results}
@@ -13,6 +13,7 @@ use Rattle.checks.specs.InOrder.{Checks, passed, _else_, _⨾_, andThen, inOrde
 use Rattle.checks.specs.Decide.{long?}
 use Rattle.checks.specs.Sizes.{frameSizes}
 use Rattle.words.specs.Decide.{below?}
+use Rattle.codec.specs.Placed.{placed}
 use Rattle.frame.specs.Format.{longest, frameOf}
 use Rattle.frame.specs.Reading.{Found, accepted, rejected, readFrame}
 use Rattle.frame.specs.Sealing.{sealed}
@@ -46,7 +47,7 @@ abbrev pub writeChecks : (p n : ℕ) (multipliers : List ℕ) (value : ℕ) (byt
 writeChecks p n xs v lent = andThen (frameSizes p n) (λ _. writeRest p n xs v lent)
 
 abbrev pub written : (frame lent : List ℕ) → Outcome (List ℕ)
-written frame lent = outcome (results (length frame)) (frame ++ drop (length frame) lent)
+written frame lent = outcome (results (length frame)) (placed 0 frame lent)
 
 unfoldable pub writeCall : (p n : ℕ) (multipliers : List ℕ) (value : ℕ) (bytes : List ℕ) → Outcome (List ℕ)
 writeCall p n xs v lent = inOrder (writeChecks p n xs v lent) (λ _. written (frameOf n xs (v ∷ [])) lent) (untouched lent)

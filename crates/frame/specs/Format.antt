@@ -1,15 +1,12 @@
 -- 01, "Frame bytes": what the bytes of a frame are, from its multipliers and its values.
 use mathlib.Core.Bool.{Bool, false, not}
 use mathlib.Core.List.{List, [], _∷_, _++_, map}
-use Prim.Native.Nat.{ℕ, zero, suc, _+_, _*_, _/_, _%_, _^_}
+use Prim.Native.Nat.{ℕ, zero, suc, _+_, _*_, _/_}
 use lib.ListN.{getD}
 use lib.Dec.{eqb}
 use Rattle.algebra.specs.Choice.{choose}
 use Rattle.field.specs.Written.{tabulate}
-
--- the bytes of a number in a frame
-unfoldable pub width : ℕ
-width = 4
+use Rattle.codec.specs.BigEndian.{width, bytesOf}
 
 -- the bytes of the bit map of n records: (n + 7)/8, rounded down
 unfoldable pub mapLength : ℕ → ℕ
@@ -18,16 +15,6 @@ mapLength n = (n + 7) / 8
 -- the longest frame, 64 records with a multiplier each and one value; what writing is lent
 unfoldable pub longest : ℕ
 longest = 268
-
--- the last k bytes of x, most significant first
-unfoldable pub bytesOf : ℕ → ℕ → List ℕ
-bytesOf zero x = []
-bytesOf (suc k) x = x / 256 ^ k % 256 ∷ bytesOf k x
-
--- the number whose bytes these are, most significant first
-unfoldable pub numberFrom : ℕ → List ℕ → ℕ
-numberFrom acc [] = acc
-numberFrom acc (b ∷ bs) = numberFrom (acc * 256 + b) bs
 
 -- record j's bit stands where its multiplier is not 0
 unfoldable pub stands : List ℕ → List Bool

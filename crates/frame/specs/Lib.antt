@@ -4,7 +4,6 @@ pub mod Sealing
 pub mod Decide
 pub mod Reading
 pub mod Stages
-pub mod Put
 pub mod Told
 pub mod Calls
 pub mod Examples

@@ -3,18 +3,14 @@
 use mathlib.Core.Path.{_≡_}
 use mathlib.Core.List.{List}
 use Prim.Native.Nat.{ℕ, _+_, _*_}
-use lib.ListN.{take, drop}
+use lib.ListN.{drop}
 use Rattle.checks.specs.declared.Refusal.{Refusal}
 use Rattle.checks.specs.InOrder.{Checks, AllHold, FirstFailing}
 use Rattle.frame.specs.declared.ReadAnswer.{ReadAnswer}
 use Rattle.frame.specs.declared.ReadAnswer.the-variants.{Value, Refused}
-use Rattle.frame.specs.Format.{width, numberFrom}
+use Rattle.codec.specs.BigEndian.{width, numberFrom}
 use Rattle.frame.specs.Bitmap.{bitsFrom, standing}
 use Rattle.frame.specs.Reading.{numbersIn, spread, numberChecks}
-
--- the number whose bytes stand at a place
-unfoldable pub numberAt : List ℕ → ℕ → ℕ
-numberAt bytes at = numberFrom 0 (take width (drop at bytes))
 
 -- the value that stands behind k numbers from a place on, at the end of the bytes
 unfoldable pub valueAfter : List ℕ → (at k : ℕ) → ℕ

@@ -2,28 +2,18 @@
 ghost use mathlib.Core.Path.{_≡_};
 ghost use Prim.Native.Nat.{_+_, _*_, _≤_, _<_};
 ghost use lib.ListN.{length};
-ghost use Rattle.frame.specs.Format.{width};
+ghost use Rattle.checks.specs.Largest.{largest};
+ghost use Rattle.checks.specs.Outcome.{outcome};
+ghost use Rattle.codec.specs.BigEndian.{width};
 ghost use Rattle.frame.specs.Bitmap.{recordBits, standing};
 ghost use Rattle.frame.specs.Reading.{readFrame};
-ghost use Rattle.frame.specs.Stages.{numberAt, valueAfter, checksFrom, Judged, multipliersFrom};
+ghost use Rattle.frame.specs.Stages.{valueAfter, checksFrom, Judged, multipliersFrom};
 ghost use Rattle.frame.specs.Told.{readTold};
 ghost use Rattle.frame.specs.Calls.{readOutcome};
-ghost use Rattle.checks.specs.Outcome.{outcome};
 use super::ReadAnswer;
 use super::bitmap;
 use checks::Refusal;
-
-// The number whose four bytes stand at the place, most significant first.
-fn number_at(bytes: &[u8], at: usize) -> u32
-    requires { ⌜ at + width ≤ length (now bytes) ⌝ }
-    ensures { λ r. ⌜ r ≡ numberAt (now (bytes .entry)) at ⌝ }
-{
-    let a = bytes[at] as u32;
-    let b = bytes[at + 1] as u32;
-    let c = bytes[at + 2] as u32;
-    let d = bytes[at + 3] as u32;
-    ((a * 256 + b) * 256 + c) * 256 + d
-}
+use codec::WIDTH;
 
 // Judges the multipliers that stand from the place on, and the value behind them: the value, or why the first bad one is refused.
 fn judged(p: u32, bytes: &[u8], start: usize, count: usize) -> ReadAnswer
@@ -33,17 +23,17 @@ fn judged(p: u32, bytes: &[u8], start: usize, count: usize) -> ReadAnswer
     let mut at = start;
     let mut left = count;
     while 0 < left {
-        let x = number_at(bytes, at);
+        let x = codec::number_at(bytes, at);
         if x == 0 {
             return ReadAnswer::Refused(Refusal::ZeroMultiplier);
         }
         if p <= x {
             return ReadAnswer::Refused(Refusal::Number);
         }
-        at += 4;
+        at += WIDTH;
         left -= 1;
     }
-    let value = number_at(bytes, at);
+    let value = codec::number_at(bytes, at);
     if p <= value {
         return ReadAnswer::Refused(Refusal::Number);
     }
@@ -52,15 +42,15 @@ fn judged(p: u32, bytes: &[u8], start: usize, count: usize) -> ReadAnswer
 
 // Writes the multipliers: the next number from the place on where the bit stands, and 0 where it does not.
 fn fill(map: [u8; 8], bytes: &[u8], start: usize, multipliers: &mut [u32])
-    requires { ⌜ (length (now multipliers) ≤ 64) × (start + width * standing (recordBits (length (now multipliers)) map) ≤ length (now bytes)) ⌝ }
+    requires { ⌜ (length (now multipliers) ≤ largest) × (start + width * standing (recordBits (length (now multipliers)) map) ≤ length (now bytes)) ⌝ }
     ensures { λ _. ⌜ now (multipliers .exit) ≡ multipliersFrom map (now (bytes .entry)) start 0 (length (now (multipliers .entry))) ⌝ }
 {
     let mut at = start;
     let mut j = 0;
     while j < multipliers.len() {
         if bitmap::stands(map, j) {
-            multipliers[j] = number_at(bytes, at);
-            at += 4;
+            multipliers[j] = codec::number_at(bytes, at);
+            at += WIDTH;
         } else {
             multipliers[j] = 0;
         }
@@ -71,7 +61,7 @@ fn fill(map: [u8; 8], bytes: &[u8], start: usize, multipliers: &mut [u32])
 // Reads a frame whose modulus and sizes are known to be right: for the board, which has checked them. Only where all numbers
 // are good are the multipliers written.
 pub fn read_frame(p: u32, n: usize, bytes: &[u8], multipliers: &mut [u32]) -> ReadAnswer
-    requires { ⌜ (0 < p) × (1 ≤ n) × (n ≤ 64) × (length (now multipliers) ≡ n) ⌝ }
+    requires { ⌜ (0 < p) × (1 ≤ n) × (n ≤ largest) × (length (now multipliers) ≡ n) ⌝ }
     ensures { λ r. ⌜ outcome (readTold r) (now (multipliers .exit)) ≡ readOutcome (now (multipliers .entry)) (readFrame p n (now (bytes .entry))) ⌝ }
 {
     let len = (n + 7) / 8;
@@ -83,7 +73,7 @@ pub fn read_frame(p: u32, n: usize, bytes: &[u8], multipliers: &mut [u32]) -> Re
         return ReadAnswer::Refused(Refusal::Padding);
     }
     let count = bitmap::standing(map);
-    if bytes.len() != len + 4 * count + 4 {
+    if bytes.len() != len + WIDTH * count + WIDTH {
         return ReadAnswer::Refused(Refusal::FrameLength);
     }
     match judged(p, bytes, len, count) {

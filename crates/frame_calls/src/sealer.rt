@@ -3,6 +3,7 @@ ghost use mathlib.Core.Path.{_≡_};
 ghost use Prim.Native.Nat.{ℕ, _≤_, _<_};
 ghost use lib.IntN.{pos};
 ghost use lib.ListN.{length, getD};
+ghost use Rattle.checks.specs.Largest.{largest};
 ghost use Rattle.signed.specs.Reading.{residueOf};
 ghost use Rattle.frame.specs.Sealing.{Records, sealed};
 
@@ -21,7 +22,7 @@ fn put_residues(p: u32, records: &[i32], residues: &mut [u32])
 
 // The value of the frame of records and multipliers that are known to be right.
 pub fn value_of(p: u32, records: &[i32], multipliers: &[u32]) -> u32
-    requires { ⌜ (0 < p) × (p ≤ 2147483647) × Records p (now records) × (length (now records) ≤ 64) × (length (now multipliers) ≡ length (now records)) ⌝ }
+    requires { ⌜ (0 < p) × (p ≤ 2147483647) × Records p (now records) × (length (now records) ≤ largest) × (length (now multipliers) ≡ length (now records)) ⌝ }
     ensures { λ r. ⌜ r ≡ sealed p (length (now (records .entry))) (now (records .entry)) (now (multipliers .entry)) ⌝ }
 {
     let n = records.len();

@@ -1,25 +1,13 @@
 -- The line of each of take's answers, case by case: new and repeat carry the count, a refusal with the number 9 is a conflict with
 -- the count afterwards, and any other is refused with its number.
 use mathlib.Core.Path.{_≡_, refl}
-use Prim.Native.Nat.{ℕ, _<_}
+use Prim.Native.Nat.{ℕ}
 use native.Mathlib.Omega.{arith}
 use borrow.Author.Tests.{eq-eqb, ne-eqb}
 use Rattle.checks.specs.declared.Refusal.{Refusal}
-use Rattle.checks.specs.declared.Refusal.the-variants.{
-  Modulus,
-  Size,
-  Length,
-  Number,
-  Insoluble,
-  FrameLength,
-  Padding,
-  ZeroMultiplier,
-  Conflict,
-  Withdrawal,
-  NotBoard,
-}
 use Rattle.checks.specs.Refusal.{refusalNumber}
 use Rattle.checks.specs.Told.{refused}
+use Rattle.checks.proofs.Refusals.{refusal-number}
 use Rattle.board_solve.specs.Told.{takeTold}
 use Rattle.board_solve.specs.declared.TakeAnswer.the-variants.{New, Repeat}
 use Rattle.sheet_text.specs.Lines.{answerLine, newLine, repeatLine, conflictLine, refusedLine}
@@ -33,25 +21,12 @@ unfolding answerLine
 repeat-answer k count = refl
 
 -- a refusal's number is neither that of new nor that of repeat
-number-between : (k : Refusal) → (0 < refusalNumber k) × (refusalNumber k < 100)
-number-between Modulus = omega arith
-number-between Size = omega arith
-number-between Length = omega arith
-number-between Number = omega arith
-number-between Insoluble = omega arith
-number-between FrameLength = omega arith
-number-between Padding = omega arith
-number-between ZeroMultiplier = omega arith
-number-between Conflict = omega arith
-number-between Withdrawal = omega arith
-number-between NotBoard = omega arith
-
 module _ (k : Refusal) (count : ℕ) where
   refusal-not-new : refusalNumber k ≡ 0 → ⊥
-  refusal-not-new e = omega (arith, number-between k .0)
+  refusal-not-new e = omega (arith, refusal-number k .0)
 
   refusal-not-repeat : refusalNumber k ≡ 100 → ⊥
-  refusal-not-repeat e = omega (arith, number-between k .1)
+  refusal-not-repeat e = omega (arith, refusal-number k .1)
 
   pub conflict-answer : refusalNumber k ≡ 9 → answerLine (refused k) count ≡ conflictLine count
   unfolding answerLine

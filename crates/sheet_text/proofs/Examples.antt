@@ -3,10 +3,6 @@ use mathlib.Core.Path.{_≡_, refl}
 use mathlib.Core.List.{[], _∷_, _++_}
 use lib.IntN.{pos, negsuc}
 use Rattle.sheet_text.specs.Lines.{
-  digitsWithin,
-  decimal,
-  minus,
-  signedDecimal,
   newWord,
   repeatWord,
   conflictWord,
@@ -24,6 +20,7 @@ use Rattle.sheet_text.specs.Lines.{
   recordText,
   recordLine,
 }
+use Rattle.codec.specs.Decimal.{digitsWithin, decimal, minus, signedDecimal}
 
 pub example :
     newLine 1 ++ newLine 2 ++ repeatLine 2 ++ conflictLine 2 ++ newLine 3

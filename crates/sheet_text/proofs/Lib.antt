@@ -1,6 +1,5 @@
-pub mod Decimals
 pub mod Written
 pub mod Answers
 pub mod Input
-pub mod Signs
+pub mod Records
 pub mod Examples

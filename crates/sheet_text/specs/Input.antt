@@ -5,11 +5,11 @@ use mathlib.Core.List.{List, [], _∷_}
 use Prim.Native.Nat.{ℕ}
 use lib.Dec.{ltb}
 use lib.IntN.{pos}
-use lib.ListN.{length, getD, take}
+use lib.ListN.{length, getD}
 use Rattle.algebra.specs.Choice.{choose}
 use Rattle.checks.specs.declared.Refusal.the-variants.{FrameLength}
-use Rattle.checks.specs.Told.{Told, refused}
-use Rattle.frame.specs.Format.{numberFrom}
+use Rattle.checks.specs.Told.{Told, refused, done, gives}
+use Rattle.codec.specs.BigEndian.{width, numberFrom, numberAt}
 use Rattle.sheet_text.specs.declared.HeaderAnswer.{HeaderAnswer}
 use Rattle.sheet_text.specs.declared.HeaderAnswer.the-variants as heading
 use Rattle.sheet_text.specs.declared.FrameInput.{FrameInput}
@@ -27,35 +27,25 @@ unfoldable pub headerCall : List ℕ → Told
 headerCall bytes =
     choose (ltb (length bytes) 5)
     (refused FrameLength)
-    (record { number = 0; values = pos (numberFrom 0 (take 4 bytes)) ∷ pos (getD bytes 4 0) ∷ [] })
+    (record { number = 0; values = pos (numberAt width bytes 0) ∷ pos (getD bytes 4 0) ∷ [] })
 
 -- ---- frames
 
--- a frame's length, from its two bytes
-unfoldable pub frameLength : ℕ → ℕ → ℕ
-frameLength high low = numberFrom 0 (high ∷ low ∷ [])
-
 -- what there is to tell: 0 and no length at the end of the input, 0 and the length of a frame, or 6 of a cut one
-abbrev pub ended : Told
-ended = record { number = 0; values = [] }
-
-abbrev pub framed : ℕ → Told
-framed size = record { number = 0; values = pos size ∷ [] }
-
 abbrev pub frameTold : FrameInput → Told
-frameTold input.End = ended
+frameTold input.End = done
 frameTold input.Cut = refused FrameLength
-frameTold (input.Frame size) = framed size
+frameTold (input.Frame size) = gives (pos size)
 
 -- of the bytes that came of a frame's length: none are the end of the input, and one is a cut length
 unfoldable pub frameStart : List ℕ → Told
-frameStart [] = ended
+frameStart [] = done
 frameStart (high ∷ []) = refused FrameLength
-frameStart (high ∷ low ∷ rest) = framed (frameLength high low)
+frameStart (high ∷ low ∷ rest) = gives (pos (numberFrom 0 (high ∷ low ∷ [])))
 
 -- of a frame of that size, of whose bytes so many came: fewer are a cut frame
 unfoldable pub frameBody : (size came : ℕ) → Told
-frameBody size came = choose (ltb came size) (refused FrameLength) (framed size)
+frameBody size came = choose (ltb came size) (refused FrameLength) (gives (pos size))
 
 -- the length in an answer, where there is one
 abbrev pub lengthIn : FrameInput → ℕ

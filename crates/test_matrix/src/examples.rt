@@ -1,5 +1,5 @@
 // Document 01's examples of tables that are not starred, and the order of the checks: a call that one check refuses would be
-// refused by the later ones too. The starred examples are a theorem, in matrix_calls/proofs/Examples.antt.
+// refused by the later ones too. The starred examples are a theorem, in matrix/proofs/Examples.antt.
 ghost use Prim.Native.Nat.{_≤_};
 use super::memory;
 use super::report;

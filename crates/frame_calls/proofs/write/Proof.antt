@@ -1,5 +1,6 @@
 -- `frame_calls::write` meets its contract: each return is by the first check that fails, and past the checks the frame is written.
 use mathlib.Core.Path.{_≡_, subst}
+use native.Mathlib.Nat.{zero-add}
 use native.Mathlib.Omega.{arith}
 use borrow.Author.Needs.{needs}
 use lib.ListN.{length}
@@ -87,7 +88,7 @@ cast-t18 c =
     let e = w .before .before .before .before .before .before in
     let a = start (e .before) .args in
     let s = given (sized (e .before)) .1 .0 in
-    omega (arith, w .write-frame .ensures .0, longest-frame (a .n) (a .multipliers .now) (a .value) (counted e) (s .1))
+    omega (arith, w .write-frame .ensures .end, longest-frame (a .n) (a .multipliers .now) (a .value) (counted e) (s .1))
 
 same-length : tie.Need-same-length
 same-length c = search needs
@@ -99,7 +100,7 @@ returns-6 c =
     let g = h .before in
     let f = g .before .before in
     let e = f .before in
-    rw (w .write-frame .ensures .0, w .write-frame .ensures .1)
+    rw (w .write-frame .ensures .end, w .write-frame .ensures .memory, zero-add)
     (write-done _ _ _ _ _ (sized (e .before))
     (holds-and (counted e) (λ _. holds-and (room f) (λ _. holds-and (below g) (λ _. holds-and (omega arith) (λ _. none-left))))))
 

@@ -1,10 +1,8 @@
 -- `sheet_text::frame_start` meets its contract: no byte is the end, one is a cut length, and two bytes give a length that fits
 -- sixteen bits.
-use borrow.Author.Needs.{needs}
 use mathlib.Core.Path.{sym}
 use native.Mathlib.Omega.{arith}
-use lib.ListN.{getD}
-use Rattle.sheet_text.proofs.Input.{two-bytes, start-end, start-cut, start-frame}
+use Rattle.sheet_text.proofs.Input.{start-end, start-cut, start-frame}
 use Rattle.sheet_text.proofs.frame_start.Statement.{statement}
 use Rattle.sheet_text.proofs.frame_start.Tie as tie
 
@@ -16,30 +14,18 @@ returns-2 c =
     let at-first = c .before in
     (sym (start-cut (at-first .before .before .args .bytes .now) (at-first .if1 .left) (omega arith)), omega arith)
 
-shared-slice-read-frame-length : tie.Need-shared-slice-read-frame-length
-shared-slice-read-frame-length c = search needs
+pair-at-requires : tie.Need-pair-at-requires
+pair-at-requires c κs = omega arith
 
-shared-slice-read-frame-length-2 : tie.Need-shared-slice-read-frame-length-2
-shared-slice-read-frame-length-2 c = search needs
-
-frame-length-requires : tie.Need-frame-length-requires
-frame-length-requires c κs = search needs
+cast-t2 : tie.Need-cast-t2
+cast-t2 c = omega arith
 
 returns-3 : tie.Need-returns-3
-returns-3 c =
-    let bytes = c .before .before .before .before .before .before .args .bytes .now in
-    let byte = c .before .shared-slice-known3 .given in (
-      rw (c .frame-length .ensures) (sym (start-frame bytes (omega arith))),
-      omega (arith, c .frame-length .ensures, two-bytes (getD bytes 0 0) (getD bytes 1 0), byte 0, byte 1),
-    )
+returns-3 c = (
+  rw (c .pair-at .ensures .1) (sym (start-frame (c .before .before .before .before .args .bytes .now) (omega arith))),
+  omega arith,
+)
 
 pub frame-start-spec : {M : Type 1} → statement M
 frame-start-spec =
-    tie.close
-    (tie.spec
-    returns
-    returns-2
-    shared-slice-read-frame-length
-    shared-slice-read-frame-length-2
-    frame-length-requires
-    returns-3)
+    tie.close (tie.spec returns returns-2 pair-at-requires cast-t2 returns-3)

@@ -5,7 +5,7 @@ use borrow.Author.Tests.{eq-eqb, ne-eqb}
 use mir.Syntax.{w32}
 use mir.ValLaws.{toZ-ofZ}
 use Rattle.sheet_text.specs.Lines.{recordText, unknownWord}
-use Rattle.sheet_text.proofs.Signs.{signed-at-most}
+use Rattle.codec.proofs.Signs.{signed-at-most}
 use Rattle.sheet_text.proofs.put_record.Statement.{statement}
 use Rattle.sheet_text.proofs.put_record.Tie as tie
 
@@ -25,11 +25,11 @@ returns c =
     rw (eq-eqb (s .args .mark) 1 (c .before .before .before .before .if1 .taken))
     (rw (toZ-ofZ w32 (s .args .number) (s .fits .number)) at (c .before .before .put-signed .ensures))
 
-slice-aggregate-put-word : tie.Need-slice-aggregate-put-word
-slice-aggregate-put-word c = search needs
+slice-aggregate-put-bytes : tie.Need-slice-aggregate-put-bytes
+slice-aggregate-put-bytes c = search needs
 
-put-word-requires : tie.Need-put-word-requires
-put-word-requires c κs = search needs
+put-bytes-requires : tie.Need-put-bytes-requires
+put-bytes-requires c κs = search needs
 
 same-length-2 : tie.Need-same-length-2
 same-length-2 c = search needs
@@ -38,7 +38,7 @@ returns-2 : tie.Need-returns-2
 unfolding recordText unknownWord
 returns-2 c =
     let s = c .before .before .before .before .before .before .before in
-    rw (ne-eqb (s .args .mark) 1 (c .before .before .before .before .before .if1 .left)) (c .before .before .put-word .ensures)
+    rw (ne-eqb (s .args .mark) 1 (c .before .before .before .before .before .if1 .left)) (c .before .before .put-bytes .ensures)
 
 pub put-record-spec : {M : Type 1} → statement M
 put-record-spec =
@@ -47,7 +47,7 @@ put-record-spec =
     put-signed-requires
     same-length
     returns
-    slice-aggregate-put-word
-    put-word-requires
+    slice-aggregate-put-bytes
+    put-bytes-requires
     same-length-2
     returns-2)

@@ -7,9 +7,10 @@ use lib.ListN.{length}
 use mir.Syntax.{w32}
 use mir.ValLaws.{toZ-ofZ}
 use Rattle.sheet_text.specs.Lines.{recordLine, space, lineFeed}
-use Rattle.sheet_text.proofs.Decimals.{digits-at-most}
-use Rattle.sheet_text.proofs.Signs.{record-at-most}
-use Rattle.sheet_text.proofs.Written.{put-then, put-line}
+use Rattle.codec.proofs.Decimals.{digits-at-most}
+use Rattle.sheet_text.proofs.Records.{record-at-most}
+use Rattle.sheet_text.proofs.Written.{put-line}
+use Rattle.codec.proofs.Placed.{put-then}
 use Rattle.sheet_text.proofs.record_line.Statement.{statement}
 use Rattle.sheet_text.proofs.record_line.Tie as tie
 
@@ -20,10 +21,10 @@ behind-position c =
     let d = c .put-decimal in
     omega (arith, d .ensures .end, d .kept .0, digits-at-most (s .args .position) 9 (omega arith))
 
-behind-space : (c : tie.After-put-word) → (c .put-word .result ≤ 11) × (32 ≤ length (c .put-word .last .0))
+behind-space : (c : tie.After-put-bytes) → (c .put-bytes .result ≤ 11) × (32 ≤ length (c .put-bytes .last .0))
 behind-space c =
     let p = behind-position (c .before .before .before .before .before) in
-    let w = c .put-word in
+    let w = c .put-bytes in
     omega (arith, w .ensures .end, w .kept .0)
 
 behind-record : (c : tie.After-put-record) → (c .put-record .result ≤ 22) × (32 ≤ length (c .put-record .last .0))
@@ -37,20 +38,20 @@ behind-record c =
 put-decimal-requires : tie.Need-put-decimal-requires
 put-decimal-requires c κs = omega (arith, digits-at-most (c .before .before .args .position) 9 (omega arith))
 
-slice-aggregate-put-word : tie.Need-slice-aggregate-put-word
-slice-aggregate-put-word c = search needs
+slice-aggregate-put-bytes : tie.Need-slice-aggregate-put-bytes
+slice-aggregate-put-bytes c = search needs
 
-put-word-requires : tie.Need-put-word-requires
-put-word-requires c κs = omega (arith, behind-position (c .before .before .before .before))
+put-bytes-requires : tie.Need-put-bytes-requires
+put-bytes-requires c κs = omega (arith, behind-position (c .before .before .before .before))
 
 put-record-requires : tie.Need-put-record-requires
 put-record-requires c κs = omega (arith, behind-space (c .before .before .before))
 
-slice-aggregate-put-word-2 : tie.Need-slice-aggregate-put-word-2
-slice-aggregate-put-word-2 c = search needs
+slice-aggregate-put-bytes-2 : tie.Need-slice-aggregate-put-bytes-2
+slice-aggregate-put-bytes-2 c = search needs
 
-put-word-requires-2 : tie.Need-put-word-requires-2
-put-word-requires-2 c κs = omega (arith, behind-record (c .before .before .before .before))
+put-bytes-requires-2 : tie.Need-put-bytes-requires-2
+put-bytes-requires-2 c κs = omega (arith, behind-record (c .before .before .before .before))
 
 same-length : tie.Need-same-length
 same-length c = search needs
@@ -65,18 +66,18 @@ returns c =
     let s = at-position .before .before .before in
     let inside : 0 ≤ length (s .args .out .now) = omega arith in
     let text = rw (toZ-ofZ w32 (s .args .number) (s .fits .number)) at (at-record .put-record .ensures) in
-    let spaced = put-then inside (at-position .put-decimal .ensures) (at-space .put-word .ensures) in
-    put-line (put-then inside (put-then inside spaced text) (at-end .put-word2 .ensures))
+    let spaced = put-then inside (at-position .put-decimal .ensures) (at-space .put-bytes .ensures) in
+    put-line (put-then inside (put-then inside spaced text) (at-end .put-bytes2 .ensures))
 
 pub record-line-spec : {M : Type 1} → statement M
 record-line-spec =
     tie.close
     (tie.spec
     put-decimal-requires
-    slice-aggregate-put-word
-    put-word-requires
+    slice-aggregate-put-bytes
+    put-bytes-requires
     put-record-requires
-    slice-aggregate-put-word-2
-    put-word-requires-2
+    slice-aggregate-put-bytes-2
+    put-bytes-requires-2
     same-length
     returns)

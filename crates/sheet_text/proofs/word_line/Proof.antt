@@ -4,17 +4,18 @@ use native.Mathlib.Omega.{arith}
 use Prim.Native.Nat.{_≤_}
 use lib.ListN.{length}
 use Rattle.sheet_text.specs.Lines.{wordLine, lineFeed}
-use Rattle.sheet_text.proofs.Decimals.{digits-at-most}
-use Rattle.sheet_text.proofs.Written.{put-then, put-line}
+use Rattle.codec.proofs.Decimals.{digits-at-most}
+use Rattle.sheet_text.proofs.Written.{put-line}
+use Rattle.codec.proofs.Placed.{put-then}
 use Rattle.sheet_text.proofs.word_line.Statement.{statement}
 use Rattle.sheet_text.proofs.word_line.Tie as tie
 
-put-word-requires : tie.Need-put-word-requires
-put-word-requires c κs = search needs
+put-bytes-requires : tie.Need-put-bytes-requires
+put-bytes-requires c κs = search needs
 
 -- how far the line has come behind the word and behind the digits, in a buffer that keeps its length
-behind-word : (c : tie.After-put-word) → (c .put-word .result ≤ 16) × (32 ≤ length (c .put-word .last .0))
-behind-word c = let w = c .put-word in omega (arith, w .ensures .end, w .kept .0)
+behind-word : (c : tie.After-put-bytes) → (c .put-bytes .result ≤ 16) × (32 ≤ length (c .put-bytes .last .0))
+behind-word c = let w = c .put-bytes in omega (arith, w .ensures .end, w .kept .0)
 
 behind-digits : (c : tie.After-put-decimal) → (c .put-decimal .result ≤ 26) × (32 ≤ length (c .put-decimal .last .0))
 behind-digits c =
@@ -30,11 +31,11 @@ put-decimal-requires c κs =
     let n = at-word .before .before .before .before .args .n in
     omega (arith, behind-word at-word, digits-at-most n 9 (omega arith))
 
-slice-aggregate-put-word : tie.Need-slice-aggregate-put-word
-slice-aggregate-put-word c = search needs
+slice-aggregate-put-bytes : tie.Need-slice-aggregate-put-bytes
+slice-aggregate-put-bytes c = search needs
 
-put-word-requires-2 : tie.Need-put-word-requires-2
-put-word-requires-2 c κs = omega (arith, behind-digits (c .before .before .before .before))
+put-bytes-requires-2 : tie.Need-put-bytes-requires-2
+put-bytes-requires-2 c κs = omega (arith, behind-digits (c .before .before .before .before))
 
 same-length : tie.Need-same-length
 same-length c = search needs
@@ -48,16 +49,16 @@ returns c =
     let inside : 0 ≤ length (at-word .before .before .before .before .args .out .now) = omega arith in
     put-line
     (put-then inside
-    (put-then inside (at-word .put-word .ensures) (at-digits .put-decimal .ensures))
-    (at-end .put-word2 .ensures))
+    (put-then inside (at-word .put-bytes .ensures) (at-digits .put-decimal .ensures))
+    (at-end .put-bytes2 .ensures))
 
 pub word-line-spec : {M : Type 1} → statement M
 word-line-spec =
     tie.close
     (tie.spec
-    put-word-requires
+    put-bytes-requires
     put-decimal-requires
-    slice-aggregate-put-word
-    put-word-requires-2
+    slice-aggregate-put-bytes
+    put-bytes-requires-2
     same-length
     returns)

@@ -5,7 +5,7 @@ use mathlib.Core.Logic.{⊎-elim}
 use Prim.Native.Nat.{_+_, _-_, _≤_, _<_}
 use native.Mathlib.Omega.{arith}
 use lib.ListN.{length}
-use Rattle.frame.specs.Format.{width}
+use Rattle.codec.specs.BigEndian.{width}
 use Rattle.frame.proofs.ReadFilling.{Filling, filling-none, filling-room, filling-stands, filling-absent, filling-all}
 use Rattle.frame.proofs.reading.fill.Statement.{statement}
 use Rattle.frame.proofs.reading.fill.Tie as tie

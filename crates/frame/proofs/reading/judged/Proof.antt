@@ -1,7 +1,7 @@
 -- `frame::reading::judged` meets its contract. The loop's invariant: the multipliers before the place are good, so that those
 -- left and the value decide.
 use native.Mathlib.Omega.{arith}
-use Rattle.frame.specs.Format.{width}
+use Rattle.codec.specs.BigEndian.{width}
 use Rattle.frame.proofs.ReadJudging.{
   Judging,
   judging-none,

@@ -1,0 +1,4 @@
+pub mod Placed
+pub mod BigEndian
+pub mod Decimals
+pub mod Signs
