@@ -8,12 +8,14 @@ ghost use Rattle.checks.specs.Prime.{IsModulus};
 ghost use Rattle.field.specs.Residue.{residues};
 ghost use Rattle.field.specs.View.{line, table as tableOf};
 ghost use Rattle.words.specs.Words.{Below};
-ghost use Rattle.ledger.specs.Board.{modulusWord, sizeWord, entriesOf, headerLength, rowLength};
+ghost use Rattle.ledger.specs.Board.{modulusWord, sizeWord, entriesOf, rowStart};
+ghost use Rattle.checks.specs.Largest.{largest};
 ghost use Rattle.ledger.specs.Changes.{Appended};
 ghost use Rattle.ledger.specs.Steps.{takeAccepted};
 ghost use Rattle.ledger.specs.Calls.{takeOutcome, laidOut};
 ghost use Rattle.board_solve.specs.Told.{takeTold};
 ghost use Rattle.board_words.specs.Held.{Held};
+use board_words::layout;
 use checks::Refusal;
 
 // New and repeat carry the count; a refusal carries its kind.
@@ -35,14 +37,15 @@ fn mix_rows(p: u32, by: &[u32], table: &[u32], width: usize) -> [u32; 64]
 
 // Writes the row f and the value v behind the k standing rows, and counts it.
 fn append(board: &mut [u32], k: u32, f: &[u32], v: u32)
-    requires { ⌜ (headerLength + suc k * rowLength (length (now f)) ≤ length (now board)) × (k ≤ 64) ⌝ }
+    requires { ⌜ (length (now f) ≤ largest) × (k ≤ largest) × (rowStart (length (now f)) (suc k) ≤ length (now board)) ⌝ }
     ensures { λ _. ⌜ Appended (length (now (f .entry))) k (now (f .entry)) v (now (board .entry)) (now (board .exit)) ⌝ }
 {
     let n = f.len();
-    let at = 3 + (k as usize) * (n + 1);
+    let at = layout::row_start(n, k as usize);
     words::put(f, board, at);
-    board[at + n] = v;
-    board[2] = k + 1;
+    let end = layout::value_start(n, k as usize);
+    board[end] = v;
+    board[layout::COUNT] = k + 1;
 }
 
 // Takes the row f, n multipliers, with the value v: c = f D is the only combination that can give f, and it does exactly if
@@ -58,9 +61,9 @@ pub fn take_row(
     requires { ⌜ Held (now board) (now rows) (now d) × (length (now f) ≡ sizeWord (now board)) × ((j : ℕ) → j < sizeWord (now board) → getD (now f) j 0 < modulusWord (now board)) × (v < modulusWord (now board)) × (length (now mix) ≡ sizeWord (now board)) ⌝ }
     ensures { λ r. ⌜ ((ok : IsModulus (modulusWord (now (board .entry)))) → takeOutcome (takeTold r) (now (board .exit)) (now (mix .exit)) ≡ laidOut (modulusWord (now (board .entry))) (sizeWord (now (board .entry))) (takeAccepted (modulusWord (now (board .entry))) ok (sizeWord (now (board .entry))) (entriesOf (now (board .entry))) (now (f .entry)) v (now (mix .entry)))) ⌝ }
 {
-    let p = board[0];
-    let n = board[1] as usize;
-    let count = board[2];
+    let p = board[layout::MODULUS];
+    let n = board[layout::SIZE] as usize;
+    let count = board[layout::COUNT];
     let k = count as usize;
     let c = mix_rows(p, f, d, k);
     let g = mix_rows(p, &c[..k], rows, n);
@@ -69,7 +72,7 @@ pub fn take_row(
         return TakeAnswer::New(count + 1);
     }
     words::put(&c[..n], mix, 0);
-    if field::sums::dot(p, &c[..k], board, 3 + n, n + 1) != v {
+    if field::sums::dot(p, &c[..k], board, layout::value_start(n, 0), layout::row_length(n)) != v {
         return TakeAnswer::Refused(Refusal::Conflict);
     }
     TakeAnswer::Repeat(count)

@@ -17,7 +17,8 @@ use Rattle.field.specs.View.{line, table}
 use Rattle.field.proofs.Field.{residues-field}
 use Rattle.field.proofs.Views.{table-entry}
 use Rattle.signed.specs.Reading.{reading}
-use Rattle.ledger.specs.Board.{headerLength, rowLength, modulusWord, sizeWord, countWord, entriesOf}
+use Rattle.ledger.specs.Board.{rowLength, valueStart, modulusWord, sizeWord, countWord, entriesOf}
+use Rattle.ledger.proofs.LayoutPlaces.{value-step}
 use Rattle.ledger.specs.Ledger.{Assignment, MeetsAll, Settled, multiplierRows, valueColumn}
 use Rattle.ledger.specs.Steps.{shownMark, shownNumber}
 use Rattle.ledger.proofs.LedgerLaws.{shown-exactly}
@@ -35,7 +36,7 @@ abbrev heldRows : (ws rows : List ℕ) → Matrix (ringOf ws)
 heldRows ws rows = table (modulusWord ws) rows 0 (sizeWord ws) (countWord ws) (sizeWord ws)
 
 abbrev heldValues : (ws : List ℕ) → Vector (ringOf ws)
-heldValues ws = line (modulusWord ws) ws (headerLength + sizeWord ws) (rowLength (sizeWord ws))
+heldValues ws = line (modulusWord ws) ws (valueStart (sizeWord ws) 0) (rowLength (sizeWord ws))
 
 abbrev SolvesHeld : (ws rows : List ℕ) → Assignment (modulusWord ws) → Type 0
 SolvesHeld ws rows x = Solves (ringOf ws) (countWord ws) (sizeWord ws) (heldRows ws rows) x (heldValues ws)
@@ -67,9 +68,7 @@ module _ (ws rows d : List ℕ) (held : Held ws rows d) where
   values-same : (i : ℕ) → i < countWord ws → valueColumn (modulusWord ws) (entriesOf ws) i ≡ heldValues ws i
   unfolding line
   values-same i h =
-      let w = rowLength (sizeWord ws) in
-      let e : headerLength + i * w + sizeWord ws ≡ headerLength + sizeWord ws + i * w = omega arith in
-      rows-values ws (modulusWord ws) i h ∙ ap (λ q. reduce (modulusWord ws) (getD ws q 0)) e
+      rows-values ws (modulusWord ws) i h ∙ ap (λ q. reduce (modulusWord ws) (getD ws q 0)) (value-step (sizeWord ws) i)
 
   sums-same : (x : Assignment (modulusWord ws)) (i : ℕ) → i < countWord ws
       → apply (ringOf ws) (sizeWord ws) (multiplierRows (modulusWord ws) (entriesOf ws)) x i

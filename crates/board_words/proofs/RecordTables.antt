@@ -3,7 +3,7 @@
 use mathlib.Core.Path.{_≡_, sym, ap, ap₂, _∙_}
 use mathlib.Core.List.{List}
 use Prim.Native.Nat.{ℕ, _+_, _*_, _-_, _≤_, _<_}
-use native.Mathlib.Nat.{mul-le-mul, mul-le-mul-right}
+use native.Mathlib.Nat.{mul-le-mul}
 use native.Mathlib.Omega.{arith}
 use lib.ListN.{length, getD, take, drop, length-drop}
 use lib.Seq.{length-take-le, getD-take, getD-drop}
@@ -16,17 +16,12 @@ use Rattle.words.specs.Words.{Below, Blank}
 use Rattle.field.proofs.Field.{residues-ring}
 use Rattle.field.proofs.Views.{table-entry}
 use Rattle.matrix_inverse.proofs.StepNegative.{taken-below, dropped-below}
-use Rattle.ledger.specs.Board.{headerLength, rowLength, boardLength}
+use Rattle.ledger.specs.Board.{rowLength, valueStart}
 use Rattle.board_words.specs.Records.{valueAt}
 
 -- row i of a table of at most 64 rows of w numbers, w at most 64, lies in 4096 numbers
 pub row-inside : (i w : ℕ) → i < 64 → w ≤ 64 → i * w + w ≤ 4096
 row-inside i w h l = omega (arith, mul-le-mul h l)
-
--- the value of row i of n + 1 numbers lies in a board of n rows
-pub value-inside : (n i : ℕ) → i < n → 3 + n + i * (n + 1) < boardLength n
-unfolding boardLength headerLength rowLength
-value-inside n i h = omega (arith, mul-le-mul-right (n + 1) h)
 
 -- column c of R, as the code reads it
 column-entry : (p n k : ℕ) (rows : List ℕ) (t c : ℕ) → t < k → c < n → line p rows (0 + c) n t ≡ table p rows 0 n k n t c
@@ -79,19 +74,19 @@ module _ (k j : ℕ) (d : List ℕ) (inside : j * k + k ≤ length d) where
     zero-row-times positive blank rows c =
         product-row (residues p) (residues-ring p positive) k _ _ j (λ t l. sym (row-entry t l) ∙ ap (reduce p) (blank (0 + t * 1))) c
 
-    -- the entry j of D v
+    -- the entry j of D v, and a number r that is the sum of its products
     values-sum : (board : List ℕ)
-        → sum (residues p) (length (rowPart k j d)) (λ t. line p (rowPart k j d) 0 1 t ⊗ line p board (3 + n) (n + 1) t)
+        → sum (residues p) (length (rowPart k j d)) (λ t. line p (rowPart k j d) 0 1 t ⊗ line p board (valueStart n 0) (rowLength n) t)
         ≡ valueAt p n k j board d
-    unfolding apply headerLength rowLength
+    unfolding apply
     values-sum board =
-        ap (λ m. sum (residues p) m (λ t. line p (rowPart k j d) 0 1 t ⊗ line p board (3 + n) (n + 1) t)) part-length
-        ∙ sum-same (residues p) k (λ t. line p (rowPart k j d) 0 1 t ⊗ line p board (3 + n) (n + 1) t)
-        (λ t. table p d 0 k n k j t ⊗ line p board (3 + n) (n + 1) t)
-        (λ t l. ap (λ (a : Residue p). a ⊗ line p board (3 + n) (n + 1) t) (row-entry t l))
+        let v = line p board (valueStart n 0) (rowLength n) in
+        ap (λ m. sum (residues p) m (λ t. line p (rowPart k j d) 0 1 t ⊗ v t)) part-length
+        ∙ sum-same (residues p) k (λ t. line p (rowPart k j d) 0 1 t ⊗ v t) (λ t. table p d 0 k n k j t ⊗ v t)
+        (λ t l. ap (λ (a : Residue p). a ⊗ v t) (row-entry t l))
 
-    -- a number r that is the sum of these products is the value of that entry
     pub row-times-values : (board : List ℕ) (r : ℕ)
-        → r ≡ sum (residues p) (length (rowPart k j d)) (λ t. line p (rowPart k j d) 0 1 t ⊗ line p board (3 + n) (n + 1) t) .value
+        → r
+        ≡ sum (residues p) (length (rowPart k j d)) (λ t. line p (rowPart k j d) 0 1 t ⊗ line p board (valueStart n 0) (rowLength n) t) .value
         → r ≡ valueAt p n k j board d .value
     row-times-values board r e = e ∙ ap (λ (x : Residue p). x .value) (values-sum board)

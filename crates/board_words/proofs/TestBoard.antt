@@ -15,7 +15,8 @@ use Rattle.field.specs.Residue.{residues}
 use Rattle.field.specs.View.{table}
 use Rattle.field.proofs.Field.{residues-field}
 use Rattle.matrix_mul.proofs.Places.{table-same}
-use Rattle.ledger.specs.Board.{IsBoard, headerLength, rowLength, modulusWord, sizeWord, countWord}
+use Rattle.ledger.specs.Board.{IsBoard, headerLength, rowLength, modulusWord, sizeWord, countWord, multiplierTable}
+use Rattle.ledger.proofs.LayoutPlaces.{row-step}
 use Rattle.ledger.specs.Decide.{board?}
 use Rattle.board_words.specs.Tested.{Header, Filled, Inverted}
 use Rattle.board_words.specs.Held.{Held}
@@ -40,10 +41,13 @@ module _ (ws rows d : List ℕ) (h : Header ws) (f : Filled ws) where
   -- the copied rows are the table of the board's rows
   same-table : (t : Bool) → Inverted ws rows d t
       → table (modulusWord ws) rows 0 (sizeWord ws) (countWord ws) (sizeWord ws)
-      ≡ table (modulusWord ws) ws headerLength (rowLength (sizeWord ws)) (countWord ws) (sizeWord ws)
+      ≡ multiplierTable ws
   same-table t v =
       table-same (modulusWord ws) rows 0 (sizeWord ws) ws headerLength (rowLength (sizeWord ws)) (countWord ws) (sizeWord ws)
-      (λ i j k l. ap (λ q. getD rows (q + j) 0) (zero-add (i * sizeWord ws)) ∙ v .work .same-rows i j k l)
+      (λ i j k l.
+      ap (λ q. getD rows (q + j) 0) (zero-add (i * sizeWord ws))
+      ∙ v .work .same-rows i j k l
+      ∙ ap (λ q. getD ws (q + j) 0) (row-step (sizeWord ws) i))
 
   held : Inverted ws rows d true → Held ws rows d
   held v =

@@ -9,7 +9,7 @@ use Rattle.algebra.specs.Quasiinverse.{Marks, IsPivotInverse}
 use Rattle.field.specs.Residue.{residues}
 use Rattle.field.specs.View.{table}
 use Rattle.words.specs.Words.{Below}
-use Rattle.ledger.specs.Board.{IsBoard, headerLength, rowLength, modulusWord, sizeWord, countWord}
+use Rattle.ledger.specs.Board.{IsBoard, rowStart, modulusWord, sizeWord, countWord}
 
 -- the multiplier rows, one behind the other, with room behind them, and a quasiinverse of them
 pub record Worked (ws rows d : List ℕ) : Type 0 where
@@ -19,7 +19,7 @@ pub record Worked (ws rows d : List ℕ) : Type 0 where
   pub d-below : Below (modulusWord ws) d
   pub same-rows :
       (i j : ℕ) → i < countWord ws → j < sizeWord ws
-      → getD rows (i * sizeWord ws + j) 0 ≡ getD ws (headerLength + i * rowLength (sizeWord ws) + j) 0
+      → getD rows (i * sizeWord ws + j) 0 ≡ getD ws (rowStart (sizeWord ws) i + j) 0
   pub I : Marks
   pub J : Marks
   pub inverse :

@@ -8,7 +8,7 @@ use Rattle.algebra.specs.Choice.{choose}
 use Rattle.algebra.specs.Matrix.{product, apply, unit}
 use Rattle.field.specs.Residue.{Residue, residues}
 use Rattle.field.specs.View.{line, table}
-use Rattle.ledger.specs.Board.{headerLength, rowLength}
+use Rattle.ledger.specs.Board.{rowLength, valueStart}
 
 -- the unit row of j: 1 at j and 0 elsewhere
 abbrev pub unitNumber : ℕ → ℕ → ℕ
@@ -25,4 +25,4 @@ UnitAt p n k j rows d =
 -- row j of D times the values, which stand in the board behind the multipliers of each row
 abbrev pub valueAt : (p n k j : ℕ) (board d : List ℕ) → Residue p
 valueAt p n k j board d =
-    apply (residues p) k (table p d 0 k n k) (line p board (headerLength + n) (rowLength n)) j
+    apply (residues p) k (table p d 0 k n k) (line p board (valueStart n 0) (rowLength n)) j

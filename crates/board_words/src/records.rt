@@ -12,6 +12,7 @@ ghost use Rattle.ledger.specs.Steps.{shownMark, shownNumber, tabulateℤ};
 ghost use Rattle.board_words.specs.Held.{Held};
 ghost use Rattle.algebra.specs.Answers.{Tells};
 ghost use Rattle.board_words.specs.Records.{IsUnitRow, UnitAt, valueAt};
+use super::layout;
 
 // Whether e is the unit row of j.
 fn is_unit(e: &[u32], j: usize) -> bool
@@ -54,7 +55,7 @@ fn record_at(p: u32, n: usize, k: usize, j: usize, board: &[u32], d: &[u32]) -> 
 {
     let at = j * k;
     let end = at + k;
-    let v = field::sums::dot(p, &d[at..end], board, 3 + n, n + 1);
+    let v = field::sums::dot(p, &d[at..end], board, layout::value_start(n, 0), layout::row_length(n));
     signed::read_from(p, signed::low_end(p), v)
 }
 
@@ -63,9 +64,9 @@ pub fn show_records(board: &[u32], rows: &[u32], d: &[u32], marks: &mut [u32], n
     requires { ⌜ Held (now board) (now rows) (now d) × (length (now marks) ≡ sizeWord (now board)) × (length (now numbers) ≡ sizeWord (now board)) ⌝ }
     ensures { λ _. ⌜ ((ok : IsModulus (modulusWord (now (board .entry)))) → (now (marks .exit) ≡ tabulate (sizeWord (now (board .entry))) (shownMark (modulusWord (now (board .entry))) ok (sizeWord (now (board .entry))) (entriesOf (now (board .entry))))) × (now (numbers .exit) ≡ tabulateℤ (sizeWord (now (board .entry))) (shownNumber (modulusWord (now (board .entry))) ok (sizeWord (now (board .entry))) (entriesOf (now (board .entry)))))) ⌝ }
 {
-    let p = board[0];
-    let n = board[1] as usize;
-    let k = board[2] as usize;
+    let p = board[layout::MODULUS];
+    let n = board[layout::SIZE] as usize;
+    let k = board[layout::COUNT] as usize;
     let mut j = 0;
     while j < n {
         if settled(p, n, k, j, rows, d) {

@@ -11,8 +11,9 @@ use Rattle.field.specs.Residue.{Residue}
 use Rattle.field.proofs.Residues.{below-of-value}
 use Rattle.signed.specs.Reading.{readFrom, reading}
 use Rattle.signed.proofs.Readings.{low-end-below, reading-from-low}
+use Rattle.ledger.proofs.LayoutPlaces.{value-step, value-inside}
 use Rattle.board_words.specs.Records.{valueAt}
-use Rattle.board_words.proofs.RecordTables.{row-inside, value-inside, rowPart, part-length, row-times-values}
+use Rattle.board_words.proofs.RecordTables.{row-inside, rowPart, part-length, row-times-values}
 use Rattle.board_words.proofs.records.record_at.Statement.{statement}
 use Rattle.board_words.proofs.records.record_at.Tie as tie
 
@@ -41,42 +42,49 @@ part-dot-start c = omega arith
 part-dot-end : tie.Need-part-dot-end
 part-dot-end c = omega (arith, in-d (c .before .before))
 
-add-dot : tie.Need-add-dot
-add-dot c = omega arith
+value-start-requires : tie.Need-value-start-requires
+value-start-requires c κs = (omega arith, omega arith)
 
-add-dot-2 : tie.Need-add-dot-2
-add-dot-2 c = omega arith
+row-length-requires : tie.Need-row-length-requires
+row-length-requires c κs = omega arith
 
 dot-requires : tie.Need-dot-requires
 dot-requires c κs =
-    let s = c .before .before .before in
-    let long = part-in-d s in
-    (omega arith, omega (arith, long), λ t h. let inside : t < s .args .n = omega (arith, long) in omega (arith, value-inside (s .args .n) t inside))
+    let v = c .before in
+    let s = v .before .before .before .before in
+    let a = s .args in
+    let long = part-in-d s in (
+      omega arith,
+      omega (arith, long),
+      λ t h.
+          let inside : t < a .n = omega (arith, long) in
+          rw (v .value-start .ensures, c .row-length .ensures, ← value-step (a .n) t, s .pre .5) (value-inside (a .n) t inside),
+    )
 
 -- the dot product is row j of D times the values
 abbrev value : (s : tie.Start) → Residue (s .args .p)
 value s = let a = s .args in valueAt (a .p) (a .n) (a .k) (a .j) (a .board .now) (a .d .now)
 
-value-of : (c : tie.After-dot) → c .dot .result ≡ value (c .before .before .before .before) .value
+value-of : (c : tie.After-dot) → c .dot .result ≡ value (c .before .before .before .before .before .before) .value
 value-of c =
-    let s = c .before .before .before .before in
+    let s = c .before .before .before .before .before .before in
     let a = s .args in
     row-times-values (a .k) (a .j) (a .d .now) (omega (arith, in-d s)) (a .p) (a .n) (omega arith) (a .board .now) (c .dot .result)
-    (c .dot .ensures)
+    (rw (c .before .before .value-start .ensures, c .before .row-length .ensures) at (c .dot .ensures))
 
 low-end-requires : tie.Need-low-end-requires
 low-end-requires c κs = omega arith
 
 read-from-requires : tie.Need-read-from-requires
 read-from-requires c κs =
-    let s = c .before .before .before .before .before in
+    let s = c .before .before .before .before .before .before .before in
     let h : 0 < s .args .p = omega arith in
     (below-of-value h (value s) (value-of (c .before)), rw (c .low-end .ensures) (low-end-below (s .args .p) h), omega arith)
 
 returns : tie.Need-returns
 returns c =
     let d = c .before .before in
-    let s = d .before .before .before .before in
+    let s = d .before .before .before .before .before .before in
     let p = s .args .p in
     let h : 0 < p = omega arith in
     let below = below-of-value h (value s) (value-of d) in
@@ -97,8 +105,8 @@ record-at-spec =
     sub-dot
     part-dot-start
     part-dot-end
-    add-dot
-    add-dot-2
+    value-start-requires
+    row-length-requires
     dot-requires
     low-end-requires
     read-from-requires
