@@ -56,7 +56,7 @@ module _ (ws rows₀ rows : List ℕ) (h : Header ws) (f : Filled ws) (laid : La
           rw (laid .rest q (omega arith) (omega (arith, laid .same-length)), blank q) (omega (arith, h .prime .prime .two-or-more))
 
 -- zeroed memory of 4,096 words for D, and of 64 words for each set of marks
-pub record Room (d columns chosen : List ℕ) : Type 0 where
+pub record EliminationRoom (d columns chosen : List ℕ) : Type 0 where
   pub d-long : length d ≡ 4096
   pub d-zero : Blank d
   pub columns-long : length columns ≡ 64
@@ -64,7 +64,7 @@ pub record Room (d columns chosen : List ℕ) : Type 0 where
   pub chosen-zero : Blank chosen
 
 module _ (p n k : ℕ) (ok : IsModulus p) (size : FrameSize n) (count : k ≤ n)
-    (rows d columns chosen : List ℕ) (rows-long : length rows ≡ 4096) (room : Room d columns chosen) where
+    (rows d columns chosen : List ℕ) (rows-long : length rows ≡ 4096) (room : EliminationRoom d columns chosen) where
   few : k * n ≤ 4096
   few = table-most (omega (arith, size .1)) (size .1)
 
@@ -150,7 +150,7 @@ module _ (p n k : ℕ) (ok : IsModulus p) (size : FrameSize n) (count : k ≤ n)
 
 module _ (ws rows₀ rows d columns chosen : List ℕ) (h : Header ws) (f : Filled ws)
     (laid : Laid (countWord ws) (sizeWord ws) ws rows₀ rows) (long : length rows₀ ≡ 4096)
-    (blank : Blank rows₀) (room : Room d columns chosen) where
+    (blank : Blank rows₀) (room : EliminationRoom d columns chosen) where
   pub board-ready :
       Eliminable (modulusWord ws) (countWord ws) (sizeWord ws) (take (countWord ws * sizeWord ws) rows)
       (take (countWord ws * sizeWord ws) d) 0 (countWord ws) (take (sizeWord ws) columns) (take (countWord ws) chosen)

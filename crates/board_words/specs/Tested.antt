@@ -8,8 +8,8 @@ use lib.ListN.{length, getD}
 use Rattle.checks.specs.Prime.{IsModulus}
 use Rattle.checks.specs.Largest.{largest, FrameSize}
 use Rattle.algebra.specs.Answers.{Tells}
-use Rattle.board_words.specs.Held.{Worked}
-use Rattle.ledger.specs.Board.{headerLength, rowStart, boardLength, modulusWord, sizeWord, countWord, rowsEnd}
+use Rattle.board_words.specs.Inverse.{RowsInverse, BoardInverse}
+use Rattle.ledger.specs.Board.{IsBoard, headerLength, rowStart, boardLength, modulusWord, sizeWord, countWord, rowsEnd}
 
 -- the clauses up to k ≤ n
 pub record Header (ws : List ℕ) : Type 0 where
@@ -39,5 +39,10 @@ pub record Laid (k n : ℕ) (ws rows rows′ : List ℕ) : Type 0 where
 
 -- the rows and their quasiinverse are worked out, and t says whether all rows are in its set J
 pub record Inverted (ws rows d : List ℕ) (t : Bool) : Type 0 where
-  pub work : Worked ws rows d
+  pub work : RowsInverse ws rows d
   pub all-rows : Tells t ((y : ℕ) → y < countWord ws → work .J y ≡ true)
+
+-- what the whole test tells: whether the words are a board, and then the rows and their quasiinverse are worked out
+pub record BoardTold (ws rows d : List ℕ) (t : Bool) : Type 0 where
+  pub tells : Tells t (IsBoard ws)
+  pub inverse : t ≡ true → BoardInverse ws rows d

@@ -6,11 +6,14 @@ ghost use Rattle.ledger.specs.Board.{rowLength, rowStart, valueStart, boardLeng
 
 // The words of the header, and of the largest board.
 pub const HEADER: usize = 3;
+
 pub const LARGEST_BOARD: usize = 4163;
 
 // Where the header's words stand: the modulus, the number of records, and the count of rows.
 pub const MODULUS: usize = 0;
+
 pub const SIZE: usize = 1;
+
 pub const COUNT: usize = 2;
 
 // The words of a row: n multipliers and a value.

@@ -1,13 +1,8 @@
 // The board test: whether words are a board, by document 01's clauses in their order. What it makes on the way, the rows and
 // a quasiinverse of them, serves the calls.
-ghost use mathlib.Core.Path.{_≡_};
-ghost use mathlib.Core.Bool.{true, false};
-ghost use Rattle.algebra.specs.Choice.{pick};
 ghost use Rattle.words.specs.Words.{Zeros};
-ghost use Rattle.ledger.specs.Decide.{board?};
-ghost use Rattle.board_words.specs.Held.{Held};
 ghost use Rattle.algebra.specs.Answers.{Tells};
-ghost use Rattle.board_words.specs.Tested.{Header, Filled, Rows, Laid, Inverted};
+ghost use Rattle.board_words.specs.Tested.{Header, Filled, Rows, Laid, Inverted, BoardTold};
 ghost use Rattle.words.specs.Words.{AllMarked};
 use super::layout;
 use super::layout::COUNT;
@@ -94,7 +89,7 @@ fn independent(board: &[u32], rows: &mut [u32], d: &mut [u32]) -> bool
 // Whether the words are a board; then `rows` holds its multiplier rows one behind the other, and `d` a quasiinverse of them.
 pub fn is_board(board: &[u32], rows: &mut [u32], d: &mut [u32]) -> bool
     requires { ⌜ Zeros 4096 (now rows) × Zeros 4096 (now d) ⌝ }
-    ensures { λ r. ⌜ (r ≡ pick (board? (now (board .entry))) true false) × (r ≡ true → Held (now (board .entry)) (now (rows .exit)) (now (d .exit))) ⌝ }
+    ensures { λ r. ⌜ BoardTold (now (board .entry)) (now (rows .exit)) (now (d .exit)) r ⌝ }
 {
     if !has_header(board) {
         return false;

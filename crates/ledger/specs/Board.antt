@@ -9,7 +9,7 @@ use Rattle.checks.specs.Prime.{IsModulus}
 use Rattle.field.specs.Residue.{residues}
 use Rattle.field.specs.View.{table}
 use Rattle.checks.specs.Largest.{FrameSize}
-use Rattle.ledger.specs.Ledger.{Entry, entry}
+use Rattle.ledger.specs.Ledger.{Entry, entry, Ledger, ledger}
 
 -- ---- the layout of a board for n records: the one place where it stands. `proofs/LayoutPlaces.antt` has its laws, and nobody
 -- outside this crate opens these definitions
@@ -92,3 +92,10 @@ entriesIn n (suc k) ws = entry (take n ws) (getD ws n 0) ∷ entriesIn n k (drop
 
 unfoldable pub entriesOf : List ℕ → List Entry
 entriesOf ws = entriesIn (sizeWord ws) (countWord ws) (drop headerLength ws)
+
+-- the words of a ledger, and the ledger that words hold
+abbrev pub boardOf : (p n : ℕ) → Ledger → List ℕ
+boardOf p n l = layout p n (l .entries)
+
+abbrev pub ledgerOf : List ℕ → Ledger
+ledgerOf ws = ledger (entriesOf ws)

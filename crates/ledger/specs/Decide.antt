@@ -1,21 +1,22 @@
--- What the ledger and the board test ask is decided; the types say what, and nothing computes with it.
+-- What the ledger and the board test ask is decided; the types say what, and nothing computes with it. No other file of these
+-- definitions takes anything from proofs.
 use mathlib.Core.Path.{_≡_}
 use mathlib.Core.List.{List}
 use Prim.Native.Nat.{ℕ, _≤_, _<_}
 use native.Mathlib.Decide.{decLe, decLt, ℕ-discrete}
 use lib.ListN.{length, getD}
-use Rattle.algebra.specs.Matrix.{apply}
-use Rattle.algebra.specs.Span.{Independent}
+use Rattle.algebra.specs.Matrix.{Vector, Matrix, sum, apply}
+use Rattle.algebra.specs.Span.{IsCombination, Independent}
 use Rattle.algebra.proofs.Choice.{all-below?}
 use Rattle.algebra.proofs.Decide.{combination?, independent?}
 use Rattle.algebra.proofs.Settled.{agree?}
 use Rattle.checks.specs.Prime.{IsModulus}
 use Rattle.checks.specs.Decide.{modulus?}
-use Rattle.field.specs.Residue.{reduce, residues}
-use Rattle.field.proofs.Field.{residues-field}
+use Rattle.field.specs.Residue.{reduce, residues, _⊗_}
+use Rattle.field.proofs.Field.{residues-field, residue-equal?}
 use Rattle.checks.specs.Decide.{frameSize?}
 use Rattle.checks.specs.Largest.{FrameSize}
-use Rattle.ledger.specs.Ledger.{Entry, Combined, Agreed, multiplierRows, valueColumn}
+use Rattle.ledger.specs.Ledger.{Entry, InSpan, GivesValue, Agreed, multiplierRows, valueColumn}
 use Rattle.ledger.specs.Board.{
   IsBoard,
   headerLength,
@@ -27,14 +28,26 @@ use Rattle.ledger.specs.Board.{
   multiplierTable,
 }
 
-pub combined? : (p : ℕ) → IsModulus p → (n : ℕ) (es : List Entry) (xs : List ℕ) → Dec (Combined p n es xs)
-combined? p ok n es xs =
-    combination? (residues p) (residues-field p (ok .prime)) (length es) n (multiplierRows p es) (λ j. reduce p (getD xs j 0))
+-- ---- the ledger's questions
 
-pub agreed? : (p : ℕ) → IsModulus p → (n : ℕ) (es : List Entry) (j : ℕ) → Dec (Agreed p n es j)
-unfolding apply multiplierRows valueColumn
-agreed? p ok n es j =
-    agree? (residues p) (residues-field p (ok .prime)) (length es) n (multiplierRows p es) (valueColumn p es) j
+module _ (p : ℕ) (ok : IsModulus p) where
+  -- a vector is a combination of the first k rows
+  abbrev pub combined? : (k n : ℕ) (X : Matrix (residues p)) (v : Vector (residues p)) → Dec (IsCombination (residues p) k n X v)
+  combined? = combination? (residues p) (residues-field p (ok .prime))
+
+  pub inSpan? : (n : ℕ) (es : List Entry) (xs : List ℕ) → Dec (InSpan p n es xs)
+  inSpan? n es xs = combined? (length es) n (multiplierRows p es) (λ j. reduce p (getD xs j 0))
+
+  pub agreed? : (n : ℕ) (es : List Entry) (j : ℕ) → Dec (Agreed p n es j)
+  unfolding apply multiplierRows valueColumn
+  agreed? n es j = agree? (residues p) (residues-field p (ok .prime)) (length es) n (multiplierRows p es) (valueColumn p es) j
+
+pub givesValue? : (p : ℕ) (es : List Entry) (u : Vector (residues p)) (v : ℕ) → Dec (GivesValue p es u v)
+givesValue? p es u v = residue-equal? (sum (residues p) (length es) (λ t. u t ⊗ valueColumn p es t)) (reduce p v)
+
+-- no more entries are dropped than stand
+pub within? : (t k : ℕ) → Dec (t ≤ k)
+within? = decLe
 
 -- ---- the board test, clause by clause
 

@@ -9,7 +9,7 @@ use lib.Seq.{length-take-le}
 use borrow.Author.Needs.{needs}
 use Rattle.ledger.specs.Board.{sizeWord, countWord}
 use Rattle.board_words.proofs.TestSizes.{count-most, rows-inside, table-most}
-use Rattle.board_words.proofs.TestIndependent.{Room, board-ready, board-marks, board-inverted}
+use Rattle.board_words.proofs.TestIndependent.{EliminationRoom, board-ready, board-marks, board-inverted}
 use Rattle.board_words.proofs.test.independent.Statement.{statement}
 use Rattle.board_words.proofs.test.independent.Tie as tie
 
@@ -39,7 +39,7 @@ rows-room c =
     omega (arith, small s, copied-of c .copy-rows .ensures .same-length, s .pre .2 .0)
 
 -- the memory lent to the elimination
-room : (c : tie.After-row-room2) → Room (start-of c .args .d .now) (c .before .row-room .result) (c .row-room2 .result)
+room : (c : tie.After-row-room2) → EliminationRoom (start-of c .args .d .now) (c .before .row-room .result) (c .row-room2 .result)
 room c =
     let s = start-of c in
     record {

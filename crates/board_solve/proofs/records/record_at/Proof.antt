@@ -1,4 +1,4 @@
--- `board_words::records::record_at` meets its contract: the dot product is row j of D times the values, and its reading with the low
+-- `board_solve::records::record_at` meets its contract: the dot product is row j of D times the values, and its reading with the low
 -- end is 01's signed reading.
 use mathlib.Core.Path.{_≡_, ap, _∙_}
 use Prim.Native.Nat.{_+_, _*_, _≤_, _<_}
@@ -12,10 +12,10 @@ use Rattle.field.proofs.Residues.{below-of-value}
 use Rattle.signed.specs.Reading.{readFrom, reading}
 use Rattle.signed.proofs.Readings.{low-end-below, reading-from-low}
 use Rattle.ledger.proofs.LayoutPlaces.{value-step, value-inside}
-use Rattle.board_words.specs.Records.{valueAt}
-use Rattle.board_words.proofs.RecordTables.{row-inside, rowPart, part-length, row-times-values}
-use Rattle.board_words.proofs.records.record_at.Statement.{statement}
-use Rattle.board_words.proofs.records.record_at.Tie as tie
+use Rattle.board_solve.specs.Records.{valueAt}
+use Rattle.board_solve.proofs.RecordTables.{row-inside, rowPart, part-length, row-times-values}
+use Rattle.board_solve.proofs.records.record_at.Statement.{statement}
+use Rattle.board_solve.proofs.records.record_at.Tie as tie
 
 -- row j of D lies in d
 in-d : (c : tie.Start) → c .args .j * c .args .k + c .args .k ≤ 4096

@@ -12,7 +12,7 @@ use Rattle.words.specs.Words.{Below}
 use Rattle.ledger.specs.Board.{IsBoard, rowStart, modulusWord, sizeWord, countWord}
 
 -- the multiplier rows, one behind the other, with room behind them, and a quasiinverse of them
-pub record Worked (ws rows d : List ℕ) : Type 0 where
+pub record RowsInverse (ws rows d : List ℕ) : Type 0 where
   pub rows-long : length rows ≡ 4096
   pub rows-below : Below (modulusWord ws) rows
   pub d-long : length d ≡ 4096
@@ -28,7 +28,7 @@ pub record Worked (ws rows d : List ℕ) : Type 0 where
       (table (modulusWord ws) d 0 (countWord ws) (sizeWord ws) (countWord ws)) I J
 
 -- the words are a board, so that all rows are in J
-pub record Held (ws rows d : List ℕ) : Type 0 where
+pub record BoardInverse (ws rows d : List ℕ) : Type 0 where
   pub board : IsBoard ws
-  pub work : Worked ws rows d
+  pub work : RowsInverse ws rows d
   pub all-rows : (y : ℕ) → y < countWord ws → work .J y ≡ true

@@ -1,4 +1,4 @@
--- `board_words::records::settled` meets its contract: where row j of D is zeros, row j of D R is no unit row; else it is combined into
+-- `board_solve::records::settled` meets its contract: where row j of D is zeros, row j of D R is no unit row; else it is combined into
 -- a row of zeros, and is the unit row of j as numbers exactly if it is as residues.
 use mathlib.Core.Path.{_≡_, sym, _∙_}
 use mathlib.Core.List.{List}
@@ -6,11 +6,11 @@ use Prim.Native.Nat.{ℕ, _+_, _*_, _≤_, _<_}
 use native.Mathlib.Omega.{arith}
 use lib.ListN.{length}
 use Rattle.algebra.proofs.Answers.{tells-no}
-use Rattle.board_words.proofs.RecordUnits.{unit-not-zero}
-use Rattle.board_words.proofs.RecordTables.{row-inside, rowPart, part-length, part-below, zero-row-times}
-use Rattle.board_words.proofs.RecordRows.{front-length, row-fits, row-front-length, row-tells}
-use Rattle.board_words.proofs.records.settled.Statement.{statement}
-use Rattle.board_words.proofs.records.settled.Tie as tie
+use Rattle.board_solve.proofs.RecordUnits.{unit-not-zero}
+use Rattle.board_solve.proofs.RecordTables.{row-inside, rowPart, part-length, part-below, zero-row-times}
+use Rattle.board_solve.proofs.RecordRows.{front-length, row-fits, row-front-length, row-tells}
+use Rattle.board_solve.proofs.records.settled.Statement.{statement}
+use Rattle.board_solve.proofs.records.settled.Tie as tie
 
 -- row j of D lies in d
 in-d : (c : tie.Start) → c .args .j * c .args .k + c .args .k ≤ 4096

@@ -1,15 +1,15 @@
--- `board_words::records::is_unit` meets its contract. The loop's invariant: the numbers passed are those of the unit row.
+-- `board_solve::records::is_unit` meets its contract. The loop's invariant: the numbers passed are those of the unit row.
 use mathlib.Core.Path.{_≡_, sym, _∙_}
 use mathlib.Core.Logic.{⊎-elim}
 use Prim.Native.Nat.{ℕ, _≤_, _<_, _-_}
 use native.Mathlib.Omega.{arith}
 use borrow.Author.Count.{below-more}
 use lib.ListN.{length, getD}
-use Rattle.board_words.specs.Records.{unitNumber}
+use Rattle.board_solve.specs.Records.{unitNumber}
 use Rattle.algebra.proofs.Answers.{tells-yes, tells-no}
-use Rattle.board_words.proofs.RecordUnits.{unit-here, unit-elsewhere}
-use Rattle.board_words.proofs.records.is_unit.Statement.{statement}
-use Rattle.board_words.proofs.records.is_unit.Tie as tie
+use Rattle.board_solve.proofs.RecordUnits.{unit-here, unit-elsewhere}
+use Rattle.board_solve.proofs.records.is_unit.Statement.{statement}
+use Rattle.board_solve.proofs.records.is_unit.Tie as tie
 
 abbrev Inv-loop : tie.InvT-loop
 Inv-loop e j t₀ t = (t ≤ length e) × ((s : ℕ) → s < t → getD e s 0 ≡ unitNumber j s)

@@ -1,4 +1,4 @@
--- `board_words::records::show_records` meets its contract. The loop's invariant: the records passed are shown as the ledger shows them.
+-- `board_solve::records::show_records` meets its contract. The loop's invariant: the records passed are shown as the ledger shows them.
 use mathlib.Core.Path.{_≡_, sym, _∙_}
 use mathlib.Core.Logic.{⊎-elim}
 use Prim.Native.Nat.{_-_, _≤_}
@@ -6,9 +6,9 @@ use native.Mathlib.Omega.{arith}
 use mir.Syntax.{w32}
 use mir.Val.{SFits}
 use Rattle.ledger.specs.Board.{IsBoard, sizeWord, entriesOf}
-use Rattle.board_words.proofs.RecordShown.{ShownBelow, shown-none, shown-all, turn-shown, turn-hidden}
-use Rattle.board_words.proofs.records.show_records.Statement.{statement}
-use Rattle.board_words.proofs.records.show_records.Tie as tie
+use Rattle.board_solve.proofs.RecordShown.{ShownBelow, shown-none, shown-all, turn-shown, turn-hidden}
+use Rattle.board_solve.proofs.records.show_records.Statement.{statement}
+use Rattle.board_solve.proofs.records.show_records.Tie as tie
 
 abbrev Inv-loop : tie.InvT-loop
 Inv-loop board rows d marks₀ numbers₀ p n k j₀ marks numbers j = (j ≤ n) × ShownBelow p n (entriesOf board) j marks numbers

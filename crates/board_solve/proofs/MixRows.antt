@@ -3,7 +3,6 @@
 use mathlib.Core.Path.{_≡_, sym, ap, _∙_}
 use mathlib.Core.List.{List, _++_}
 use Prim.Native.Nat.{ℕ, _+_, _*_, _-_, _≤_, _<_}
-use native.Mathlib.Nat.{mul-le-mul}
 use native.Mathlib.Omega.{arith}
 use lib.ListN.{length, getD, take, drop, length-take, List·getD-append}
 use lib.Seq.{length-take-le, length-front, getD-take, getD-drop, getD-append-add}
@@ -14,20 +13,11 @@ use Rattle.field.specs.Residue.{Residue, reduce, residues, _⊕_, _⊗_}
 use Rattle.field.specs.Four.{Combined}
 use Rattle.field.specs.View.{line, table}
 use Rattle.words.specs.Words.{Below, Zeros}
+use Rattle.checks.specs.Largest.{largest}
+use Rattle.board_solve.specs.Combination.{Mixed}
 use Rattle.field.proofs.Residues.{below-of-value}
 use Rattle.field.proofs.Field.{residues-ring}
 use Rattle.field.proofs.Views.{table-entry}
-
--- r is 64 numbers: the row `by` times the table in xs, whose rows have w numbers, then zeros
-abbrev pub Mixed : (p : ℕ) (by xs : List ℕ) (w : ℕ) (r : List ℕ) → Type 0
-Mixed p by xs w r =
-    (length r ≡ 64)
-    × ((j : ℕ) → j < w → getD r j 0 ≡ (mixed (residues p) (length by) (line p by 0 1) (table p xs 0 w (length by) w) j) .value)
-    × ((j : ℕ) → w ≤ j → getD r j 0 ≡ 0)
-
--- at most 64 rows of at most 64 numbers lie in 4096
-pub rows-inside : (m w t : ℕ) → m ≤ 64 → w ≤ 64 → t < m → t * w + w ≤ 4096
-rows-inside m w t h l b = omega (arith, mul-le-mul {n₁ = t + 1} {m₁ = w} {n₂ = 64} {m₂ = 64} (omega arith) l)
 
 -- a column's sum of products is the row times the table there
 column-mixed : (p m w j : ℕ) (by xs : List ℕ) → j < w
@@ -41,11 +31,11 @@ column-mixed p m w j by xs l =
     (ap (λ q. reduce p (getD xs q 0)) place ∙ sym (table-entry p xs 0 w m w t j h l)))
 
 -- what `combine` adds to the front of 64 zeros is the row times the table
-pub combined-mixed : (p w : ℕ) (by xs zs part : List ℕ) → 0 < p → w ≤ 64 → Zeros 64 zs
+pub combined-mixed : (p w : ℕ) (by xs zs part : List ℕ) → 0 < p → w ≤ largest → Zeros largest zs
     → Combined p by xs 0 w (take w zs) part
     → Mixed p by xs w (part ++ drop w zs)
 combined-mixed p w by xs zs part positive h z (long, each) =
-    (length-front zs part w long ∙ z .0, front, behind)
+    record { long = length-front zs part w long ∙ z .0; each = front; rest = behind }
   where
     short : length (take w zs) ≡ w
     short = length-take-le w zs (omega (arith, z .0))
@@ -69,4 +59,4 @@ pub mixed-below : (p w : ℕ) (by xs r : List ℕ) → 0 < p → Mixed p by xs w
 mixed-below p w by xs r positive m j l =
     let inside : j < w = omega (arith, length-take w r) in
     let x : Residue p = mixed (residues p) (length by) (line p by 0 1) (table p xs 0 w (length by) w) j in
-    rw (getD-take w r j 0 inside) (below-of-value positive x (m .1 j inside))
+    rw (getD-take w r j 0 inside) (below-of-value positive x (m .each j inside))

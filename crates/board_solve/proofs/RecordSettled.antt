@@ -3,40 +3,32 @@
 -- row j of D v; and show marks and reads exactly so.
 use mathlib.Core.Path.{_≡_, sym, ap, _∙_}
 use mathlib.Core.List.{List}
-use Prim.Native.Nat.{ℕ, _+_, _*_, _<_}
+use Prim.Native.Nat.{ℕ, _<_}
 use native.Mathlib.Omega.{arith}
 use lib.IntN.{pos}
-use lib.ListN.{length, getD}
+use lib.ListN.{length}
 use Rattle.algebra.specs.Ring.{Ring, IsCommutativeRing}
-use Rattle.algebra.specs.Matrix.{Vector, Matrix, apply}
+use Rattle.algebra.specs.Matrix.{apply}
 use Rattle.algebra.specs.Span.{Solves}
 use Rattle.algebra.proofs.Sums.{sum-same}
 use Rattle.checks.specs.Prime.{IsModulus}
-use Rattle.field.specs.Residue.{Residue, reduce, residues, _⊗_}
-use Rattle.field.specs.View.{line, table}
+use Rattle.field.specs.Residue.{Residue, residues, _⊗_}
 use Rattle.field.proofs.Field.{residues-field}
-use Rattle.field.proofs.Views.{table-entry}
 use Rattle.signed.specs.Reading.{reading}
-use Rattle.ledger.specs.Board.{rowLength, valueStart, modulusWord, sizeWord, countWord, entriesOf}
-use Rattle.ledger.proofs.LayoutPlaces.{value-step}
+use Rattle.ledger.specs.Board.{modulusWord, sizeWord, countWord, entriesOf}
 use Rattle.ledger.specs.Ledger.{Assignment, MeetsAll, Settled, multiplierRows, valueColumn}
 use Rattle.ledger.specs.Steps.{shownMark, shownNumber}
 use Rattle.ledger.proofs.LedgerLaws.{shown-exactly}
-use Rattle.ledger.proofs.Parse.{words-count, words-multiplier, rows-values, board-proper}
-use Rattle.board_words.specs.Held.{Held}
-use Rattle.board_words.specs.Records.{UnitAt, valueAt}
-use Rattle.board_words.proofs.RecordSolutions as solutions
+use Rattle.ledger.proofs.Parse.{words-count, board-proper}
+use Rattle.board_words.specs.Inverse.{BoardInverse}
+use Rattle.board_solve.specs.Records.{UnitAt, valueAt}
+use Rattle.board_solve.proofs.Standing.{heldRows, heldValues, rows-same, values-same}
+use Rattle.board_solve.proofs.RecordSolutions as solutions
 
 -- ---- the system that is held, and the ledger's words, with the board's modulus, size and count
 
 abbrev ringOf : List ℕ → Ring
 ringOf ws = residues (modulusWord ws)
-
-abbrev heldRows : (ws rows : List ℕ) → Matrix (ringOf ws)
-heldRows ws rows = table (modulusWord ws) rows 0 (sizeWord ws) (countWord ws) (sizeWord ws)
-
-abbrev heldValues : (ws : List ℕ) → Vector (ringOf ws)
-heldValues ws = line (modulusWord ws) ws (valueStart (sizeWord ws) 0) (rowLength (sizeWord ws))
 
 abbrev SolvesHeld : (ws rows : List ℕ) → Assignment (modulusWord ws) → Type 0
 SolvesHeld ws rows x = Solves (ringOf ws) (countWord ws) (sizeWord ws) (heldRows ws rows) x (heldValues ws)
@@ -53,41 +45,25 @@ UnitIn ws rows d j = UnitAt (modulusWord ws) (sizeWord ws) (countWord ws) j rows
 abbrev pub valueIn : (ws d : List ℕ) → Assignment (modulusWord ws)
 valueIn ws d j = valueAt (modulusWord ws) (sizeWord ws) (countWord ws) j ws d
 
-module _ (ws rows d : List ℕ) (held : Held ws rows d) where
-  -- ---- R and v are the multipliers and the values of the ledger
-
-  rows-same : (i j : ℕ) → i < countWord ws → j < sizeWord ws
-      → multiplierRows (modulusWord ws) (entriesOf ws) i j ≡ heldRows ws rows i j
-  unfolding multiplierRows
-  rows-same i j h l =
-      let e : i * sizeWord ws + j ≡ 0 + i * sizeWord ws + j = omega arith in
-      ap (reduce (modulusWord ws))
-      (words-multiplier ws i j h l ∙ sym (held .work .same-rows i j h l) ∙ ap (λ q. getD rows q 0) e)
-      ∙ sym (table-entry (modulusWord ws) rows 0 (sizeWord ws) (countWord ws) (sizeWord ws) i j h l)
-
-  values-same : (i : ℕ) → i < countWord ws → valueColumn (modulusWord ws) (entriesOf ws) i ≡ heldValues ws i
-  unfolding line
-  values-same i h =
-      rows-values ws (modulusWord ws) i h ∙ ap (λ q. reduce (modulusWord ws) (getD ws q 0)) (value-step (sizeWord ws) i)
-
+module _ (ws rows d : List ℕ) (held : BoardInverse ws rows d) where
   sums-same : (x : Assignment (modulusWord ws)) (i : ℕ) → i < countWord ws
       → apply (ringOf ws) (sizeWord ws) (multiplierRows (modulusWord ws) (entriesOf ws)) x i
       ≡ apply (ringOf ws) (sizeWord ws) (heldRows ws rows) x i
   unfolding apply
   sums-same x i h =
       sum-same (ringOf ws) (sizeWord ws) (λ j. multiplierRows (modulusWord ws) (entriesOf ws) i j ⊗ x j)
-      (λ j. heldRows ws rows i j ⊗ x j) (λ j l. ap (λ (a : Residue (modulusWord ws)). a ⊗ x j) (rows-same i j h l))
+      (λ j. heldRows ws rows i j ⊗ x j) (λ j l. ap (λ (a : Residue (modulusWord ws)). a ⊗ x j) (rows-same ws rows d held i j h l))
 
   -- so the solutions are the assignments that meet the standing frames
   solves-meets : (x : Assignment (modulusWord ws)) → SolvesHeld ws rows x → MeetsHeld ws x
   unfolding apply multiplierRows valueColumn
   solves-meets x s i h =
-      let l : i < countWord ws = omega (arith, words-count ws) in sums-same x i l ∙ s i l ∙ sym (values-same i l)
+      let l : i < countWord ws = omega (arith, words-count ws) in sums-same x i l ∙ s i l ∙ sym (values-same ws rows d held i l)
 
   meets-solves : (x : Assignment (modulusWord ws)) → MeetsHeld ws x → SolvesHeld ws rows x
   unfolding apply multiplierRows valueColumn
   meets-solves x met i l =
-      let h : i < length (entriesOf ws) = omega (arith, words-count ws) in sym (sums-same x i l) ∙ met i h ∙ values-same i l
+      let h : i < length (entriesOf ws) = omega (arith, words-count ws) in sym (sums-same x i l) ∙ met i h ∙ values-same ws rows d held i l
 
   module _ (ok : IsModulus (modulusWord ws)) where
     laws : IsCommutativeRing (ringOf ws)

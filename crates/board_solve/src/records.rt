@@ -9,10 +9,10 @@ ghost use Rattle.field.specs.Written.{tabulate};
 ghost use Rattle.signed.specs.Reading.{reading};
 ghost use Rattle.ledger.specs.Board.{boardLength, modulusWord, sizeWord, entriesOf};
 ghost use Rattle.ledger.specs.Steps.{shownMark, shownNumber, tabulateℤ};
-ghost use Rattle.board_words.specs.Held.{Held};
+ghost use Rattle.board_words.specs.Inverse.{BoardInverse};
 ghost use Rattle.algebra.specs.Answers.{Tells};
-ghost use Rattle.board_words.specs.Records.{IsUnitRow, UnitAt, valueAt};
-use super::layout;
+ghost use Rattle.board_solve.specs.Records.{IsUnitRow, UnitAt, valueAt};
+use board_words::layout;
 
 // Whether e is the unit row of j.
 fn is_unit(e: &[u32], j: usize) -> bool
@@ -55,13 +55,19 @@ fn record_at(p: u32, n: usize, k: usize, j: usize, board: &[u32], d: &[u32]) -> 
 {
     let at = j * k;
     let end = at + k;
-    let v = field::sums::dot(p, &d[at..end], board, layout::value_start(n, 0), layout::row_length(n));
+    let v = field::sums::dot(
+        p,
+        &d[at..end],
+        board,
+        layout::value_start(n, 0),
+        layout::row_length(n),
+    );
     signed::read_from(p, signed::low_end(p), v)
 }
 
 // Marks each settled record and gives its signed reading; 0 and 0 for the others.
 pub fn show_records(board: &[u32], rows: &[u32], d: &[u32], marks: &mut [u32], numbers: &mut [i32])
-    requires { ⌜ Held (now board) (now rows) (now d) × (length (now marks) ≡ sizeWord (now board)) × (length (now numbers) ≡ sizeWord (now board)) ⌝ }
+    requires { ⌜ BoardInverse (now board) (now rows) (now d) × (length (now marks) ≡ sizeWord (now board)) × (length (now numbers) ≡ sizeWord (now board)) ⌝ }
     ensures { λ _. ⌜ ((ok : IsModulus (modulusWord (now (board .entry)))) → (now (marks .exit) ≡ tabulate (sizeWord (now (board .entry))) (shownMark (modulusWord (now (board .entry))) ok (sizeWord (now (board .entry))) (entriesOf (now (board .entry))))) × (now (numbers .exit) ≡ tabulateℤ (sizeWord (now (board .entry))) (shownNumber (modulusWord (now (board .entry))) ok (sizeWord (now (board .entry))) (entriesOf (now (board .entry)))))) ⌝ }
 {
     let p = board[layout::MODULUS];

@@ -11,7 +11,7 @@ use Rattle.algebra.specs.Choice.{choose}
 use Rattle.algebra.specs.Matrix.{Vector, unit}
 use Rattle.field.specs.Residue.{reduce, residues}
 use Rattle.field.proofs.Residues.{residue-path, reduce-small}
-use Rattle.board_words.specs.Records.{unitNumber, IsUnitRow}
+use Rattle.board_solve.specs.Records.{unitNumber, IsUnitRow}
 
 -- the unit row of j has 1 at j, and 0 at another place
 pub unit-here : (j t : ℕ) → t ≡ j → unitNumber j t ≡ 1

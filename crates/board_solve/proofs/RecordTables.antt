@@ -17,7 +17,7 @@ use Rattle.field.proofs.Field.{residues-ring}
 use Rattle.field.proofs.Views.{table-entry}
 use Rattle.matrix_inverse.proofs.StepNegative.{taken-below, dropped-below}
 use Rattle.ledger.specs.Board.{rowLength, valueStart}
-use Rattle.board_words.specs.Records.{valueAt}
+use Rattle.board_solve.specs.Records.{valueAt}
 
 -- row i of a table of at most 64 rows of w numbers, w at most 64, lies in 4096 numbers
 pub row-inside : (i w : ℕ) → i < 64 → w ≤ 64 → i * w + w ≤ 4096

@@ -15,10 +15,10 @@ use Rattle.field.specs.View.{line, table}
 use Rattle.words.specs.Words.{Zeros}
 use Rattle.field.proofs.Field.{residues-ring}
 use Rattle.algebra.specs.Answers.{Tells}
-use Rattle.board_words.specs.Records.{IsUnitRow, UnitAt}
+use Rattle.board_solve.specs.Records.{IsUnitRow, UnitAt}
 use Rattle.algebra.proofs.Answers.{tells-same}
-use Rattle.board_words.proofs.RecordUnits.{numbers-to-residues, residues-to-numbers}
-use Rattle.board_words.proofs.RecordTables.{rowPart, row-times-rows}
+use Rattle.board_solve.proofs.RecordUnits.{numbers-to-residues, residues-to-numbers}
+use Rattle.board_solve.proofs.RecordTables.{rowPart, row-times-rows}
 
 -- the first n of 64 zeros, and a row of their length
 module _ (n : ℕ) (z : List ℕ) (size : n ≤ 64) (zeros : Zeros 64 z) where

@@ -19,8 +19,8 @@ use Rattle.ledger.specs.Board.{modulusWord, sizeWord, entriesOf}
 use Rattle.ledger.specs.Ledger.{Entry}
 use Rattle.ledger.specs.Steps.{shownMark, shownNumber, tabulateℤ}
 use Rattle.ledger.proofs.LedgerLaws.{getD-tabulateℤ}
-use Rattle.board_words.specs.Held.{Held}
-use Rattle.board_words.proofs.RecordSettled.{UnitIn, valueIn, shown-at, hidden-at}
+use Rattle.board_words.specs.Inverse.{BoardInverse}
+use Rattle.board_solve.proofs.RecordSettled.{UnitIn, valueIn, shown-at, hidden-at}
 
 -- ---- signed numbers written one after the other, as numbers are
 
@@ -90,7 +90,7 @@ ShownIn ws = ShownBelow (modulusWord ws) (sizeWord ws) (entriesOf ws)
 
 module _
     (ws rows d : List ℕ)
-    (held : Held ws rows d)
+    (held : BoardInverse ws rows d)
     (j : ℕ)
     (marks : List ℕ)
     (numbers : List ℤ)
