@@ -5,15 +5,14 @@ use mathlib.Core.Bool.{Bool, true, false, not}
 use mathlib.Core.List.{List}
 use Prim.Native.Nat.{ℕ}
 use borrow.Author.Tests.{not-false}
+use Rattle.algebra.proofs.Answers.{guard-taken}
 use Rattle.ledger.specs.Board.{IsBoard}
-use Rattle.ledger.specs.Decide.{board?}
-use Rattle.board_words.specs.Held.{Held}
-use Rattle.algebra.proofs.Answers.{tells-pick, guard-taken}
-use Rattle.board_words.proofs.TestBoard.{BoardTold}
+use Rattle.board_words.specs.Inverse.{BoardInverse}
+use Rattle.board_words.specs.Tested.{BoardTold}
 
 module _ {ws rows d : List ℕ} {t : Bool} (told : BoardTold ws rows d t) where
-  pub is-held : not t ≡ false → Held ws rows d
-  is-held e = told .1 (not-false t e)
+  pub is-held : not t ≡ false → BoardInverse ws rows d
+  is-held e = told .inverse (not-false t e)
 
   pub no-board : not t ≡ true → IsBoard ws → ⊥
-  no-board = guard-taken (tells-pick (board? ws) (told .0))
+  no-board = guard-taken (told .tells)

@@ -8,49 +8,27 @@ use lib.IntN.{pos}
 use lib.ListN.{length, getD, take, drop, length-append}
 use lib.Seq.{take-at}
 use Rattle.checks.specs.declared.Refusal.{Refusal}
-use Rattle.checks.specs.declared.Refusal.the-variants.{
-  Modulus,
-  Size,
-  Length,
-  Number,
-  Insoluble,
-  FrameLength,
-  Padding,
-  ZeroMultiplier,
-  Conflict,
-  Withdrawal,
-  NotBoard,
-}
-use Rattle.checks.specs.Refusal.{refusalNumber}
-use Rattle.checks.specs.Told.{Told, refused}
+use Rattle.checks.specs.declared.Refusal.the-variants.{Length}
+use Rattle.checks.specs.Told.{refused}
+use Rattle.checks.specs.Outcome.{Outcome, outcome, untouched}
+use Rattle.checks.proofs.Refusals.{refusal-number}
 use Rattle.frame.specs.declared.ReadAnswer.{ReadAnswer}
 use Rattle.frame.specs.declared.ReadAnswer.the-variants.{Value, Refused}
 use Rattle.frame.specs.Told.{readTold}
 use Rattle.frame.specs.Reading.{Found, accepted, rejected, readFrame}
 use Rattle.frame.specs.Calls.{readOutcome}
-use Rattle.checks.specs.Outcome.{Outcome, outcome}
-use Rattle.ledger.specs.Steps.{Taken, taken, takeAccepted, ledgerTake}
-use Rattle.ledger.specs.Board.{IsBoard, modulusWord, sizeWord, entriesOf}
-use Rattle.ledger.specs.Calls.{TakeOutcome, takeOutcome, laidOut, takeCall}
+use Rattle.ledger.specs.Ledger.{Ledger}
+use Rattle.ledger.specs.Steps.{ledgerTake}
+use Rattle.ledger.specs.Board.{IsBoard, modulusWord, sizeWord, entriesOf, ledgerOf}
+use Rattle.ledger.specs.Calls.{laidOut, takeCall}
 use Rattle.ledger.proofs.Parse.{board-layout}
 use Rattle.ledger.proofs.Proper.{Numbers, accepted-numbers}
-use Rattle.ledger.proofs.LedgerLaws.{take-refused-length, take-rejected, take-accepted}
-use Rattle.ledger.proofs.WordsCalls.{take-on-board, take-off-board}
+use Rattle.ledger.proofs.LedgerLaws.{take-length-first, take-rejected, take-accepted}
+use Rattle.ledger.proofs.WordsCalls.{take-on-board}
+use Rattle.board_solve.specs.Combination.{RowFor}
+use Rattle.board_solve.specs.Taking.{TakesRow}
 
 -- ---- what reading found
-
-some-number : (k : Refusal) → 1 ≤ refusalNumber k
-some-number Modulus = omega arith
-some-number Size = omega arith
-some-number Length = omega arith
-some-number Number = omega arith
-some-number Insoluble = omega arith
-some-number FrameLength = omega arith
-some-number Padding = omega arith
-some-number ZeroMultiplier = omega arith
-some-number Conflict = omega arith
-some-number Withdrawal = omega arith
-some-number NotBoard = omega arith
 
 -- where r is what `read_frame` answers: a value is that of the numbers that were accepted, and stand in the memory lent
 module _ (lent written : List ℕ) (r : ReadAnswer) (f : Found) (told : outcome (readTold r) written ≡ readOutcome lent f) where
@@ -63,7 +41,7 @@ module _ (lent written : List ℕ) (r : ReadAnswer) (f : Found) (told : outcome 
           let values = ap (λ (o : Outcome (List ℕ)). o .told .values) h in
           let same : v ≡ w = cc in
           ap₂ accepted (sym (ap (λ (o : Outcome (List ℕ)). o .lent) h)) (sym same)
-      go (rejected k) h = absurd (omega (arith, some-number k, ap (λ (o : Outcome (List ℕ)). o .told .number) h))
+      go (rejected k) h = absurd (omega (arith, refusal-number k, ap (λ (o : Outcome (List ℕ)). o .told .number) h))
 
   -- and a refusal is that of what was rejected
   pub found-refusal : (k : Refusal) → r ≡ Refused k → (l : Refusal) × (f ≡ rejected l) × (refused k ≡ refused l)
@@ -71,7 +49,7 @@ module _ (lent written : List ℕ) (r : ReadAnswer) (f : Found) (told : outcome 
   found-refusal k e = go f (ap (λ (a : ReadAnswer). outcome (readTold a) written) (sym e) ∙ told)
     where
       go : (g : Found) → outcome (refused k) written ≡ readOutcome lent g → (l : Refusal) × (g ≡ rejected l) × (refused k ≡ refused l)
-      go (accepted xs w) h = absurd (omega (arith, some-number k, ap (λ (o : Outcome (List ℕ)). o .told .number) h))
+      go (accepted xs w) h = absurd (omega (arith, refusal-number k, ap (λ (o : Outcome (List ℕ)). o .told .number) h))
       go (rejected l) h = (l, refl, ap (λ (o : Outcome (List ℕ)). o .told) h)
 
 -- a value tells that n multipliers and a value below p were found
@@ -91,51 +69,45 @@ module _ (p n : ℕ) (written : List ℕ) (v : ℕ) (x : Numbers p n written v) 
   pub row-long : length (take n (written ++ drop n room)) ≡ n
   row-long = ap length row-front ∙ x .long
 
-  pub row-below : (j : ℕ) → j < n → getD (take n (written ++ drop n room)) j 0 < p
+  row-below : (j : ℕ) → j < n → getD (take n (written ++ drop n room)) j 0 < p
   row-below j h = rw row-front (x .below j (omega (arith, x .long)))
+
+pub row-for : (ws written : List ℕ) (v : ℕ) → Numbers (modulusWord ws) (sizeWord ws) written v → (room : List ℕ)
+    → RowFor ws (take (sizeWord ws) (written ++ drop (sizeWord ws) room))
+row-for ws written v x room =
+    record { long = row-long (modulusWord ws) (sizeWord ws) written v x room; below = row-below (modulusWord ws) (sizeWord ws) written v x room }
 
 -- ---- the call
 
-module _ (ws frame mix : List ℕ) where
-  -- refusal 11
-  pub take-no-board : (IsBoard ws → ⊥) → takeOutcome (refused NotBoard) ws mix ≡ takeCall ws frame mix
-  take-no-board n = sym (take-off-board ws frame mix n)
+module _ (ws : List ℕ) (b : IsBoard ws) (frame mix : List ℕ) where
+  abbrev step : Outcome (Ledger × List ℕ)
+  step = ledgerTake (modulusWord ws) (b .prime) (sizeWord ws) (ledgerOf ws) frame mix
 
-  module _ (b : IsBoard ws) where
-    -- the answer from the ledger's step, and one that leaves the ledger as it is
-    by-step : (r : Taken) → ledgerTake (modulusWord ws) (b .prime) (sizeWord ws) (entriesOf ws) frame mix ≡ r
-        → laidOut (modulusWord ws) (sizeWord ws) r ≡ takeCall ws frame mix
-    by-step r e = sym (take-on-board ws frame mix b ∙ ap (laidOut (modulusWord ws) (sizeWord ws)) e)
+  -- the answer from the ledger's step, and one that refuses
+  by-step : (r : Outcome (Ledger × List ℕ)) → step ≡ r → laidOut (modulusWord ws) (sizeWord ws) r ≡ takeCall ws frame mix
+  by-step r e = sym (take-on-board ws b frame mix ∙ ap (laidOut (modulusWord ws) (sizeWord ws)) e)
 
-    untouched : (told : Told)
-        → ledgerTake (modulusWord ws) (b .prime) (sizeWord ws) (entriesOf ws) frame mix ≡ taken (entriesOf ws) told mix
-        → takeOutcome told ws mix ≡ takeCall ws frame mix
-    untouched told e =
-        ap (λ cs. takeOutcome told cs mix) (sym (board-layout ws b)) ∙ by-step (taken (entriesOf ws) told mix) e
+  by-refusal : (k : Refusal) → step ≡ untouched (ledgerOf ws, mix) k → untouched (ws, mix) k ≡ takeCall ws frame mix
+  by-refusal k e = ap (λ cs. untouched {M = List ℕ × List ℕ} (cs, mix) k) (sym (board-layout ws b)) ∙ by-step _ e
 
-    -- refusal 3
-    pub take-no-length : (length mix ≡ sizeWord ws → ⊥) → takeOutcome (refused Length) ws mix ≡ takeCall ws frame mix
-    take-no-length h =
-        untouched (refused Length) (take-refused-length (modulusWord ws) (b .prime) (sizeWord ws) (entriesOf ws) frame mix h)
+  -- 3
+  pub take-no-length : (length mix ≡ sizeWord ws → ⊥) → untouched (ws, mix) Length ≡ takeCall ws frame mix
+  take-no-length h = by-refusal Length (take-length-first (modulusWord ws) (b .prime) (sizeWord ws) (entriesOf ws) frame mix h)
 
-    module _ (l : length mix ≡ sizeWord ws) (lent written : List ℕ) (r : ReadAnswer)
-        (told : outcome (readTold r) written ≡ readOutcome lent (readFrame (modulusWord ws) (sizeWord ws) frame)) where
-      -- what reading refuses
-      pub take-unread : (k : Refusal) → r ≡ Refused k → takeOutcome (refused k) ws mix ≡ takeCall ws frame mix
-      take-unread k e =
-          let (j, found, same) = found-refusal lent written r (readFrame (modulusWord ws) (sizeWord ws) frame) told k e in
-          ap (λ t. takeOutcome t ws mix) same
-          ∙ untouched (refused j) (take-rejected (modulusWord ws) (b .prime) (sizeWord ws) (entriesOf ws) frame mix j l found)
+  module _ (l : length mix ≡ sizeWord ws) (lent written : List ℕ) (r : ReadAnswer)
+      (told : outcome (readTold r) written ≡ readOutcome lent (readFrame (modulusWord ws) (sizeWord ws) frame)) where
+    -- what reading refuses
+    pub take-unread : (k : Refusal) → r ≡ Refused k → untouched (ws, mix) k ≡ takeCall ws frame mix
+    take-unread k e =
+        let (j, found, same) = found-refusal lent written r (readFrame (modulusWord ws) (sizeWord ws) frame) told k e in
+        ap (λ t. outcome {M = List ℕ × List ℕ} t (ws, mix)) same
+        ∙ by-refusal j (take-rejected (modulusWord ws) (b .prime) (sizeWord ws) (entriesOf ws) frame mix j l found)
 
-      -- the numbers that it found decide, by what `take_row` leaves
-      pub take-read : (v : ℕ) → r ≡ Value v → (room : List ℕ) (left : TakeOutcome)
-          → left
-          ≡ laidOut (modulusWord ws) (sizeWord ws)
-          (takeAccepted (modulusWord ws) (b .prime) (sizeWord ws) (entriesOf ws)
-          (take (sizeWord ws) (written ++ drop (sizeWord ws) room)) v mix)
-          → left ≡ takeCall ws frame mix
-      take-read v e room left h =
-          let found = found-value lent written r (readFrame (modulusWord ws) (sizeWord ws) frame) told v e in
-          let x = accepted-numbers (modulusWord ws) (sizeWord ws) frame written v found in
-          (rw (row-front (modulusWord ws) (sizeWord ws) written v x room) at h)
-          ∙ by-step _ (take-accepted (modulusWord ws) (b .prime) (sizeWord ws) (entriesOf ws) frame mix written v l found)
+    -- the numbers that it found decide, by what `take_row` leaves
+    pub take-read : (v : ℕ) → r ≡ Value v → (room : List ℕ) (left : Outcome (List ℕ × List ℕ))
+        → TakesRow ws (take (sizeWord ws) (written ++ drop (sizeWord ws) room)) v mix left → left ≡ takeCall ws frame mix
+    take-read v e room left h =
+        let found = found-value lent written r (readFrame (modulusWord ws) (sizeWord ws) frame) told v e in
+        let x = accepted-numbers (modulusWord ws) (sizeWord ws) frame written v found in
+        (rw (row-front (modulusWord ws) (sizeWord ws) written v x room) at (h (b .prime)))
+        ∙ by-step _ (take-accepted (modulusWord ws) (b .prime) (sizeWord ws) (entriesOf ws) frame mix written v l found)

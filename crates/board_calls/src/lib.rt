@@ -1,14 +1,17 @@
 // The board: open, take, withdraw and show. The ledger that they keep is in the words that the caller lends.
 ghost use mathlib.Core.Path.{_≡_};
+ghost use Rattle.checks.specs.Outcome.{outcome};
 ghost use Rattle.board_calls.specs.Told.{openTold, answerTold};
 ghost use Rattle.board_solve.specs.Told.{takeTold};
-ghost use Rattle.ledger.specs.Steps.{shown};
-ghost use Rattle.ledger.specs.Calls.{opened, openCall, takeOutcome, takeCall, withdrawCall, showCall};
+ghost use Rattle.ledger.specs.Calls.{openCall, takeCall, withdrawCall, showCall};
 pub use board_solve::TakeAnswer;
+use board_solve::records;
 use board_solve::take_row;
-use board_words::records;
+use board_words::change;
+use board_words::layout;
 use board_words::test;
 use checks::Refusal;
+use checks::Verdict;
 use words::row_room;
 use words::table_room;
 
@@ -23,42 +26,33 @@ pub enum CountAnswer {
     Refused(Refusal),
 }
 
-// Writes a fresh board for n records modulo p. Refused are 1, p no modulus, 2, n not 1 to 64, and 3, another length than
-// 3 + n × (n + 1).
+// Writes a fresh board for n records modulo p. Refused are 1, p no modulus, 2, n not 1 to 64, and 3, another length than a board
+// for n records has.
 pub fn open(p: u32, n: u32, board: &mut [u32]) -> OpenAnswer
-    ensures { λ r. ⌜ opened (openTold r) (now (board .exit)) ≡ openCall p n (now (board .entry)) ⌝ }
+    ensures { λ r. ⌜ outcome (openTold r) (now (board .exit)) ≡ openCall p n (now (board .entry)) ⌝ }
 {
-    if !checks::is_modulus(p) {
-        return OpenAnswer::Refused(Refusal::Modulus);
+    if let Verdict::Refused(kind) = checks::frame_sizes(p, n) {
+        return OpenAnswer::Refused(kind);
     }
-    if n == 0 {
-        return OpenAnswer::Refused(Refusal::Size);
-    }
-    if 64 < n {
-        return OpenAnswer::Refused(Refusal::Size);
-    }
-    let size = n as usize;
-    if board.len() != 3 + size * (size + 1) {
+    if board.len() != layout::board_length(n as usize) {
         return OpenAnswer::Refused(Refusal::Length);
     }
-    words::clear(board);
-    board[0] = p;
-    board[1] = n;
+    change::make_fresh(p, n, board);
     OpenAnswer::Opened
 }
 
 // Takes a frame: new where its multipliers are no combination of the standing rows, and then it stands; otherwise repeat, or
 // conflict (9) where its value is not what the same combination of values gives, with the combination in the mix.
 pub fn take(board: &mut [u32], frame: &[u8], mix: &mut [u32]) -> TakeAnswer
-    ensures { λ r. ⌜ takeOutcome (takeTold r) (now (board .exit)) (now (mix .exit)) ≡ takeCall (now (board .entry)) (now (frame .entry)) (now (mix .entry)) ⌝ }
+    ensures { λ r. ⌜ outcome (takeTold r) (now (board .exit), now (mix .exit)) ≡ takeCall (now (board .entry)) (now (frame .entry)) (now (mix .entry)) ⌝ }
 {
     let mut rows = table_room();
     let mut d = table_room();
     if !test::is_board(board, &mut rows, &mut d) {
         return TakeAnswer::Refused(Refusal::NotBoard);
     }
-    let p = board[0];
-    let n = board[1] as usize;
+    let p = board[layout::MODULUS];
+    let n = board[layout::SIZE] as usize;
     if mix.len() != n {
         return TakeAnswer::Refused(Refusal::Length);
     }
@@ -71,35 +65,33 @@ pub fn take(board: &mut [u32], frame: &[u8], mix: &mut [u32]) -> TakeAnswer
 
 // Drops the last t frames; their words become 0.
 pub fn withdraw(board: &mut [u32], t: u32) -> CountAnswer
-    ensures { λ r. ⌜ opened (answerTold r) (now (board .exit)) ≡ withdrawCall (now (board .entry)) t ⌝ }
+    ensures { λ r. ⌜ outcome (answerTold r) (now (board .exit)) ≡ withdrawCall (now (board .entry)) t ⌝ }
 {
     let mut rows = table_room();
     let mut d = table_room();
     if !test::is_board(board, &mut rows, &mut d) {
         return CountAnswer::Refused(Refusal::NotBoard);
     }
-    let k = board[2];
+    let k = board[layout::COUNT];
     if k < t {
         return CountAnswer::Refused(Refusal::Withdrawal);
     }
-    let n = board[1] as usize;
+    let n = board[layout::SIZE] as usize;
     let left = k - t;
-    let from = 3 + (left as usize) * (n + 1);
-    words::clear(&mut board[from..]);
-    board[2] = left;
+    change::drop_rows(board, n, k, left);
     CountAnswer::Count(left)
 }
 
 // Marks the records that all assignments meeting the standing frames agree on, with their signed readings.
 pub fn show(board: &[u32], marks: &mut [u32], numbers: &mut [i32]) -> CountAnswer
-    ensures { λ r. ⌜ shown (answerTold r) (now (marks .exit)) (now (numbers .exit)) ≡ showCall (now (board .entry)) (now (marks .entry)) (now (numbers .entry)) ⌝ }
+    ensures { λ r. ⌜ outcome (answerTold r) (now (marks .exit), now (numbers .exit)) ≡ showCall (now (board .entry)) (now (marks .entry)) (now (numbers .entry)) ⌝ }
 {
     let mut rows = table_room();
     let mut d = table_room();
     if !test::is_board(board, &mut rows, &mut d) {
         return CountAnswer::Refused(Refusal::NotBoard);
     }
-    let n = board[1] as usize;
+    let n = board[layout::SIZE] as usize;
     if marks.len() != n {
         return CountAnswer::Refused(Refusal::Length);
     }
@@ -107,7 +99,7 @@ pub fn show(board: &[u32], marks: &mut [u32], numbers: &mut [i32]) -> CountAnswe
         return CountAnswer::Refused(Refusal::Length);
     }
     records::show_records(board, &rows, &d, marks, numbers);
-    let count = board[2];
-    let missing = board[1] - count;
+    let count = board[layout::COUNT];
+    let missing = board[layout::SIZE] - count;
     CountAnswer::Count(missing)
 }

@@ -1,4 +1,10 @@
-pub mod Writes
-pub mod Rows
+pub mod RecordTables
+pub mod MixRows
+pub mod Standing
 pub mod Combinations
 pub mod Take
+pub mod RecordUnits
+pub mod RecordRows
+pub mod RecordSolutions
+pub mod RecordSettled
+pub mod RecordShown

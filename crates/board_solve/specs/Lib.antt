@@ -1,1 +1,4 @@
 pub mod Told
+pub mod Combination
+pub mod Taking
+pub mod Records

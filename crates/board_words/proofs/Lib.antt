@@ -1,11 +1,6 @@
+pub mod ChangeRows
 pub mod TestSizes
 pub mod TestFilled
 pub mod TestRows
 pub mod TestIndependent
 pub mod TestBoard
-pub mod RecordUnits
-pub mod RecordTables
-pub mod RecordRows
-pub mod RecordSolutions
-pub mod RecordSettled
-pub mod RecordShown

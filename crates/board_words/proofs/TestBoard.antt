@@ -6,19 +6,18 @@ use mathlib.Core.List.{List}
 use Prim.Native.Nat.{ℕ, _+_, _*_}
 use native.Mathlib.Nat.{zero-add}
 use lib.ListN.{getD}
-use Rattle.algebra.specs.Choice.{pick}
 use Rattle.algebra.specs.Ring.{IsField}
 use Rattle.algebra.specs.Span.{Independent}
-use Rattle.algebra.proofs.Choice.{pick-yes, pick-no}
+use Rattle.algebra.proofs.Answers.{tells-yes, tells-no}
 use Rattle.algebra.proofs.Independent.{independent-chosen, chosen-independent}
 use Rattle.field.specs.Residue.{residues}
 use Rattle.field.specs.View.{table}
 use Rattle.field.proofs.Field.{residues-field}
 use Rattle.matrix_mul.proofs.Places.{table-same}
-use Rattle.ledger.specs.Board.{IsBoard, headerLength, rowLength, modulusWord, sizeWord, countWord}
-use Rattle.ledger.specs.Decide.{board?}
-use Rattle.board_words.specs.Tested.{Header, Filled, Inverted}
-use Rattle.board_words.specs.Held.{Held}
+use Rattle.ledger.specs.Board.{IsBoard, headerLength, rowLength, modulusWord, sizeWord, countWord, multiplierTable}
+use Rattle.ledger.proofs.LayoutPlaces.{row-step}
+use Rattle.board_words.specs.Tested.{Header, Filled, Inverted, BoardTold}
+use Rattle.board_words.specs.Inverse.{BoardInverse}
 
 pub board-header : {ws : List ℕ} → IsBoard ws → Header ws
 board-header b = record { three = b .three; prime = b .prime; size = b .size; long = b .long; count = b .count }
@@ -26,12 +25,8 @@ board-header b = record { three = b .three; prime = b .prime; size = b .size; lo
 pub board-filled : {ws : List ℕ} → IsBoard ws → Filled ws
 board-filled b = record { below = b .below; zeros = b .zeros }
 
--- what `is_board` ensures
-abbrev pub BoardTold : (ws rows d : List ℕ) → Bool → Type 0
-BoardTold ws rows d t = (t ≡ pick (board? ws) true false) × (t ≡ true → Held ws rows d)
-
 pub told-no-board : (ws rows d : List ℕ) → (IsBoard ws → ⊥) → BoardTold ws rows d false
-told-no-board ws rows d n = (sym (pick-no (board? ws) true false n), λ e. absurd (true≢false (sym e)))
+told-no-board ws rows d n = record { tells = tells-no n; inverse = λ e. absurd (true≢false (sym e)) }
 
 module _ (ws rows d : List ℕ) (h : Header ws) (f : Filled ws) where
   field : IsField (residues (modulusWord ws))
@@ -40,12 +35,15 @@ module _ (ws rows d : List ℕ) (h : Header ws) (f : Filled ws) where
   -- the copied rows are the table of the board's rows
   same-table : (t : Bool) → Inverted ws rows d t
       → table (modulusWord ws) rows 0 (sizeWord ws) (countWord ws) (sizeWord ws)
-      ≡ table (modulusWord ws) ws headerLength (rowLength (sizeWord ws)) (countWord ws) (sizeWord ws)
+      ≡ multiplierTable ws
   same-table t v =
       table-same (modulusWord ws) rows 0 (sizeWord ws) ws headerLength (rowLength (sizeWord ws)) (countWord ws) (sizeWord ws)
-      (λ i j k l. ap (λ q. getD rows (q + j) 0) (zero-add (i * sizeWord ws)) ∙ v .work .same-rows i j k l)
+      (λ i j k l.
+      ap (λ q. getD rows (q + j) 0) (zero-add (i * sizeWord ws))
+      ∙ v .work .same-rows i j k l
+      ∙ ap (λ q. getD ws (q + j) 0) (row-step (sizeWord ws) i))
 
-  held : Inverted ws rows d true → Held ws rows d
+  held : Inverted ws rows d true → BoardInverse ws rows d
   held v =
       record {
         board =
@@ -73,5 +71,5 @@ module _ (ws rows d : List ℕ) (h : Header ws) (f : Filled ws) where
 
   -- past the other clauses the marks decide
   pub told-board : (t : Bool) → Inverted ws rows d t → BoardTold ws rows d t
-  told-board true v = let whole = held v in (sym (pick-yes (board? ws) true false (whole .board)), λ _. whole)
+  told-board true v = let whole = held v in record { tells = tells-yes (whole .board); inverse = λ _. whole }
   told-board false v = told-no-board ws rows d (dependent v)

@@ -2,57 +2,56 @@
 -- first are below p and the second all 0 exactly if the clauses on the board's words hold.
 use mathlib.Core.Path.{_≡_, sym, ap, _∙_}
 use mathlib.Core.List.{List}
-use Prim.Native.Nat.{ℕ, _+_, _*_, _-_, _<_}
+use Prim.Native.Nat.{ℕ, _+_, _-_, _<_}
 use native.Mathlib.Decide.{decLt}
 use native.Mathlib.Omega.{arith}
 use lib.ListN.{length, getD, take, drop, List·getD-eq-default}
 use Rattle.words.specs.Words.{Below, Blank}
 use Rattle.words.proofs.Parts.{part-length, part-at}
-use Rattle.ledger.specs.Board.{headerLength, rowLength, modulusWord, sizeWord, countWord}
+use Rattle.ledger.specs.Board.{headerLength, modulusWord, sizeWord, countWord, rowsEnd}
+use Rattle.ledger.proofs.LayoutPlaces.{row-behind}
 use Rattle.board_words.specs.Tested.{Header, Filled}
 use Rattle.board_words.proofs.TestSizes.{rows-inside}
 
--- where the rows end
-abbrev pub endOf : List ℕ → ℕ
-endOf ws = 3 + countWord ws * (sizeWord ws + 1)
-
+-- the parts, split where the rows end
 abbrev pub entryPart : List ℕ → List ℕ
-entryPart ws = take (endOf ws - 3) (drop 3 ws)
+entryPart ws = take (rowsEnd ws - headerLength) (drop headerLength ws)
 
 abbrev pub restPart : List ℕ → List ℕ
-restPart ws = take (length ws - endOf ws) (drop (endOf ws) ws)
+restPart ws = take (length ws - rowsEnd ws) (drop (rowsEnd ws) ws)
 
 module _ (ws : List ℕ) (h : Header ws) where
-  entry-long : length (entryPart ws) ≡ endOf ws - 3
-  entry-long = part-length ws 3 (endOf ws - 3) (omega (arith, rows-inside ws h))
+  entry-long : length (entryPart ws) ≡ rowsEnd ws - headerLength
+  entry-long =
+      part-length ws headerLength (rowsEnd ws - headerLength)
+      (omega (arith, rows-inside ws h, row-behind (sizeWord ws) (countWord ws)))
 
-  rest-long : length (restPart ws) ≡ length ws - endOf ws
-  rest-long = part-length ws (endOf ws) (length ws - endOf ws) (omega (arith, rows-inside ws h))
+  rest-long : length (restPart ws) ≡ length ws - rowsEnd ws
+  rest-long = part-length ws (rowsEnd ws) (length ws - rowsEnd ws) (omega (arith, rows-inside ws h))
 
   pub filled-below : Filled ws → Below (modulusWord ws) (entryPart ws)
-  unfolding headerLength rowLength
   filled-below f i l =
-      let inside : i < endOf ws - 3 = omega (arith, entry-long) in
-      rw (part-at ws 3 (endOf ws - 3) i inside) (f .below i (omega arith))
+      let inside : i < rowsEnd ws - headerLength = omega (arith, entry-long) in
+      rw (part-at ws headerLength (rowsEnd ws - headerLength) i inside) (f .below (headerLength + i) (omega arith) (omega arith))
 
   pub filled-zero : Filled ws → Blank (restPart ws)
-  unfolding headerLength rowLength
-  filled-zero f j = by-place (decLt j (length ws - endOf ws))
+  filled-zero f j = by-place (decLt j (length ws - rowsEnd ws))
     where
-      by-place : Dec (j < length ws - endOf ws) → getD (restPart ws) j 0 ≡ 0
+      by-place : Dec (j < length ws - rowsEnd ws) → getD (restPart ws) j 0 ≡ 0
       by-place (yes inside) =
-          part-at ws (endOf ws) (length ws - endOf ws) j inside ∙ f .zeros (endOf ws + j) (omega arith) (omega arith)
+          part-at ws (rowsEnd ws) (length ws - rowsEnd ws) j inside ∙ f .zeros (rowsEnd ws + j) (omega arith) (omega arith)
       by-place (no past) = List·getD-eq-default (restPart ws) 0 (omega (arith, rest-long))
 
   pub parts-filled : Below (modulusWord ws) (entryPart ws) → Blank (restPart ws) → Filled ws
-  unfolding headerLength rowLength
   parts-filled b z =
       record {
-        below = λ i l.
-            rw (← part-at ws 3 (endOf ws - 3) i (omega arith)) (b i (omega (arith, entry-long)));
-        zeros = λ i l g.
-            let place : endOf ws + (i - endOf ws) ≡ i = omega arith in
-            ap (λ q. getD ws q 0) (sym place)
-            ∙ sym (part-at ws (endOf ws) (length ws - endOf ws) (i - endOf ws) (omega arith))
-            ∙ z (i - endOf ws);
+        below = λ q l g.
+            let place : headerLength + (q - headerLength) ≡ q = omega arith in
+            rw (← place, ← part-at ws headerLength (rowsEnd ws - headerLength) (q - headerLength) (omega arith))
+            (b (q - headerLength) (omega (arith, entry-long)));
+        zeros = λ q l g.
+            let place : rowsEnd ws + (q - rowsEnd ws) ≡ q = omega arith in
+            ap (λ r. getD ws r 0) (sym place)
+            ∙ sym (part-at ws (rowsEnd ws) (length ws - rowsEnd ws) (q - rowsEnd ws) (omega arith))
+            ∙ z (q - rowsEnd ws);
       }

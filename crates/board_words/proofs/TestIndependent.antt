@@ -4,7 +4,7 @@ use mathlib.Core.Path.{_≡_, sym, ap, _∙_, subst₂}
 use mathlib.Core.Bool.{Bool, true}
 use mathlib.Core.List.{List, _++_}
 use Prim.Native.Nat.{ℕ, _+_, _*_, _/_, _%_, _≤_, _<_}
-use native.Mathlib.Nat.{add-assoc, mul-comm, mul-le-mul-right, mod-lt, div-add-mod', div-lt-iff-lt-mul}
+use native.Mathlib.Nat.{mul-comm, mul-le-mul-right, mod-lt, div-add-mod', div-lt-iff-lt-mul}
 use native.Mathlib.Decide.{decLt}
 use native.Mathlib.Omega.{arith}
 use lib.ListN.{length, getD, take, drop, length-take}
@@ -21,7 +21,8 @@ use Rattle.matrix_inverse.specs.Eliminated.{Eliminable, Eliminated}
 use Rattle.matrix_mul.proofs.Places.{front-table, table-same}
 use Rattle.words.proofs.Parts.{front-inside, front-below}
 use Rattle.checks.specs.Largest.{FrameSize}
-use Rattle.ledger.specs.Board.{headerLength, rowLength, modulusWord, sizeWord, countWord}
+use Rattle.ledger.specs.Board.{rowStart, modulusWord, sizeWord, countWord}
+use Rattle.ledger.proofs.LayoutPlaces.{row-behind, row-ends, row-holds}
 use Rattle.algebra.specs.Answers.{Tells}
 use Rattle.board_words.specs.Tested.{Header, Filled, Laid, Inverted}
 use Rattle.words.specs.Words.{AllMarked}
@@ -35,11 +36,11 @@ table-place n k q some h = (q / n, q % n, div-lt-iff-lt-mul some .1 h, mod-lt q 
 -- the copied rows are below p, as the board's entries are, and so is the room that they lie in
 module _ (ws rows₀ rows : List ℕ) (h : Header ws) (f : Filled ws) (laid : Laid (countWord ws) (sizeWord ws) ws rows₀ rows) where
   entry-below : (q : ℕ) → q < countWord ws * sizeWord ws → getD rows q 0 < modulusWord ws
-  unfolding headerLength rowLength
   entry-below q inside =
-      let (i, j, row, column, e) = table-place (sizeWord ws) (countWord ws) q (h .size .0) inside in
-      rw (← e, laid .each i j row column, add-assoc)
-      (f .below (i * (sizeWord ws + 1) + j) (omega (arith, mul-le-mul-right (sizeWord ws + 1) row)))
+      let n = sizeWord ws in
+      let (i, j, row, column, e) = table-place n (countWord ws) q (h .size .0) inside in
+      rw (← e, laid .each i j row column)
+      (f .below (rowStart n i + j) (omega (arith, row-behind n i)) (omega (arith, row-ends n i (countWord ws) row, row-holds n)))
 
   rows-below : Below (modulusWord ws) (take (countWord ws * sizeWord ws) rows)
   rows-below q l =
@@ -55,7 +56,7 @@ module _ (ws rows₀ rows : List ℕ) (h : Header ws) (f : Filled ws) (laid : La
           rw (laid .rest q (omega arith) (omega (arith, laid .same-length)), blank q) (omega (arith, h .prime .prime .two-or-more))
 
 -- zeroed memory of 4,096 words for D, and of 64 words for each set of marks
-pub record Room (d columns chosen : List ℕ) : Type 0 where
+pub record EliminationRoom (d columns chosen : List ℕ) : Type 0 where
   pub d-long : length d ≡ 4096
   pub d-zero : Blank d
   pub columns-long : length columns ≡ 64
@@ -63,7 +64,7 @@ pub record Room (d columns chosen : List ℕ) : Type 0 where
   pub chosen-zero : Blank chosen
 
 module _ (p n k : ℕ) (ok : IsModulus p) (size : FrameSize n) (count : k ≤ n)
-    (rows d columns chosen : List ℕ) (rows-long : length rows ≡ 4096) (room : Room d columns chosen) where
+    (rows d columns chosen : List ℕ) (rows-long : length rows ≡ 4096) (room : EliminationRoom d columns chosen) where
   few : k * n ≤ 4096
   few = table-most (omega (arith, size .1)) (size .1)
 
@@ -149,7 +150,7 @@ module _ (p n k : ℕ) (ok : IsModulus p) (size : FrameSize n) (count : k ≤ n)
 
 module _ (ws rows₀ rows d columns chosen : List ℕ) (h : Header ws) (f : Filled ws)
     (laid : Laid (countWord ws) (sizeWord ws) ws rows₀ rows) (long : length rows₀ ≡ 4096)
-    (blank : Blank rows₀) (room : Room d columns chosen) where
+    (blank : Blank rows₀) (room : EliminationRoom d columns chosen) where
   pub board-ready :
       Eliminable (modulusWord ws) (countWord ws) (sizeWord ws) (take (countWord ws * sizeWord ws) rows)
       (take (countWord ws * sizeWord ws) d) 0 (countWord ws) (take (sizeWord ws) columns) (take (countWord ws) chosen)

@@ -9,14 +9,14 @@ use native.Mathlib.Omega.{arith}
 use lib.ListN.{length, getD, take, drop}
 use Rattle.words.specs.Words.{Copied}
 use Rattle.words.proofs.Parts.{replaced, replaced-length, replaced-inside, replaced-elsewhere, part-length, part-at}
-use Rattle.ledger.specs.Board.{headerLength, rowLength}
+use Rattle.ledger.specs.Board.{rowStart}
+use Rattle.ledger.proofs.LayoutPlaces.{row-ends, row-holds}
 use Rattle.board_words.specs.Tested.{Rows, Laid}
 use Rattle.board_words.proofs.TestSizes.{table-most}
 
 -- row i lies in the words, and there is room for it
-pub row-inside : {k n : ℕ} {ws rows : List ℕ} → Rows k n ws rows → (i : ℕ) → i < k → 3 + i * (n + 1) + n ≤ length ws
-unfolding headerLength rowLength
-row-inside {k} {n} r i h = omega (arith, r .inside, mul-le-mul-right (n + 1) h)
+pub row-inside : {k n : ℕ} {ws rows : List ℕ} → Rows k n ws rows → (i : ℕ) → i < k → rowStart n i + n ≤ length ws
+row-inside {k} {n} r i h = omega (arith, r .inside, row-ends n i k h, row-holds n)
 
 pub row-room : {k n : ℕ} {ws rows : List ℕ} → Rows k n ws rows → (i : ℕ) → i < k → i * n + n ≤ 4096
 row-room {k} {n} r i h = omega (arith, mul-le-mul-right n h, table-most (r .k-most) (r .n-most))
@@ -34,22 +34,22 @@ laid-none n ws rows =
 
 -- the rows up to i, then row i copied to the part behind them
 module _ (i n : ℕ) (ws rows₀ rows ys : List ℕ) (laid : Laid i n ws rows₀ rows) (room : i * n + n ≤ length rows)
-    (copied : Copied ws (3 + i * (n + 1)) n (take (length rows - i * n) (drop (i * n) rows)) ys) where
+    (copied : Copied ws (rowStart n i) n (take (length rows - i * n) (drop (i * n) rows)) ys) where
   part-long : length ys ≡ length rows - i * n
   part-long = copied .same-length ∙ part-length rows (i * n) (length rows - i * n) (omega arith)
 
   after : List ℕ
   after = replaced rows (i * n) (length rows - i * n) ys
 
-  old : (t j : ℕ) → t < i → j < n → getD after (t * n + j) 0 ≡ getD ws (headerLength + t * rowLength n + j) 0
+  old : (t j : ℕ) → t < i → j < n → getD after (t * n + j) 0 ≡ getD ws (rowStart n t + j) 0
   unfolding after
   old t j h l =
       replaced-elsewhere rows (i * n) (length rows - i * n) ys (omega arith) part-long (t * n + j)
       (λ q g e. omega (arith, mul-le-mul-right n h))
       ∙ laid .each t j h l
 
-  new : (j : ℕ) → j < n → getD after (i * n + j) 0 ≡ getD ws (headerLength + i * rowLength n + j) 0
-  unfolding after headerLength rowLength
+  new : (j : ℕ) → j < n → getD after (i * n + j) 0 ≡ getD ws (rowStart n i + j) 0
+  unfolding after
   new j l =
       replaced-inside rows (i * n) (length rows - i * n) ys (omega arith) part-long j (omega arith) ∙ copied .front j l
 

@@ -1,3 +1,2 @@
-pub mod Held
+pub mod Inverse
 pub mod Tested
-pub mod Records

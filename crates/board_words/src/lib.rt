@@ -1,4 +1,5 @@
-// The standing frames of a board in memory: the test whether words are a board, which leaves a quasiinverse of the standing
-// rows, and what the frames settle by it. The calls stand in `board_calls`.
-pub mod records;
+// A board in memory: where its words stand, the test whether words are a board, which leaves a quasiinverse of the standing rows,
+// and how the words change. What the standing rows say is found in `board_solve`; the calls stand in `board_calls`.
+pub mod change;
+pub mod layout;
 pub mod test;

@@ -1,36 +1,36 @@
 // The board test: whether words are a board, by document 01's clauses in their order. What it makes on the way, the rows and
 // a quasiinverse of them, serves the calls.
-ghost use mathlib.Core.Path.{_≡_};
-ghost use mathlib.Core.Bool.{true, false};
-ghost use Rattle.algebra.specs.Choice.{pick};
 ghost use Rattle.words.specs.Words.{Zeros};
-ghost use Rattle.ledger.specs.Decide.{board?};
-ghost use Rattle.board_words.specs.Held.{Held};
 ghost use Rattle.algebra.specs.Answers.{Tells};
-ghost use Rattle.board_words.specs.Tested.{Header, Filled, Rows, Laid, Inverted};
+ghost use Rattle.board_words.specs.Tested.{Header, Filled, Rows, Laid, Inverted, BoardTold};
 ghost use Rattle.words.specs.Words.{AllMarked};
+use super::layout;
+use super::layout::COUNT;
+use super::layout::HEADER;
+use super::layout::MODULUS;
+use super::layout::SIZE;
 
 // Whether the words begin as a board does: the clauses up to k ≤ n.
 fn has_header(board: &[u32]) -> bool
     ensures { λ r. ⌜ Tells r (Header (now (board .entry))) ⌝ }
 {
-    if board.len() < 3 {
+    if board.len() < HEADER {
         return false;
     }
-    if !checks::is_modulus(board[0]) {
+    if !checks::is_modulus(board[MODULUS]) {
         return false;
     }
-    if board[1] < 1 {
+    if board[SIZE] < 1 {
         return false;
     }
-    if 64 < board[1] {
+    if checks::LARGEST < board[SIZE] {
         return false;
     }
-    let n = board[1] as usize;
-    if board.len() != 3 + n * (n + 1) {
+    let n = board[SIZE] as usize;
+    if board.len() != layout::board_length(n) {
         return false;
     }
-    board[2] <= board[1]
+    board[COUNT] <= board[SIZE]
 }
 
 // Whether the entries of the k rows are below p and all later words are 0.
@@ -38,10 +38,10 @@ fn is_filled(board: &[u32]) -> bool
     requires { ⌜ Header (now board) ⌝ }
     ensures { λ r. ⌜ Tells r (Filled (now (board .entry))) ⌝ }
 {
-    let n = board[1] as usize;
-    let k = board[2] as usize;
-    let end = 3 + k * (n + 1);
-    if !words::all_below(board[0], &board[3..end]) {
+    let n = board[SIZE] as usize;
+    let k = board[COUNT] as usize;
+    let end = layout::row_start(n, k);
+    if !words::all_below(board[MODULUS], &board[HEADER..end]) {
         return false;
     }
     words::all_zero(&board[end..])
@@ -54,7 +54,7 @@ fn copy_rows(board: &[u32], k: usize, n: usize, rows: &mut [u32])
 {
     let mut i = 0;
     while i < k {
-        let from = 3 + i * (n + 1);
+        let from = layout::row_start(n, i);
         let to = i * n;
         words::copy(board, from, n, &mut rows[to..]);
         i += 1;
@@ -66,14 +66,14 @@ fn independent(board: &[u32], rows: &mut [u32], d: &mut [u32]) -> bool
     requires { ⌜ Header (now board) × Filled (now board) × Zeros 4096 (now rows) × Zeros 4096 (now d) ⌝ }
     ensures { λ r. ⌜ Inverted (now (board .entry)) (now (rows .exit)) (now (d .exit)) r ⌝ }
 {
-    let n = board[1] as usize;
-    let k = board[2] as usize;
+    let n = board[SIZE] as usize;
+    let k = board[COUNT] as usize;
     copy_rows(board, k, n, rows);
     let size = k * n;
     let mut columns = words::row_room();
     let mut chosen = words::row_room();
     matrix_inverse::eliminate::eliminate(
-        board[0],
+        board[MODULUS],
         k,
         n,
         &rows[..size],
@@ -89,7 +89,7 @@ fn independent(board: &[u32], rows: &mut [u32], d: &mut [u32]) -> bool
 // Whether the words are a board; then `rows` holds its multiplier rows one behind the other, and `d` a quasiinverse of them.
 pub fn is_board(board: &[u32], rows: &mut [u32], d: &mut [u32]) -> bool
     requires { ⌜ Zeros 4096 (now rows) × Zeros 4096 (now d) ⌝ }
-    ensures { λ r. ⌜ (r ≡ pick (board? (now (board .entry))) true false) × (r ≡ true → Held (now (board .entry)) (now (rows .exit)) (now (d .exit))) ⌝ }
+    ensures { λ r. ⌜ BoardTold (now (board .entry)) (now (rows .exit)) (now (d .exit)) r ⌝ }
 {
     if !has_header(board) {
         return false;

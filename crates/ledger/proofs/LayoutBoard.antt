@@ -14,9 +14,23 @@ use Rattle.field.specs.View.{table}
 use Rattle.field.proofs.Views.{table-entry}
 use Rattle.checks.specs.Largest.{FrameSize}
 use Rattle.ledger.specs.Ledger.{Entry, noEntry, multiplierRows}
-use Rattle.ledger.specs.Board.{headerLength, rowLength, boardLength, modulusWord, sizeWord, countWord, rowWords, layout, entriesOf, IsBoard}
+use Rattle.ledger.specs.Board.{
+  headerLength,
+  rowLength,
+  rowStart,
+  valueStart,
+  boardLength,
+  modulusWord,
+  sizeWord,
+  countWord,
+  rowWords,
+  layout,
+  entriesOf,
+  IsBoard,
+}
 use Rattle.ledger.specs.Proper.{Proper}
-use Rattle.ledger.proofs.LayoutRows.{Wide, entryWords, entry-multiplier, entry-value, rows-length, rows-at, row-place, entries-back}
+use Rattle.ledger.proofs.LayoutPlaces.{row-place, row-holds}
+use Rattle.ledger.proofs.LayoutRows.{Wide, entryWords, entry-multiplier, entry-value, rows-length, rows-at, entries-back}
 use Rattle.ledger.proofs.LayoutTables.{independent-agree}
 
 -- a list of zeros reads 0 everywhere
@@ -27,7 +41,7 @@ getD-zeros (suc m) (suc i) = getD-zeros m i
 
 -- how many zeros stand behind k rows
 abbrev pub zerosBehind : (n k : ℕ) → ℕ
-zerosBehind n k = boardLength n - (headerLength + k * rowLength n)
+zerosBehind n k = boardLength n - rowStart n k
 
 module _ (p n : ℕ) (es : List Entry) where
   -- the header is read back
@@ -44,7 +58,7 @@ module _ (p n : ℕ) (es : List Entry) where
   layout-count = refl
 
   layout-rest : drop headerLength (layout p n es) ≡ rowWords es ++ replicate (zerosBehind n (length es)) 0
-  unfolding layout headerLength
+  unfolding layout
   layout-rest = refl
 
   -- a place behind the header
@@ -55,12 +69,13 @@ module _ (p n : ℕ) (es : List Entry) where
   module _ (wide : Wide n es) where
     -- the entries are read back
     pub layout-entries : entriesOf (layout p n es) ≡ es
-    unfolding entriesOf layout headerLength
+    unfolding entriesOf layout
     layout-entries = entries-back n es (replicate (zerosBehind n (length es)) 0) wide
 
     -- what stands at place t of row i
     pub layout-at : (i t : ℕ) → i < length es → t < rowLength n
-        → getD (layout p n es) (headerLength + i * rowLength n + t) 0 ≡ getD (entryWords (getD es i noEntry)) t 0
+        → getD (layout p n es) (rowStart n i + t) 0 ≡ getD (entryWords (getD es i noEntry)) t 0
+    unfolding rowStart
     layout-at i t h l =
         let inside : i * rowLength n + t < length (rowWords es) =
         omega (arith, rows-length n es wide, mul-le-mul-right (rowLength n) h) in
@@ -70,19 +85,19 @@ module _ (p n : ℕ) (es : List Entry) where
         ∙ rows-at n es wide i t h l
 
     pub layout-multiplier : (i j : ℕ) → i < length es → j < n
-        → getD (layout p n es) (headerLength + i * rowLength n + j) 0 ≡ getD (getD es i noEntry .multipliers) j 0
-    unfolding rowLength
-    layout-multiplier i j h l = layout-at i j h (omega arith) ∙ entry-multiplier n (getD es i noEntry) j (wide i h) l
+        → getD (layout p n es) (rowStart n i + j) 0 ≡ getD (getD es i noEntry .multipliers) j 0
+    layout-multiplier i j h l = layout-at i j h (omega (arith, row-holds n)) ∙ entry-multiplier n (getD es i noEntry) j (wide i h) l
 
     pub layout-value : (i : ℕ) → i < length es
-        → getD (layout p n es) (headerLength + i * rowLength n + n) 0 ≡ getD es i noEntry .value
-    unfolding rowLength
-    layout-value i h = layout-at i n h (omega arith) ∙ entry-value n (getD es i noEntry) (wide i h)
+        → getD (layout p n es) (valueStart n i) 0 ≡ getD es i noEntry .value
+    unfolding valueStart
+    layout-value i h = layout-at i n h (row-holds n) ∙ entry-value n (getD es i noEntry) (wide i h)
 
     -- 0 from the rows' end on
-    pub layout-zero : (q : ℕ) → headerLength + length es * rowLength n ≤ q → getD (layout p n es) q 0 ≡ 0
+    pub layout-zero : (q : ℕ) → rowStart n (length es) ≤ q → getD (layout p n es) q 0 ≡ 0
+    unfolding rowStart
     layout-zero q h =
-        let past : ℕ = q - (headerLength + length es * rowLength n) in
+        let past : ℕ = q - rowStart n (length es) in
         let place : q ≡ headerLength + (length (rowWords es) + past) = omega (arith, rows-length n es wide) in
         ap (λ k. getD (layout p n es) k 0) place
         ∙ layout-behind (length (rowWords es) + past)
@@ -90,7 +105,7 @@ module _ (p n : ℕ) (es : List Entry) where
         ∙ getD-zeros (zerosBehind n (length es)) past
 
     pub layout-length : length es ≤ n → length (layout p n es) ≡ boardLength n
-    unfolding layout headerLength boardLength
+    unfolding layout boardLength rowStart
     layout-length fits =
         omega (
           arith,
@@ -103,7 +118,7 @@ module _ (p n : ℕ) (es : List Entry) where
 -- the multipliers of the entries are the table in the words
 pub layout-table : (p n : ℕ) (es : List Entry) → Wide n es → (i j : ℕ) → i < length es → j < n
     → multiplierRows p es i j ≡ table p (layout p n es) headerLength (rowLength n) (length es) n i j
-unfolding multiplierRows
+unfolding multiplierRows rowStart
 layout-table p n es wide i j h l =
     ap (reduce p) (sym (layout-multiplier p n es wide i j h l))
     ∙ sym (table-entry p (layout p n es) headerLength (rowLength n) (length es) n i j h l)
@@ -124,12 +139,11 @@ entry-below p n es P i t h l = by-place (decLt t n)
         rw (last, entry-value n e (P .wide i h)) (P .value-below i h)
 
 -- the words of the rows are below p
-layout-below : (p n : ℕ) (es : List Entry) → Proper p n es → (q : ℕ) → q < length es * rowLength n
-    → getD (layout p n es) (headerLength + q) 0 < p
-layout-below p n es P q h =
-    let (i, t, rows, places, same) = row-place n (length es) q h in
-    let place : headerLength + q ≡ headerLength + i * rowLength n + t = omega arith in
-    rw (place, layout-at p n es (P .wide) i t rows places) (entry-below p n es P i t rows places)
+layout-below : (p n : ℕ) (es : List Entry) → Proper p n es → (q : ℕ) → headerLength ≤ q → q < rowStart n (length es)
+    → getD (layout p n es) q 0 < p
+layout-below p n es P q h l =
+    let (i, t, row, inside, place) = row-place n (length es) q h l in
+    rw (place, layout-at p n es (P .wide) i t row inside) (entry-below p n es P i t row inside)
 
 -- a proper ledger is laid out as a board
 pub layout-board : (p n : ℕ) (es : List Entry) → IsModulus p → FrameSize n → Proper p n es → IsBoard (layout p n es)

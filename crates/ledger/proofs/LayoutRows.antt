@@ -2,8 +2,8 @@
 -- among the rows is row i times the length of a row, plus a place in the row.
 use mathlib.Core.Path.{_≡_, refl, sym, ap, ap₂, _∙_}
 use mathlib.Core.List.{List, [], _∷_, _++_, append-assoc}
-use Prim.Native.Nat.{ℕ, zero, suc, _+_, _*_, _/_, _%_, _≤_, _<_, suc-le-suc}
-use native.Mathlib.Nat.{zero-add, zero-mul, zero-lt-suc, not-suc-le-zero, le-of-suc-le-suc, mod-lt, div-add-mod', div-lt-iff-lt-mul}
+use Prim.Native.Nat.{ℕ, zero, suc, _+_, _*_, _≤_, _<_, suc-le-suc}
+use native.Mathlib.Nat.{zero-add, zero-mul, zero-lt-suc, not-suc-le-zero, le-of-suc-le-suc}
 use native.Mathlib.Numerals.{add-one}
 use native.Mathlib.Omega.{arith}
 use lib.ListN.{length, getD, take, drop, length-append, length-drop, List·getD-append}
@@ -69,21 +69,6 @@ rows-at n (e ∷ es) w (suc i) t h l =
     ap₂ (λ ws q. getD ws q 0) (rows-next e es) place
     ∙ getD-append-add (entryWords e) (rowWords es) (i * rowLength n + t) 0
     ∙ rows-at n es (wide-rest n e es w) i t (le-of-suc-le-suc h) l
-
-row-some : (n : ℕ) → 0 < rowLength n
-unfolding rowLength
-row-some n = omega arith
-
--- every place among k rows is a place of one of them
-pub row-place : (n k q : ℕ) → q < k * rowLength n
-    → (i : ℕ) × (t : ℕ) × (i < k) × (t < rowLength n) × (i * rowLength n + t ≡ q)
-row-place n k q h = (
-  q / rowLength n,
-  q % rowLength n,
-  div-lt-iff-lt-mul (row-some n) .1 h,
-  mod-lt q (row-some n),
-  div-add-mod' q (rowLength n),
-)
 
 -- ---- the entries that words hold
 

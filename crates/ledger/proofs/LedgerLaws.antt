@@ -1,44 +1,53 @@
 -- What holds of a proper ledger: its frames have a common assignment, a row is a combination of its rows in one way only, so
 -- that take's answer is the one of any combination, and show marks exactly the settled records and gives what all assignments
 -- have there.
-use mathlib.Core.Path.{_≡_, refl, sym, ap, ap₂, _∙_, subst₂}
+use mathlib.Core.Path.{_≡_, refl, sym, ap, _∙_, subst₂}
 use mathlib.Core.Logic.{_↔_}
 use mathlib.Core.List.{List, [], _∷_, _++_}
 use Prim.Native.Nat.{ℕ, zero, suc, _-_, _<_}
 use native.Mathlib.Nat.{not-suc-le-zero, le-of-suc-le-suc}
-use native.Mathlib.Decide.{ℕ-discrete, map-dec}
+use native.Mathlib.Decide.{map-dec}
 use native.Mathlib.Omega.{arith}
 use lib.IntN.{ℤ, pos}
 use lib.ListN.{length, getD, replicate}
-use Rattle.algebra.specs.Choice.{pick}
-use Rattle.algebra.specs.Matrix.{sum, apply}
+use Rattle.algebra.specs.Matrix.{apply}
 use Rattle.algebra.specs.Ring.{IsField}
-use Rattle.algebra.proofs.Choice.{pick-yes, pick-no, pick-by-same, pick-by-no}
+use Rattle.algebra.proofs.Choice.{pick-by-elim, pick-by-same, pick-by-no}
 use Rattle.algebra.proofs.Sums as sums
 use Rattle.checks.specs.Prime.{IsModulus}
 use Rattle.checks.specs.declared.Refusal.{Refusal}
 use Rattle.checks.specs.declared.Refusal.the-variants.{Length, Conflict}
-use Rattle.checks.specs.Told.{refused}
+use Rattle.checks.specs.Told.{refused, results}
+use Rattle.checks.specs.Outcome.{Outcome, outcome, untouched}
+use Rattle.checks.proofs.InOrder.{none-left, holds-and, fails-here, in-order-done, in-order-refused}
 use Rattle.field.specs.Residue.{Residue, reduce, residues, _⊗_}
 use Rattle.field.specs.Written.{tabulate, numbers}
-use Rattle.field.proofs.Field.{residues-field, residue-equal?}
+use Rattle.field.proofs.Field.{residues-field}
 use Rattle.field.proofs.Written.{length-tabulate, getD-tabulate, is-tabulate}
 use Rattle.signed.specs.Reading.{reading}
 use Rattle.frame.specs.Reading.{accepted, rejected, readFrame}
-use Rattle.ledger.specs.Ledger.{Entry, entry, Assignment, Combined, MeetsAll, Settled, Agreed, multiplierRows, valueColumn}
-use Rattle.ledger.specs.Decide.{combined?, agreed?}
+use Rattle.ledger.specs.Ledger.{
+  Entry,
+  entry,
+  ledger,
+  Assignment,
+  InSpan,
+  GivesValue,
+  MeetsAll,
+  Settled,
+  Agreed,
+  multiplierRows,
+  valueColumn,
+}
+use Rattle.ledger.specs.Decide.{inSpan?, agreed?}
 use Rattle.ledger.specs.Steps.{
-  taken,
   newTold,
   repeatTold,
-  countTold,
   mixWords,
-  takeCombined,
+  takeInSpan,
   takeAccepted,
   takeFound,
   ledgerTake,
-  Shown,
-  shown,
   tabulateℤ,
   shownMark,
   shownNumber,
@@ -65,69 +74,70 @@ module _ (p : ℕ) (ok : IsModulus p) (n : ℕ) (es : List Entry) where
 
   -- ---- take, by what reading finds
 
-  pub take-refused-length : (frame mix : List ℕ) → (length mix ≡ n → ⊥)
-      → ledgerTake p ok n es frame mix ≡ taken es (refused Length) mix
+  -- a mix of another length is refused by 3, whatever the frame
+  pub take-length-first : (frame mix : List ℕ) → (length mix ≡ n → ⊥)
+      → ledgerTake p ok n (ledger es) frame mix ≡ untouched (ledger es, mix) Length
   unfolding ledgerTake
-  take-refused-length frame mix h = pick-no (ℕ-discrete (length mix) n) _ _ h
+  take-length-first frame mix h = in-order-refused _ _ (fails-here h)
 
   pub take-rejected : (frame mix : List ℕ) (k : Refusal) → length mix ≡ n → readFrame p n frame ≡ rejected k
-      → ledgerTake p ok n es frame mix ≡ taken es (refused k) mix
+      → ledgerTake p ok n (ledger es) frame mix ≡ untouched (ledger es, mix) k
   unfolding ledgerTake takeFound
   take-rejected frame mix k h e =
-      pick-yes (ℕ-discrete (length mix) n) _ _ h ∙ ap (λ f. takeFound p ok n es f mix) e
+      in-order-done _ _ _ (holds-and h (λ _. none-left)) (λ _. ap (λ f. takeFound p ok n (ledger es) f mix) e)
 
   pub take-accepted : (frame mix xs : List ℕ) (v : ℕ) → length mix ≡ n → readFrame p n frame ≡ accepted xs v
-      → ledgerTake p ok n es frame mix ≡ takeAccepted p ok n es xs v mix
+      → ledgerTake p ok n (ledger es) frame mix ≡ takeAccepted p ok n (ledger es) xs v mix
   unfolding ledgerTake takeFound
   take-accepted frame mix xs v h e =
-      pick-yes (ℕ-discrete (length mix) n) _ _ h ∙ ap (λ f. takeFound p ok n es f mix) e
+      in-order-done _ _ _ (holds-and h (λ _. none-left)) (λ _. ap (λ f. takeFound p ok n (ledger es) f mix) e)
 
   -- no combination: new
-  pub take-new : (xs : List ℕ) (v : ℕ) (mix : List ℕ) → (Combined p n es xs → ⊥)
-      → takeAccepted p ok n es xs v mix ≡ taken (es ++ (entry xs v ∷ [])) (newTold (suc (length es))) mix
+  pub take-new : (xs : List ℕ) (v : ℕ) (mix : List ℕ) → (InSpan p n es xs → ⊥)
+      → takeAccepted p ok n (ledger es) xs v mix ≡ outcome (newTold (suc (length es))) (ledger (es ++ (entry xs v ∷ [])), mix)
   unfolding takeAccepted
-  take-new xs v mix new = pick-by-no (combined? p ok n es xs) _ _ new
+  take-new xs v mix new = pick-by-no (inSpan? p ok n es xs) _ _ new
 
   module _ (proper : Proper p n es) where
     -- 01: "Otherwise the combination is unique"
-    pub combination-once : (xs : List ℕ) (c d : Combined p n es xs) (t : ℕ) → t < length es → c .0 t ≡ d .0 t
+    pub combination-once : (xs : List ℕ) (c d : InSpan p n es xs) (t : ℕ) → t < length es → c .0 t ≡ d .0 t
     combination-once xs c d =
         rows.combination-once (residues p) (F .ring) (multiplierRows p es) (proper .independent) (λ j. reduce p (getD xs j 0))
         (c .0) (d .0) (c .1) (d .1)
 
-    same-mix : (xs : List ℕ) (c d : Combined p n es xs) → mixWords p ok n es (c .0) ≡ mixWords p ok n es (d .0)
+    same-mix : (xs : List ℕ) (c d : InSpan p n es xs) → mixWords p n es (c .0) ≡ mixWords p n es (d .0)
     unfolding mixWords
     same-mix xs c d =
         ap (λ ws. ws ++ replicate (n - length es) 0)
         (tabulate-same (length es) (λ t h. ap (λ (a : Residue p). a .value) (combination-once xs c d t h)))
 
-    same-step : (xs : List ℕ) (v : ℕ) (c d : Combined p n es xs) → takeCombined p ok n es v (c .0) ≡ takeCombined p ok n es v (d .0)
-    unfolding takeCombined
-    same-step xs v c d =
-        ap₂ (λ s ws. pick (residue-equal? s (reduce p v)) (taken es (repeatTold (length es)) ws) (taken es (refused Conflict) ws))
-        (sums.sum-same (residues p) (length es) (λ t. c .0 t ⊗ valueColumn p es t) (λ t. d .0 t ⊗ valueColumn p es t)
-        (λ t h. ap (λ a. a ⊗ valueColumn p es t) (combination-once xs c d t h)))
-        (same-mix xs c d)
+    same-value : (xs : List ℕ) (v : ℕ) (c d : InSpan p n es xs) → GivesValue p es (d .0) v → GivesValue p es (c .0) v
+    same-value xs v c d e =
+        sums.sum-same (residues p) (length es) (λ t. c .0 t ⊗ valueColumn p es t) (λ t. d .0 t ⊗ valueColumn p es t)
+        (λ t h. ap (λ a. a ⊗ valueColumn p es t) (combination-once xs c d t h))
+        ∙ e
 
-    -- any combination decides
-    pub take-combined : (xs : List ℕ) (v : ℕ) (mix : List ℕ) (c : Combined p n es xs)
-        → takeAccepted p ok n es xs v mix ≡ takeCombined p ok n es v (c .0)
-    unfolding takeAccepted
-    take-combined xs v mix c = pick-by-same (combined? p ok n es xs) (λ d. takeCombined p ok n es v (d .0)) _ (same-step xs v) c
-
-    -- repeat if the same combination of values gives the frame's value
-    pub take-repeat : (xs : List ℕ) (v : ℕ) (mix : List ℕ) (c : Combined p n es xs)
-        → sum (residues p) (length es) (λ t. c .0 t ⊗ valueColumn p es t) ≡ reduce p v
-        → takeAccepted p ok n es xs v mix ≡ taken es (repeatTold (length es)) (mixWords p ok n es (c .0))
-    unfolding takeCombined
-    take-repeat xs v mix c e = take-combined xs v mix c ∙ pick-yes (residue-equal? _ (reduce p v)) _ _ e
+    -- any combination decides: repeat if the same combination of values gives the frame's value
+    pub take-repeat : (xs : List ℕ) (v : ℕ) (mix : List ℕ) (c : InSpan p n es xs) → GivesValue p es (c .0) v
+        → takeAccepted p ok n (ledger es) xs v mix ≡ outcome (repeatTold (length es)) (ledger es, mixWords p n es (c .0))
+    unfolding takeAccepted takeInSpan
+    take-repeat xs v mix c e =
+        pick-by-elim (λ r. r ≡ outcome (repeatTold (length es)) (ledger es, mixWords p n es (c .0))) (inSpan? p ok n es xs) _ _
+        (λ d.
+        in-order-done _ _ _ (holds-and (same-value xs v d c e) (λ _. none-left))
+        (λ _. ap (λ ws. outcome (repeatTold (length es)) (ledger es, ws)) (same-mix xs d c)))
+        (λ f. absurd (f c))
 
     -- otherwise refusal 9
-    pub take-conflict : (xs : List ℕ) (v : ℕ) (mix : List ℕ) (c : Combined p n es xs)
-        → (sum (residues p) (length es) (λ t. c .0 t ⊗ valueColumn p es t) ≡ reduce p v → ⊥)
-        → takeAccepted p ok n es xs v mix ≡ taken es (refused Conflict) (mixWords p ok n es (c .0))
-    unfolding takeCombined
-    take-conflict xs v mix c d = take-combined xs v mix c ∙ pick-no (residue-equal? _ (reduce p v)) _ _ d
+    pub take-conflict : (xs : List ℕ) (v : ℕ) (mix : List ℕ) (c : InSpan p n es xs) → (GivesValue p es (c .0) v → ⊥)
+        → takeAccepted p ok n (ledger es) xs v mix ≡ outcome (refused Conflict) (ledger es, mixWords p n es (c .0))
+    unfolding takeAccepted takeInSpan
+    take-conflict xs v mix c other =
+        pick-by-elim (λ r. r ≡ outcome (refused Conflict) (ledger es, mixWords p n es (c .0))) (inSpan? p ok n es xs) _ _
+        (λ d.
+        in-order-refused _ _ (fails-here (λ e. other (same-value xs v c d e)))
+        ∙ ap (λ ws. outcome (refused Conflict) (ledger es, ws)) (same-mix xs d c))
+        (λ f. absurd (f c))
 
     -- ---- the standing frames have a common assignment
     pub standing-met : (x : Assignment p) × MeetsAll p n es x
@@ -179,15 +189,17 @@ module _ (p : ℕ) (ok : IsModulus p) (n : ℕ) (es : List Entry) where
 
     -- and this is what a show that is not refused leaves in the memory lent to it, with n minus the count for an answer
     pub show-accepted : (marks : List ℕ) (zs : List ℤ) → length marks ≡ n → length zs ≡ n
-        → ledgerShow p ok n es marks zs
-        ≡ shown (countTold (n - length es)) (tabulate n (shownMark p ok n es)) (tabulateℤ n (shownNumber p ok n es))
+        → ledgerShow p ok n (ledger es) marks zs
+        ≡ outcome (results (n - length es)) (tabulate n (shownMark p ok n es), tabulateℤ n (shownNumber p ok n es))
     unfolding ledgerShow
     show-accepted marks zs h l =
-        pick-yes (ℕ-discrete (length marks) n) _ _ h ∙ pick-yes (ℕ-discrete (length zs) n) _ _ l
+        in-order-done _ _ _ (holds-and h (λ _. holds-and l (λ _. none-left))) (λ _. refl)
 
     pub show-exactly : (marks : List ℕ) (zs : List ℤ) → length marks ≡ n → length zs ≡ n → (j : ℕ) → j < n
-        → Gives p n es j (getD (ledgerShow p ok n es marks zs .marks) j 0) (getD (ledgerShow p ok n es marks zs .numbers) j (pos 0))
+        → let lent = ledgerShow p ok n (ledger es) marks zs .lent in Gives p n es j (getD (lent .0) j 0) (getD (lent .1) j (pos 0))
     show-exactly marks zs h l j b =
         let e = show-accepted marks zs h l in
-        subst₂ (Gives p n es j) (sym (ap (λ (r : Shown). getD (r .marks) j 0) e ∙ getD-tabulate n (shownMark p ok n es) j b))
-        (sym (ap (λ (r : Shown). getD (r .numbers) j (pos 0)) e ∙ getD-tabulateℤ n (shownNumber p ok n es) j b)) (shown-exactly j)
+        subst₂ (Gives p n es j)
+        (sym (ap (λ (r : Outcome (List ℕ × List ℤ)). getD (r .lent .0) j 0) e ∙ getD-tabulate n (shownMark p ok n es) j b))
+        (sym (ap (λ (r : Outcome (List ℕ × List ℤ)). getD (r .lent .1) j (pos 0)) e ∙ getD-tabulateℤ n (shownNumber p ok n es) j b))
+        (shown-exactly j)

@@ -16,11 +16,14 @@ use mathlib.Core.List.{
 }
 use Prim.Native.Nat.{ℕ}
 use native.Mathlib.Omega.{arith}
+use lib.IntN.{ℤ}
 use Rattle.checks.specs.Prime.{IsModulus}
-use Rattle.ledger.specs.Ledger.{Entry, entry}
-use Rattle.ledger.specs.Steps.{Taken, Withdrawn, Shown, ledgerTake, ledgerWithdraw}
+use Rattle.checks.specs.Refusal.{IsRefusal}
+use Rattle.checks.specs.Outcome.{Outcome}
+use Rattle.ledger.specs.Ledger.{Entry, entry, Ledger}
+use Rattle.ledger.specs.Steps.{ledgerTake, ledgerWithdraw}
 use Rattle.ledger.specs.History.{Call, Reply, After, after, ledgerStep, run, ledgerRun}
-use Rattle.ledger.specs.Heard.{IsRefusal, NoWithdrawal}
+use Rattle.ledger.specs.Heard.{NoWithdrawal}
 use Rattle.ledger.specs.Proper.{Proper}
 use Rattle.ledger.proofs.Proper.{step-proper}
 use Rattle.ledger.proofs.LedgerSteps.{
@@ -52,87 +55,88 @@ run-append {S} step s (c ∷ cs) ds =
 
 module _ (p : ℕ) (ok : IsModulus p) (n : ℕ) where
   -- a proper ledger stays proper
-  pub run-proper : (es : List Entry) → Proper p n es → (cs : List Call) → Proper p n (ledgerRun p ok n es cs .state)
+  pub run-proper : (l : Ledger) → Proper p n (l .entries) → (cs : List Call) → Proper p n (ledgerRun p ok n l cs .state .entries)
   unfolding run
-  run-proper es proper [] = proper
-  run-proper es proper (c ∷ cs) = run-proper (ledgerStep p ok n es c .state) (step-proper p n es proper ok c) cs
+  run-proper l proper [] = proper
+  run-proper l proper (c ∷ cs) = run-proper (ledgerStep p ok n l c .state) (step-proper p n (l .entries) proper ok c) cs
 
   -- ---- without withdrawals
 
   -- a take adds one entry or none
-  took-appends : (es : List Entry) (frame mix : List ℕ) {r : Taken} → Took p ok n es frame mix r
-      → (ds : List Entry) × (r .entries ≡ es ++ ds)
-  took-appends es frame mix (new xs v e f) = (entry xs v ∷ [], refl)
-  took-appends es frame mix (repeat xs v e c) = ([], sym (append-nil es))
-  took-appends es frame mix (refusal k l ws) = ([], sym (append-nil es))
+  took-appends : (l : Ledger) (frame mix : List ℕ) {r : Outcome (Ledger × List ℕ)} → Took p ok n l frame mix r
+      → (ds : List Entry) × (r .lent .0 .entries ≡ l .entries ++ ds)
+  took-appends l frame mix (new xs v e f) = (entry xs v ∷ [], refl)
+  took-appends l frame mix (repeat xs v e c) = ([], sym (append-nil (l .entries)))
+  took-appends l frame mix (refusal k h ws) = ([], sym (append-nil (l .entries)))
 
-  pub only-appends : (es : List Entry) (cs : List Call) → NoWithdrawal cs
-      → (ds : List Entry) × (ledgerRun p ok n es cs .state ≡ es ++ ds)
+  pub only-appends : (l : Ledger) (cs : List Call) → NoWithdrawal cs
+      → (ds : List Entry) × (ledgerRun p ok n l cs .state .entries ≡ l .entries ++ ds)
   unfolding run ledgerStep
-  only-appends es [] h = ([], sym (append-nil es))
-  only-appends es (Call.take frame mix ∷ cs) h =
-      let r = ledgerTake p ok n es frame mix in
-      let (ds, e) = took-appends es frame mix (took p ok n es frame mix) in
-      let (ds′, e′) = only-appends (r .entries) cs h in
-      (ds ++ ds′, e′ ∙ ap (λ l. l ++ ds′) e ∙ append-assoc es ds ds′)
-  only-appends es (Call.withdraw t ∷ cs) h = absurd h
-  only-appends es (Call.show marks numbers ∷ cs) h = only-appends es cs h
+  only-appends l [] h = ([], sym (append-nil (l .entries)))
+  only-appends l (Call.take frame mix ∷ cs) h =
+      let r = ledgerTake p ok n l frame mix in
+      let (ds, e) = took-appends l frame mix (took p ok n l frame mix) in
+      let (ds′, e′) = only-appends (r .lent .0) cs h in
+      (ds ++ ds′, e′ ∙ ap (λ es. es ++ ds′) e ∙ append-assoc (l .entries) ds ds′)
+  only-appends l (Call.withdraw t ∷ cs) h = absurd h
+  only-appends l (Call.show marks numbers ∷ cs) h = only-appends l cs h
 
   -- ---- no reply tells 11
 
   abbrev NotEleven : Reply → Type 0
   NotEleven r = r .told .number ≡ 11 → ⊥
 
-  took-not-eleven : (es : List Entry) (frame mix : List ℕ) {r : Taken} → Took p ok n es frame mix r → r .told .number ≡ 11 → ⊥
-  took-not-eleven es frame mix (new xs v e f) d = omega arith
-  took-not-eleven es frame mix (repeat xs v e c) d = omega arith
-  took-not-eleven es frame mix (refusal k l ws) d = omega arith
+  took-not-eleven : (l : Ledger) (frame mix : List ℕ) {r : Outcome (Ledger × List ℕ)} → Took p ok n l frame mix r
+      → r .told .number ≡ 11 → ⊥
+  took-not-eleven l frame mix (new xs v e f) d = omega arith
+  took-not-eleven l frame mix (repeat xs v e c) d = omega arith
+  took-not-eleven l frame mix (refusal k h ws) d = h d
 
-  withdrew-not-eleven : (es : List Entry) (t : ℕ) {r : Withdrawn} → Withdrew es t r → r .told .number ≡ 11 → ⊥
-  withdrew-not-eleven es t (dropped h) d = omega arith
-  withdrew-not-eleven es t (overlong h) d = omega arith
+  withdrew-not-eleven : (l : Ledger) (t : ℕ) {r : Outcome Ledger} → Withdrew l t r → r .told .number ≡ 11 → ⊥
+  withdrew-not-eleven l t (dropped h) d = omega arith
+  withdrew-not-eleven l t (overlong k h) d = h d
 
-  showed-not-eleven : (es : List Entry) {r : Shown} → Showed n es r → r .told .number ≡ 11 → ⊥
-  showed-not-eleven es (answered marks zs) d = omega arith
-  showed-not-eleven es (unshown marks zs) d = omega arith
+  showed-not-eleven : (l : Ledger) {r : Outcome (List ℕ × List ℤ)} → Showed n l r → r .told .number ≡ 11 → ⊥
+  showed-not-eleven l (answered lent) d = omega arith
+  showed-not-eleven l (unshown k h lent) d = h d
 
-  step-not-eleven : (es : List Entry) (c : Call) (r : Reply) → List·Memᴰ r (ledgerStep p ok n es c .replies) → NotEleven r
+  step-not-eleven : (l : Ledger) (c : Call) (r : Reply) → List·Memᴰ r (ledgerStep p ok n l c .replies) → NotEleven r
   unfolding ledgerStep
-  step-not-eleven es (Call.take frame mix) r m d =
-      took-not-eleven es frame mix (took p ok n es frame mix) (sym (ap (λ (q : Reply). q .told .number) (List·Memᴰ·eq-of-singleton m)) ∙ d)
-  step-not-eleven es (Call.withdraw t) r m d =
-      withdrew-not-eleven es t (withdrew es t) (sym (ap (λ (q : Reply). q .told .number) (List·Memᴰ·eq-of-singleton m)) ∙ d)
-  step-not-eleven es (Call.show marks numbers) r m d =
-      showed-not-eleven es (showed p ok n es marks numbers) (sym (ap (λ (q : Reply). q .told .number) (List·Memᴰ·eq-of-singleton m)) ∙ d)
+  step-not-eleven l (Call.take frame mix) r m d =
+      took-not-eleven l frame mix (took p ok n l frame mix) (sym (ap (λ (q : Reply). q .told .number) (List·Memᴰ·eq-of-singleton m)) ∙ d)
+  step-not-eleven l (Call.withdraw t) r m d =
+      withdrew-not-eleven l t (withdrew l t) (sym (ap (λ (q : Reply). q .told .number) (List·Memᴰ·eq-of-singleton m)) ∙ d)
+  step-not-eleven l (Call.show marks numbers) r m d =
+      showed-not-eleven l (showed p ok n l marks numbers) (sym (ap (λ (q : Reply). q .told .number) (List·Memᴰ·eq-of-singleton m)) ∙ d)
 
-  pub run-not-eleven : (es : List Entry) (cs : List Call) (r : Reply) → List·Memᴰ r (ledgerRun p ok n es cs .replies)
+  pub run-not-eleven : (l : Ledger) (cs : List Call) (r : Reply) → List·Memᴰ r (ledgerRun p ok n l cs .replies)
       → r .told .number ≡ 11 → ⊥
   unfolding run
-  run-not-eleven es [] r m = absurd (List·Memᴰ·not-nil m)
-  run-not-eleven es (c ∷ cs) r m =
-      ⊎-elim (step-not-eleven es c r) (run-not-eleven (ledgerStep p ok n es c .state) cs r)
-      (List·Memᴰ·append-cases (ledgerStep p ok n es c .replies) m)
+  run-not-eleven l [] r m = absurd (List·Memᴰ·not-nil m)
+  run-not-eleven l (c ∷ cs) r m =
+      ⊎-elim (step-not-eleven l c r) (run-not-eleven (ledgerStep p ok n l c .state) cs r)
+      (List·Memᴰ·append-cases (ledgerStep p ok n l c .replies) m)
 
 -- ---- a refused call leaves the ledger as it is
 
-pub took-refused : (p : ℕ) (ok : IsModulus p) (n : ℕ) (es : List Entry) (frame mix : List ℕ) {r : Taken}
-    → Took p ok n es frame mix r → IsRefusal (r .told .number) → r .entries ≡ es
-took-refused p ok n es frame mix (new xs v e f) h = absurd (omega arith)
-took-refused p ok n es frame mix (repeat xs v e c) h = refl
-took-refused p ok n es frame mix (refusal k l ws) h = refl
+pub took-refused : (p : ℕ) (ok : IsModulus p) (n : ℕ) (l : Ledger) (frame mix : List ℕ) {r : Outcome (Ledger × List ℕ)}
+    → Took p ok n l frame mix r → IsRefusal (r .told .number) → r .lent .0 ≡ l
+took-refused p ok n l frame mix (new xs v e f) h = absurd (omega arith)
+took-refused p ok n l frame mix (repeat xs v e c) h = refl
+took-refused p ok n l frame mix (refusal k i ws) h = refl
 
-pub withdrew-refused : (es : List Entry) (t : ℕ) {r : Withdrawn} → Withdrew es t r → IsRefusal (r .told .number) → r .entries ≡ es
-withdrew-refused es t (dropped h) l = absurd (omega arith)
-withdrew-refused es t (overlong h) l = refl
+pub withdrew-refused : (l : Ledger) (t : ℕ) {r : Outcome Ledger} → Withdrew l t r → IsRefusal (r .told .number) → r .lent ≡ l
+withdrew-refused l t (dropped h) i = absurd (omega arith)
+withdrew-refused l t (overlong k h) i = refl
 
 -- 01: "A refused call leaves it as it is"
-pub ledger-refused-keeps : (p : ℕ) (ok : IsModulus p) (n : ℕ) (es : List Entry) (c : Call) (r : Reply)
-    → ledgerStep p ok n es c .replies ≡ r ∷ [] → IsRefusal (r .told .number) → ledgerStep p ok n es c .state ≡ es
+pub ledger-refused-keeps : (p : ℕ) (ok : IsModulus p) (n : ℕ) (l : Ledger) (c : Call) (r : Reply)
+    → ledgerStep p ok n l c .replies ≡ r ∷ [] → IsRefusal (r .told .number) → ledgerStep p ok n l c .state ≡ l
 unfolding ledgerStep
-ledger-refused-keeps p ok n es (Call.take frame mix) r e h =
-    let q : ledgerTake p ok n es frame mix .told .number ≡ r .told .number = cc in
-    took-refused p ok n es frame mix (took p ok n es frame mix) (subst IsRefusal (sym q) h)
-ledger-refused-keeps p ok n es (Call.withdraw t) r e h =
-    let q : ledgerWithdraw es t .told .number ≡ r .told .number = cc in
-    withdrew-refused es t (withdrew es t) (subst IsRefusal (sym q) h)
-ledger-refused-keeps p ok n es (Call.show marks numbers) r e h = refl
+ledger-refused-keeps p ok n l (Call.take frame mix) r e h =
+    let q : ledgerTake p ok n l frame mix .told .number ≡ r .told .number = cc in
+    took-refused p ok n l frame mix (took p ok n l frame mix) (subst IsRefusal (sym q) h)
+ledger-refused-keeps p ok n l (Call.withdraw t) r e h =
+    let q : ledgerWithdraw l t .told .number ≡ r .told .number = cc in
+    withdrew-refused l t (withdrew l t) (subst IsRefusal (sym q) h)
+ledger-refused-keeps p ok n l (Call.show marks numbers) r e h = refl

@@ -7,15 +7,13 @@ use native.Mathlib.Decide.{decLe, decLt, ℕ-discrete}
 use native.Mathlib.Omega.{arith}
 use lib.IntN.{ℤ}
 use lib.ListN.{length, take}
-use Rattle.algebra.specs.Matrix.{sum}
 use Rattle.algebra.proofs.Choice.{pick-elim, pick-by-elim}
 use Rattle.checks.specs.declared.Refusal.{Refusal}
-use Rattle.checks.specs.declared.Refusal.the-variants.{Length, Conflict, Withdrawal}
 use Rattle.checks.specs.Refusal.{refusalNumber}
-use Rattle.checks.specs.Told.{refused}
+use Rattle.checks.specs.Told.{refused, results}
+use Rattle.checks.specs.Outcome.{Outcome, outcome, untouched}
 use Rattle.checks.specs.Prime.{IsModulus}
-use Rattle.field.specs.Residue.{reduce, residues, _⊗_}
-use Rattle.field.proofs.Field.{residue-equal?}
+use Rattle.checks.proofs.InOrder.{in-order-elim, kind-of-list}
 use Rattle.frame.specs.Format.{mapLength}
 use Rattle.frame.specs.Reading.{
   Found,
@@ -29,44 +27,37 @@ use Rattle.frame.specs.Reading.{
   unpadded?,
   frameNumbers,
 }
-use Rattle.ledger.specs.Ledger.{Entry, entry, Combined, valueColumn}
-use Rattle.ledger.specs.Decide.{combined?}
+use Rattle.ledger.specs.Ledger.{entry, Ledger, ledger, InSpan}
+use Rattle.ledger.specs.Decide.{inSpan?}
 use Rattle.ledger.specs.Steps.{
-  Taken,
-  taken,
   newTold,
   repeatTold,
-  countTold,
   mixWords,
-  takeCombined,
+  takeInSpan,
   takeAccepted,
   takeFound,
   ledgerTake,
-  Withdrawn,
-  withdrawn,
   ledgerWithdraw,
-  Shown,
-  shown,
   ledgerShow,
 }
 
--- ---- take
+-- a kind that a step of the ledger refuses by: any but 11, which is for words that hold no ledger
+abbrev pub StepKind : Refusal → Type 0
+StepKind k = refusalNumber k ≡ 11 → ⊥
 
--- the refusals of a frame that is taken: 3, those of reading, and 9
-abbrev pub TakeRefusal : Refusal → Type 0
-TakeRefusal k = (3 ≤ refusalNumber k) × (refusalNumber k ≤ 9)
+-- ---- take
 
 -- what is rejected is rejected for one of these
 abbrev Judged : Found → Type 0
 Judged (accepted xs v) = Unit {0}
-Judged (rejected k) = TakeRefusal k
+Judged (rejected k) = StepKind k
 
 judged : (p : ℕ) (ns xs : List ℕ) (v : ℕ) → Judged (judge p ns xs v)
 unfolding judge judgeValue
-judged p [] xs v = pick-elim Judged (decLt v p) _ _ (λ _. tt) (λ _. omega arith)
+judged p [] xs v = pick-elim Judged (decLt v p) _ _ (λ _. tt) (λ _ e. omega arith)
 judged p (x ∷ ns) xs v =
-    pick-elim Judged (ℕ-discrete x 0) _ _ (λ _. omega arith)
-    (λ _. pick-elim Judged (decLt x p) _ _ (λ _. judged p ns xs v) (λ _. omega arith))
+    pick-elim Judged (ℕ-discrete x 0) _ _ (λ _ e. omega arith)
+    (λ _. pick-elim Judged (decLt x p) _ _ (λ _. judged p ns xs v) (λ _ e. omega arith))
 
 read-judged : (p n : ℕ) (bytes : List ℕ) → Judged (readFrame p n bytes)
 unfolding readFrame readNumbers
@@ -76,56 +67,56 @@ read-judged p n bytes =
     pick-elim Judged (unpadded? n bytes) _ _
     (λ _.
     pick-elim Judged (ℕ-discrete (length bytes) (frameLength n bytes)) _ _ (λ _. judged p (frameNumbers n bytes) _ _)
-    (λ _. omega arith))
-    (λ _. omega arith))
-    (λ _. omega arith)
+    (λ _ e. omega arith))
+    (λ _ e. omega arith))
+    (λ _ e. omega arith)
 
-module _ (p : ℕ) (ok : IsModulus p) (n : ℕ) (es : List Entry) (frame mix : List ℕ) where
-  pub data Took : Taken → Type 0 where
-    new : (xs : List ℕ) (v : ℕ) → readFrame p n frame ≡ accepted xs v → (Combined p n es xs → ⊥)
-        → Took (taken (es ++ (entry xs v ∷ [])) (newTold (suc (length es))) mix)
-    repeat : (xs : List ℕ) (v : ℕ) → readFrame p n frame ≡ accepted xs v → (c : Combined p n es xs)
-        → Took (taken es (repeatTold (length es)) (mixWords p ok n es (c .0)))
-    refusal : (k : Refusal) → TakeRefusal k → (ws : List ℕ) → Took (taken es (refused k) ws)
+module _ (p : ℕ) (ok : IsModulus p) (n : ℕ) (l : Ledger) (frame mix : List ℕ) where
+  pub data Took : Outcome (Ledger × List ℕ) → Type 0 where
+    new : (xs : List ℕ) (v : ℕ) → readFrame p n frame ≡ accepted xs v → (InSpan p n (l .entries) xs → ⊥)
+        → Took (outcome (newTold (suc (length (l .entries)))) (ledger (l .entries ++ (entry xs v ∷ [])), mix))
+    repeat : (xs : List ℕ) (v : ℕ) → readFrame p n frame ≡ accepted xs v → (c : InSpan p n (l .entries) xs)
+        → Took (outcome (repeatTold (length (l .entries))) (l, mixWords p n (l .entries) (c .0)))
+    refusal : (k : Refusal) → StepKind k → (ws : List ℕ) → Took (outcome (refused k) (l, ws))
 
-  pub took : Took (ledgerTake p ok n es frame mix)
-  unfolding ledgerTake takeFound takeAccepted takeCombined
+  pub took : Took (ledgerTake p ok n l frame mix)
+  unfolding ledgerTake takeFound takeAccepted takeInSpan
   took =
-      pick-elim Took (ℕ-discrete (length mix) n) (takeFound p ok n es (readFrame p n frame) mix) (taken es (refused Length) mix)
-      (λ _. go (readFrame p n frame) refl (read-judged p n frame)) (λ _. refusal Length (omega arith) mix)
+      in-order-elim _ _ Took (λ _. go (readFrame p n frame) refl (read-judged p n frame))
+      (λ k f. refusal k (kind-of-list StepKind (λ e. omega arith, λ _. tt) f) mix)
     where
-      combined : (xs : List ℕ) (v : ℕ) → readFrame p n frame ≡ accepted xs v → (c : Combined p n es xs)
-          → Took (takeCombined p ok n es v (c .0))
+      combined : (xs : List ℕ) (v : ℕ) → readFrame p n frame ≡ accepted xs v → (c : InSpan p n (l .entries) xs)
+          → Took (takeInSpan p ok n l v (c .0))
       combined xs v e c =
-          pick-elim Took (residue-equal? (sum (residues p) (length es) (λ t. c .0 t ⊗ valueColumn p es t)) (reduce p v)) _ _
-          (λ _. repeat xs v e c)
-          (λ _. refusal Conflict (omega arith) (mixWords p ok n es (c .0)))
+          in-order-elim _ _ Took (λ _. repeat xs v e c)
+          (λ k f. refusal k (kind-of-list StepKind (λ e. omega arith, λ _. tt) f) (mixWords p n (l .entries) (c .0)))
 
-      go : (f : Found) → readFrame p n frame ≡ f → Judged f → Took (takeFound p ok n es f mix)
-      go (accepted xs v) e j = pick-by-elim Took (combined? p ok n es xs) _ _ (combined xs v e) (new xs v e)
+      go : (f : Found) → readFrame p n frame ≡ f → Judged f → Took (takeFound p ok n l f mix)
+      go (accepted xs v) e j = pick-by-elim Took (inSpan? p ok n (l .entries) xs) _ _ (combined xs v e) (new xs v e)
       go (rejected k) e j = refusal k j mix
 
 -- ---- withdraw
 
-pub data Withdrew (es : List Entry) (t : ℕ) : Withdrawn → Type 0 where
-  dropped : t ≤ length es → Withdrew es t (withdrawn (take (length es - t) es) (countTold (length es - t)))
-  overlong : (t ≤ length es → ⊥) → Withdrew es t (withdrawn es (refused Withdrawal))
+pub data Withdrew (l : Ledger) (t : ℕ) : Outcome Ledger → Type 0 where
+  dropped : t ≤ length (l .entries)
+      → Withdrew l t (outcome (results (length (l .entries) - t)) (ledger (take (length (l .entries) - t) (l .entries))))
+  overlong : (k : Refusal) → StepKind k → Withdrew l t (untouched l k)
 
-pub withdrew : (es : List Entry) (t : ℕ) → Withdrew es t (ledgerWithdraw es t)
+pub withdrew : (l : Ledger) (t : ℕ) → Withdrew l t (ledgerWithdraw l t)
 unfolding ledgerWithdraw
-withdrew es t = pick-elim (Withdrew es t) (decLe t (length es)) _ _ dropped overlong
+withdrew l t =
+    in-order-elim _ _ (Withdrew l t) (λ hs. dropped (hs .0)) (λ k f. overlong k (kind-of-list StepKind (λ e. omega arith, λ _. tt) f))
 
 -- ---- show
 
--- what is told: n minus the count, or 3
-pub data Showed (n : ℕ) (es : List Entry) : Shown → Type 0 where
-  answered : (marks : List ℕ) (zs : List ℤ) → Showed n es (shown (countTold (n - length es)) marks zs)
-  unshown : (marks : List ℕ) (zs : List ℤ) → Showed n es (shown (refused Length) marks zs)
+-- what is told: n minus the count, or a refusal
+pub data Showed (n : ℕ) (l : Ledger) : Outcome (List ℕ × List ℤ) → Type 0 where
+  answered : (lent : List ℕ × List ℤ) → Showed n l (outcome (results (n - length (l .entries))) lent)
+  unshown : (k : Refusal) → StepKind k → (lent : List ℕ × List ℤ) → Showed n l (untouched lent k)
 
-pub showed : (p : ℕ) (ok : IsModulus p) (n : ℕ) (es : List Entry) (marks : List ℕ) (zs : List ℤ)
-    → Showed n es (ledgerShow p ok n es marks zs)
+pub showed : (p : ℕ) (ok : IsModulus p) (n : ℕ) (l : Ledger) (marks : List ℕ) (zs : List ℤ)
+    → Showed n l (ledgerShow p ok n l marks zs)
 unfolding ledgerShow
-showed p ok n es marks zs =
-    pick-elim (Showed n es) (ℕ-discrete (length marks) n) _ _
-    (λ _. pick-elim (Showed n es) (ℕ-discrete (length zs) n) _ _ (λ _. answered _ _) (λ _. unshown marks zs))
-    (λ _. unshown marks zs)
+showed p ok n l marks zs =
+    in-order-elim _ _ (Showed n l) (λ _. answered _)
+    (λ k f. unshown k (kind-of-list StepKind (λ e. omega arith, λ _. (λ e. omega arith, λ _. tt)) f) (marks, zs))

@@ -18,8 +18,9 @@ use Rattle.field.proofs.Field.{residues-field}
 use Rattle.field.proofs.Written.{length-tabulate, getD-tabulate}
 use Rattle.frame.specs.Format.{frameOf}
 use Rattle.frame.proofs.Round.{written-reads-back}
-use Rattle.ledger.specs.Ledger.{Entry, entry, Combined, multiplierRows, valueColumn}
-use Rattle.ledger.specs.Steps.{Taken, newTold, Withdrawn, ledgerTake, ledgerWithdraw}
+use Rattle.checks.specs.Outcome.{Outcome}
+use Rattle.ledger.specs.Ledger.{Entry, entry, Ledger, ledger, InSpan, multiplierRows, valueColumn}
+use Rattle.ledger.specs.Steps.{newTold, ledgerTake, ledgerWithdraw}
 use Rattle.ledger.specs.History.{Call, Reply, reply, After, after, ledgerStep, run, ledgerRun}
 use Rattle.ledger.specs.Heard.{newIn, news}
 use Rattle.ledger.specs.Settle.{AllSettled, Settling, unitRow, unitTake}
@@ -34,29 +35,29 @@ use Rattle.ledger.proofs.LedgerRuns.{run-proper}
 module _ (p : ℕ) (ok : IsModulus p) (n : ℕ) where
   -- ---- at least so many
 
-  took-grows : (es : List Entry) (frame mix : List ℕ) {r : Taken} → Took p ok n es frame mix r
-      → length (r .entries) ≤ length es + newIn (Call.take frame mix) (reply (r .told) (r .mix) [])
+  took-grows : (l : Ledger) (frame mix : List ℕ) {r : Outcome (Ledger × List ℕ)} → Took p ok n l frame mix r
+      → length (r .lent .0 .entries) ≤ length (l .entries) + newIn (Call.take frame mix) (reply (r .told) (r .lent .1) [])
   unfolding newIn
-  took-grows es frame mix (new xs v e f) = omega (arith, length-more es (entry xs v))
-  took-grows es frame mix (repeat xs v e c) = omega arith
-  took-grows es frame mix (refusal k h ws) = omega arith
+  took-grows l frame mix (new xs v e f) = omega (arith, length-more (l .entries) (entry xs v))
+  took-grows l frame mix (repeat xs v e c) = omega arith
+  took-grows l frame mix (refusal k h ws) = omega arith
 
-  withdrew-falls : (es : List Entry) (t : ℕ) {r : Withdrawn} → Withdrew es t r → length (r .entries) ≤ length es
-  withdrew-falls es t (dropped h) = omega (arith, length-take (length es - t) es)
-  withdrew-falls es t (overlong h) = omega arith
+  withdrew-falls : (l : Ledger) (t : ℕ) {r : Outcome Ledger} → Withdrew l t r → length (r .lent .entries) ≤ length (l .entries)
+  withdrew-falls l t (dropped h) = omega (arith, length-take (length (l .entries) - t) (l .entries))
+  withdrew-falls l t (overlong k h) = omega arith
 
   -- the count rises by the takes answered new, at most
-  pub count-rises : (es : List Entry) (cs : List Call)
-      → length (ledgerRun p ok n es cs .state) ≤ length es + news cs (ledgerRun p ok n es cs .replies)
+  pub count-rises : (l : Ledger) (cs : List Call)
+      → length (ledgerRun p ok n l cs .state .entries) ≤ length (l .entries) + news cs (ledgerRun p ok n l cs .replies)
   unfolding run ledgerStep news
-  count-rises es [] = omega arith
-  count-rises es (Call.take frame mix ∷ cs) =
-      let r = ledgerTake p ok n es frame mix in
-      omega (arith, took-grows es frame mix (took p ok n es frame mix), count-rises (r .entries) cs)
-  count-rises es (Call.withdraw t ∷ cs) =
-      let r = ledgerWithdraw es t in
-      omega (arith, withdrew-falls es t (withdrew es t), count-rises (r .entries) cs)
-  count-rises es (Call.show marks numbers ∷ cs) = omega (arith, count-rises es cs)
+  count-rises l [] = omega arith
+  count-rises l (Call.take frame mix ∷ cs) =
+      let r = ledgerTake p ok n l frame mix in
+      omega (arith, took-grows l frame mix (took p ok n l frame mix), count-rises (r .lent .0) cs)
+  count-rises l (Call.withdraw t ∷ cs) =
+      let r = ledgerWithdraw l t in
+      omega (arith, withdrew-falls l t (withdrew l t), count-rises (r .lent) cs)
+  count-rises l (Call.show marks numbers ∷ cs) = omega (arith, count-rises l cs)
 
   -- where all are settled there are n entries
   pub settled-full : (es : List Entry) → Proper p n es → AllSettled p n es → length es ≡ n
@@ -68,10 +69,11 @@ module _ (p : ℕ) (ok : IsModulus p) (n : ℕ) where
       omega (arith, proper .fits)
 
   -- every list of further calls after which all records are settled has at least n - k takes answered new
-  pub missing-at-least : (es : List Entry) → Proper p n es → (cs : List Call) → AllSettled p n (ledgerRun p ok n es cs .state)
-      → n - length es ≤ news cs (ledgerRun p ok n es cs .replies)
-  missing-at-least es proper cs all =
-      omega (arith, settled-full (ledgerRun p ok n es cs .state) (run-proper p ok n es proper cs) all, count-rises es cs)
+  pub missing-at-least : (l : Ledger) → Proper p n (l .entries) → (cs : List Call)
+      → AllSettled p n (ledgerRun p ok n l cs .state .entries)
+      → n - length (l .entries) ≤ news cs (ledgerRun p ok n l cs .replies)
+  missing-at-least l proper cs all =
+      omega (arith, settled-full (ledgerRun p ok n l cs .state .entries) (run-proper p ok n l proper cs) all, count-rises l cs)
 
   -- ---- and so many are enough
 
@@ -105,13 +107,13 @@ module _ (p : ℕ) (ok : IsModulus p) (n : ℕ) where
       one-or-zero false = refl
 
   -- a unit row that is no combination is answered new and appended
-  unit-step : (es : List Entry) (c : ℕ) → (Combined p n es (unitRow n c) → ⊥)
-      → ledgerStep p ok n es (unitTake n c)
-      ≡ after (es ++ (entry (unitRow n c) 0 ∷ [])) (reply (newTold (suc (length es))) (replicate n 0) [] ∷ [])
+  unit-step : (es : List Entry) (c : ℕ) → (InSpan p n es (unitRow n c) → ⊥)
+      → ledgerStep p ok n (ledger es) (unitTake n c)
+      ≡ after (ledger (es ++ (entry (unitRow n c) 0 ∷ []))) (reply (newTold (suc (length es))) (replicate n 0) [] ∷ [])
   unfolding ledgerStep unitTake
   unit-step es c free =
       let row = unit-numbers c in
-      ap (λ (r : Taken). after (r .entries) (reply (r .told) (r .mix) [] ∷ []))
+      ap (λ (r : Outcome (Ledger × List ℕ)). after (r .lent .0) (reply (r .told) (r .lent .1) [] ∷ []))
       (take-accepted p ok n es (frameOf n (unitRow n c) (0 ∷ [])) (replicate n 0) (unitRow n c) 0 (length-replicate n 0)
       (written-reads-back p n (unitRow n c) 0 (ok .in-range) (row .long) (row .below) (row .value-below))
       ∙ take-new p ok n es (unitRow n c) 0 (replicate n 0) free)
@@ -121,7 +123,7 @@ module _ (p : ℕ) (ok : IsModulus p) (n : ℕ) where
   withUnit es c = es ++ (entry (unitRow n c) 0 ∷ [])
 
   -- while an entry is missing, some unit row is no combination of the rows
-  next-unit : (es : List Entry) → length es < n → (c : ℕ) × (Combined p n es (unitRow n c) → ⊥)
+  next-unit : (es : List Entry) → length es < n → (c : ℕ) × (InSpan p n es (unitRow n c) → ⊥)
   next-unit es less =
       let rows = multiplierRows p es in
       let (c, l, free) = free-unit (residues p) (residues-field p (ok .prime)) (length es) n rows less in (
@@ -131,13 +133,13 @@ module _ (p : ℕ) (ok : IsModulus p) (n : ℕ) where
       )
 
   -- its take, before takes that settle what is then left
-  settling-next : (es : List Entry) (c : ℕ) → (Combined p n es (unitRow n c) → ⊥) → (cs : List Call)
-      → Settling p n cs (ledgerRun p ok n (withUnit es c) cs)
-      → Settling p n (unitTake n c ∷ cs) (ledgerRun p ok n es (unitTake n c ∷ cs))
+  settling-next : (es : List Entry) (c : ℕ) → (InSpan p n es (unitRow n c) → ⊥) → (cs : List Call)
+      → Settling p n cs (ledgerRun p ok n (ledger (withUnit es c)) cs)
+      → Settling p n (unitTake n c ∷ cs) (ledgerRun p ok n (ledger es) (unitTake n c ∷ cs))
   unfolding run news newIn unitTake
   settling-next es c free cs rest =
       subst
-      (λ (one : After (List Entry)).
+      (λ (one : After Ledger).
       Settling p n (unitTake n c ∷ cs)
       (after (ledgerRun p ok n (one .state) cs .state) (one .replies ++ ledgerRun p ok n (one .state) cs .replies)))
       (sym (unit-step es c free))
@@ -150,7 +152,7 @@ module _ (p : ℕ) (ok : IsModulus p) (n : ℕ) where
   -- takes of the unit frames of d records settle all where d entries are missing
   unit-frames : (d : ℕ) (es : List Entry) → Proper p n es → length es + d ≡ n
       → (columns : List ℕ) × (length columns ≡ d)
-      × Settling p n (map (unitTake n) columns) (ledgerRun p ok n es (map (unitTake n) columns))
+      × Settling p n (map (unitTake n) columns) (ledgerRun p ok n (ledger es) (map (unitTake n) columns))
   unfolding run news
   unit-frames zero es proper e = (
     [],
@@ -166,10 +168,10 @@ module _ (p : ℕ) (ok : IsModulus p) (n : ℕ) where
       Found : ℕ → List Entry → Type 0
       Found k ds =
           (columns : List ℕ) × (length columns ≡ k)
-          × Settling p n (map (unitTake n) columns) (ledgerRun p ok n ds (map (unitTake n) columns))
+          × Settling p n (map (unitTake n) columns) (ledgerRun p ok n (ledger ds) (map (unitTake n) columns))
 
-      go : ((c : ℕ) × (Combined p n es (unitRow n c) → ⊥))
-          → ((c : ℕ) → (Combined p n es (unitRow n c) → ⊥) → Found d (withUnit es c)) → Found (suc d) es
+      go : ((c : ℕ) × (InSpan p n es (unitRow n c) → ⊥))
+          → ((c : ℕ) → (InSpan p n es (unitRow n c) → ⊥) → Found d (withUnit es c)) → Found (suc d) es
       go (c, free) more =
           let (columns, many, rest) = more c free in
           (c ∷ columns, ap suc many, settling-next es c free (map (unitTake n) columns) rest)
@@ -177,5 +179,5 @@ module _ (p : ℕ) (ok : IsModulus p) (n : ℕ) where
   -- after some n - k takes, all answered new, all are settled: the takes of the unit frames of some records
   pub missing-enough : (es : List Entry) → Proper p n es
       → (columns : List ℕ) × (length columns ≡ n - length es)
-      × Settling p n (map (unitTake n) columns) (ledgerRun p ok n es (map (unitTake n) columns))
+      × Settling p n (map (unitTake n) columns) (ledgerRun p ok n (ledger es) (map (unitTake n) columns))
   missing-enough es proper = unit-frames (n - length es) es proper (omega (arith, proper .fits))

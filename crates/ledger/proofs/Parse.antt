@@ -4,7 +4,7 @@ use mathlib.Core.Path.{_≡_, sym, ap, ap₂, subst, _∙_}
 use mathlib.Core.Logic.{_↔_}
 use mathlib.Core.List.{List, _∷_, _++_}
 use Prim.Native.Nat.{ℕ, suc, _+_, _*_, _-_, _≤_, _<_}
-use native.Mathlib.Nat.{le-refl, add-assoc, mul-le-mul-right}
+use native.Mathlib.Nat.{le-refl, add-assoc}
 use native.Mathlib.Omega.{arith}
 use lib.ListN.{length, getD, take, drop, replicate, length-drop, length-replicate, getD-replicate, take-append-drop}
 use lib.Seq.{length-take-le, drop-cons, getD-take, getD-drop, ext-getD}
@@ -14,8 +14,22 @@ use Rattle.field.specs.View.{table}
 use Rattle.field.proofs.Views.{table-entry}
 use Rattle.checks.specs.Largest.{FrameSize}
 use Rattle.ledger.specs.Ledger.{Entry, entry, noEntry, multiplierRows, valueColumn}
-use Rattle.ledger.specs.Board.{headerLength, rowLength, boardLength, modulusWord, sizeWord, countWord, rowWords, layout, entriesOf, IsBoard}
+use Rattle.ledger.specs.Board.{
+  headerLength,
+  rowLength,
+  rowStart,
+  valueStart,
+  modulusWord,
+  sizeWord,
+  countWord,
+  multiplierTable,
+  rowWords,
+  layout,
+  entriesOf,
+  IsBoard,
+}
 use Rattle.ledger.specs.Proper.{Proper}
+use Rattle.ledger.proofs.LayoutPlaces.{row-behind, row-later, row-ends, row-inside, row-holds}
 use Rattle.ledger.proofs.LayoutRows.{Wide, entries-count, entries-at, entries-rows}
 use Rattle.ledger.proofs.LayoutTables.{independent-agree}
 use Rattle.ledger.proofs.LayoutBoard.{zerosBehind, layout-board}
@@ -42,12 +56,13 @@ module _ (ws : List ℕ) where
   words-entry i h = entries-at (sizeWord ws) (countWord ws) (rest ws) i h
 
   -- a place of a row behind the header
-  words-place : (i j : ℕ) → getD (rest ws) (start ws i + j) 0 ≡ getD ws (headerLength + start ws i + j) 0
+  words-place : (i j : ℕ) → getD (rest ws) (start ws i + j) 0 ≡ getD ws (rowStart (sizeWord ws) i + j) 0
+  unfolding rowStart
   words-place i j =
       getD-drop headerLength ws (start ws i + j) 0 ∙ ap (λ q. getD ws q 0) (sym (add-assoc headerLength (start ws i) j))
 
   pub words-multiplier : (i j : ℕ) → i < countWord ws → j < sizeWord ws
-      → getD (getD (entriesOf ws) i noEntry .multipliers) j 0 ≡ getD ws (headerLength + i * rowLength (sizeWord ws) + j) 0
+      → getD (getD (entriesOf ws) i noEntry .multipliers) j 0 ≡ getD ws (rowStart (sizeWord ws) i + j) 0
   words-multiplier i j h l =
       ap (λ e. getD (e .multipliers) j 0) (words-entry i h)
       ∙ getD-take (sizeWord ws) (drop (start ws i) (rest ws)) j 0 l
@@ -55,19 +70,20 @@ module _ (ws : List ℕ) where
       ∙ words-place i j
 
   pub words-value : (i : ℕ) → i < countWord ws
-      → getD (entriesOf ws) i noEntry .value ≡ getD ws (headerLength + i * rowLength (sizeWord ws) + sizeWord ws) 0
+      → getD (entriesOf ws) i noEntry .value ≡ getD ws (valueStart (sizeWord ws) i) 0
+  unfolding valueStart
   words-value i h = ap (λ e. e .value) (words-entry i h) ∙ words-place i (sizeWord ws)
 
   -- the multipliers as a matrix are the table in the words, and the values stand behind them
   pub rows-table : (p i j : ℕ) → i < countWord ws → j < sizeWord ws
       → multiplierRows p (entriesOf ws) i j ≡ table p ws headerLength (rowLength (sizeWord ws)) (countWord ws) (sizeWord ws) i j
-  unfolding multiplierRows
+  unfolding multiplierRows rowStart
   rows-table p i j h l =
       ap (reduce p) (words-multiplier i j h l)
       ∙ sym (table-entry p ws headerLength (rowLength (sizeWord ws)) (countWord ws) (sizeWord ws) i j h l)
 
   pub rows-values : (p i : ℕ) → i < countWord ws
-      → valueColumn p (entriesOf ws) i ≡ reduce p (getD ws (headerLength + i * rowLength (sizeWord ws) + sizeWord ws) 0)
+      → valueColumn p (entriesOf ws) i ≡ reduce p (getD ws (valueStart (sizeWord ws) i) 0)
   unfolding valueColumn
   rows-values p i h = ap (reduce p) (words-value i h)
 
@@ -88,14 +104,8 @@ all-zeros m xs l h =
 module _ (ws : List ℕ) (b : IsBoard ws) where
   -- the rows lie in the words
   rows-inside : (i : ℕ) → i ≤ countWord ws → headerLength + start ws i ≤ length ws
-  unfolding boardLength
-  rows-inside i h =
-      omega (
-        arith,
-        b .long,
-        mul-le-mul-right (rowLength (sizeWord ws)) h,
-        mul-le-mul-right (rowLength (sizeWord ws)) (b .count),
-      )
+  unfolding rowStart
+  rows-inside i h = omega (arith, b .long, row-later (sizeWord ws) i (countWord ws) h, row-inside (sizeWord ws) (countWord ws) (b .count))
 
   pub board-wide : Wide (sizeWord ws) (entriesOf ws)
   unfolding rowLength
@@ -114,6 +124,7 @@ module _ (ws : List ℕ) (b : IsBoard ws) where
 
   -- and behind the rows the zeros
   board-zeros : replicate (zerosBehind (sizeWord ws) (length (entriesOf ws))) 0 ≡ drop (start ws (countWord ws)) (rest ws)
+  unfolding rowStart
   board-zeros =
       sym
       (all-zeros (zerosBehind (sizeWord ws) (length (entriesOf ws))) (drop end (rest ws))
@@ -133,36 +144,35 @@ module _ (ws : List ℕ) (b : IsBoard ws) where
 
   -- a board is the layout of the ledger that it holds
   pub board-layout : layout (modulusWord ws) (sizeWord ws) (entriesOf ws) ≡ ws
-  unfolding layout headerLength
+  unfolding layout
   board-layout =
       ap₂ (λ k xs. modulusWord ws ∷ sizeWord ws ∷ k ∷ xs) (words-count ws)
       (ap₂ (λ xs ys. xs ++ ys) board-rows board-zeros ∙ take-append-drop (start ws (countWord ws)) (rest ws))
       ∙ sym (header-split ws (b .three))
 
   -- a place among the rows is below p
-  board-below : (i t : ℕ) → i < countWord ws → t < rowLength (sizeWord ws)
-      → getD ws (headerLength + start ws i + t) 0 < modulusWord ws
+  board-below : (i t : ℕ) → i < countWord ws → t < rowLength (sizeWord ws) → getD ws (rowStart (sizeWord ws) i + t) 0 < modulusWord ws
   board-below i t h l =
-      rw (add-assoc headerLength)
-      (b .below (start ws i + t) (omega (arith, mul-le-mul-right (rowLength (sizeWord ws)) h)))
+      let n = sizeWord ws in
+      b .below (rowStart n i + t) (omega (arith, row-behind n i)) (omega (arith, row-ends n i (countWord ws) h))
 
   -- and that ledger is proper
   pub board-proper : Proper (modulusWord ws) (sizeWord ws) (entriesOf ws)
-  unfolding rowLength
+  unfolding valueStart
   board-proper =
       record {
         fits = omega (arith, words-count ws, b .count);
         wide = board-wide;
         below = λ i j h l.
             let inside : i < countWord ws = omega (arith, words-count ws) in
-            rw (words-multiplier ws i j inside l) (board-below i j inside (omega arith));
+            rw (words-multiplier ws i j inside l) (board-below i j inside (omega (arith, row-holds (sizeWord ws))));
         value-below = λ i h.
             let inside : i < countWord ws = omega (arith, words-count ws) in
-            rw (words-value ws i inside) (board-below i (sizeWord ws) inside (omega arith));
+            rw (words-value ws i inside) (board-below i (sizeWord ws) inside (row-holds (sizeWord ws)));
         independent =
             rw (words-count ws)
             (independent-agree (residues (modulusWord ws)) (countWord ws) (sizeWord ws)
-            (table (modulusWord ws) ws headerLength (rowLength (sizeWord ws)) (countWord ws) (sizeWord ws))
+            (multiplierTable ws)
             (multiplierRows (modulusWord ws) (entriesOf ws))
             (λ i j h l. sym (rows-table ws (modulusWord ws) i j h l)) (b .independent));
       }

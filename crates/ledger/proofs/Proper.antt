@@ -22,8 +22,8 @@ use Rattle.frame.specs.Format.{mapLength}
 use Rattle.frame.specs.Reading.{accepted, readFrame, readNumbers, unpadded?, recordBits, frameLength, frameNumbers}
 use Rattle.frame.proofs.RoundMap.{record-bits-length}
 use Rattle.frame.proofs.RoundNumbers.{accepted-if, judge-passed, spread-length, spread-below}
-use Rattle.ledger.specs.Ledger.{Entry, entry, noEntry, Combined, multiplierRows}
-use Rattle.ledger.specs.Steps.{Taken, Withdrawn}
+use Rattle.ledger.specs.Ledger.{Entry, entry, noEntry, Ledger, ledger, InSpan, multiplierRows}
+use Rattle.checks.specs.Outcome.{Outcome}
 use Rattle.ledger.specs.History.{Call, ledgerStep}
 use Rattle.ledger.specs.Proper.{Proper}
 use Rattle.ledger.proofs.LedgerSteps.{Took, new, repeat, refusal, took, Withdrew, dropped, overlong, withdrew}
@@ -93,7 +93,7 @@ empty-proper p n =
 
 module _ (p n : ℕ) (es : List Entry) (proper : Proper p n es) where
   -- a frame whose multipliers are no combination of the rows is appended to a proper ledger
-  module _ (ok : IsModulus p) (xs : List ℕ) (v : ℕ) (numbers : Numbers p n xs v) (new : Combined p n es xs → ⊥) where
+  module _ (ok : IsModulus p) (xs : List ℕ) (v : ℕ) (numbers : Numbers p n xs v) (new : InSpan p n es xs → ⊥) where
     rows : Matrix (residues p)
     rows = multiplierRows p (es ++ (entry xs v ∷ []))
 
@@ -157,17 +157,18 @@ module _ (p n : ℕ) (es : List Entry) (proper : Proper p n es) where
 
   -- ---- every step keeps a ledger proper
   module _ (ok : IsModulus p) where
-    took-proper : (frame mix : List ℕ) {r : Taken} → Took p ok n es frame mix r → Proper p n (r .entries)
+    took-proper : (frame mix : List ℕ) {r : Outcome (Ledger × List ℕ)} → Took p ok n (ledger es) frame mix r
+        → Proper p n (r .lent .0 .entries)
     took-proper frame mix (new xs v e free) = append-proper ok xs v (accepted-numbers p n frame xs v e) free
     took-proper frame mix (repeat xs v e c) = proper
     took-proper frame mix (refusal k h ws) = proper
 
-    withdrew-proper : (t : ℕ) {r : Withdrawn} → Withdrew es t r → Proper p n (r .entries)
+    withdrew-proper : (t : ℕ) {r : Outcome Ledger} → Withdrew (ledger es) t r → Proper p n (r .lent .entries)
     withdrew-proper t (dropped h) = front-proper (length es - t) (omega (arith, ok .prime .two-or-more)) (sub-le (length es) t)
-    withdrew-proper t (overlong h) = proper
+    withdrew-proper t (overlong k h) = proper
 
-    pub step-proper : (c : Call) → Proper p n (ledgerStep p ok n es c .state)
+    pub step-proper : (c : Call) → Proper p n (ledgerStep p ok n (ledger es) c .state .entries)
     unfolding ledgerStep
-    step-proper (Call.take frame mix) = took-proper frame mix (took p ok n es frame mix)
-    step-proper (Call.withdraw t) = withdrew-proper t (withdrew es t)
+    step-proper (Call.take frame mix) = took-proper frame mix (took p ok n (ledger es) frame mix)
+    step-proper (Call.withdraw t) = withdrew-proper t (withdrew (ledger es) t)
     step-proper (Call.show marks numbers) = proper

@@ -42,13 +42,16 @@ use Rattle.algebra.proofs.Exists.{Solved, solved}
 use Rattle.algebra.proofs.Decide.{cut, cut-inside, cut-sized}
 use Rattle.algebra.proofs.Independent.{all-counted}
 use Rattle.checks.specs.Told.{refused}
+use Rattle.checks.specs.Refusal.{IsRefusal}
+use Rattle.checks.specs.Outcome.{Outcome}
+use Rattle.checks.proofs.Refusals.{refusal-number}
 use Rattle.checks.specs.Prime.{IsModulus}
 use Rattle.field.specs.Residue.{reduce, residues}
 use Rattle.field.proofs.Field.{residues-field}
-use Rattle.ledger.specs.Ledger.{Entry, entry, noEntry, Combined, multiplierRows}
-use Rattle.ledger.specs.Steps.{Taken, ledgerTake}
+use Rattle.ledger.specs.Ledger.{Entry, entry, noEntry, Ledger, ledger, InSpan, multiplierRows}
+use Rattle.ledger.specs.Steps.{ledgerTake}
 use Rattle.ledger.specs.History.{Call, Reply, reply, ledgerStep, run, ledgerRun}
-use Rattle.ledger.specs.Heard.{NoWithdrawal, multipliersOf, heardIn, heard, ledgerRows, residueRows, rowMarks, rankOf}
+use Rattle.ledger.specs.Heard.{NoWithdrawal, multipliersOf, heardIn, heard, ledgerRows, residueRows, rowMarks, rowsRank}
 use Rattle.ledger.specs.Proper.{Proper}
 use Rattle.ledger.proofs.Proper.{empty-proper, length-more, entry-last}
 use Rattle.ledger.proofs.RankRows.{
@@ -106,8 +109,8 @@ module _ (p : ℕ) (ok : IsModulus p) (n : ℕ) where
 
   -- the set J of any quasiinverse of the rows has as many members as the rank
   pub rank-counted : (xss : List (List ℕ)) {D : Matrix (residues p)} {I J : Marks}
-      → IsPivotInverse (residues p) (length xss) n (rowsCut xss) D I J → rankOf p ok n xss ≡ count (length xss) J
-  unfolding rankOf rowMarks
+      → IsPivotInverse (residues p) (length xss) n (rowsCut xss) D I J → rowsRank p ok n xss ≡ count (length xss) J
+  unfolding rowsRank rowMarks
   rank-counted xss {J = J} Q =
       count-same (length xss) (rowMarks p ok n xss) J (λ y h. sym (chosen-rows (residues p) F (residueRows p xss) Q y h))
 
@@ -126,7 +129,7 @@ module _ (p : ℕ) (ok : IsModulus p) (n : ℕ) where
 
   -- rows that span the same have the same rank
   pub same-rank : (xss yss : List (List ℕ)) → ((xs : List ℕ) → List·Memᴰ xs xss → Spanned p n yss xs)
-      → ((xs : List ℕ) → List·Memᴰ xs yss → Spanned p n xss xs) → rankOf p ok n xss ≡ rankOf p ok n yss
+      → ((xs : List ℕ) → List·Memᴰ xs yss → Spanned p n xss xs) → rowsRank p ok n xss ≡ rowsRank p ok n yss
   same-rank xss yss f g =
       rank-counted xss (quasi xss .holds)
       ∙ same-span-same-rank (residues p) L (F .one-not-zero) (quasi xss .holds) (quasi yss .holds)
@@ -150,8 +153,8 @@ module _ (p : ℕ) (ok : IsModulus p) (n : ℕ) where
   ledger-length : (es : List Entry) → length (ledgerRows es) ≡ length es
   ledger-length es = length-map es (λ (e : Entry). e .multipliers)
 
-  combined-spanned : (es : List Entry) (xs : List ℕ) → Combined p n es xs → Spanned p n (ledgerRows es) xs
-  combined-spanned es xs =
+  span-spanned : (es : List Entry) (xs : List ℕ) → InSpan p n es xs → Spanned p n (ledgerRows es) xs
+  span-spanned es xs =
       subst₂ (λ k X. IsCombination (residues p) k n X (λ j. reduce p (getD xs j 0))) (sym (ledger-length es)) (sym (ledger-rows es))
 
   -- "The count of frames held is the rank of the ledger's rows": for any quasiinverse of the rows, J has them all
@@ -162,7 +165,7 @@ module _ (p : ℕ) (ok : IsModulus p) (n : ℕ) where
       all-counted (length es) J (all-chosen (residues p) F (length es) n (multiplierRows p es) (proper .independent) Q)
 
   -- the same of the rank as 01 defines it
-  pub ledger-rank : (es : List Entry) → Proper p n es → rankOf p ok n (ledgerRows es) ≡ length es
+  pub ledger-rank : (es : List Entry) → Proper p n es → rowsRank p ok n (ledgerRows es) ≡ length es
   ledger-rank es proper =
       rank-counted (ledgerRows es) (quasi (ledgerRows es) .holds)
       ∙ all-counted (length (ledgerRows es)) (quasi (ledgerRows es) .J)
@@ -174,106 +177,106 @@ module _ (p : ℕ) (ok : IsModulus p) (n : ℕ) where
   -- ---- what was heard
 
   -- what is a combination of the entries is one with more behind them
-  combined-more : (es ds : List Entry) (xs : List ℕ) → Combined p n es xs → Combined p n (es ++ ds) xs
+  span-more : (es ds : List Entry) (xs : List ℕ) → InSpan p n es xs → InSpan p n (es ++ ds) xs
   unfolding multiplierRows
-  combined-more es ds xs c =
+  span-more es ds xs c =
       combination-more (residues p) L (multiplierRows p (es ++ ds)) (λ j. reduce p (getD xs j 0)) (omega (arith, length-append es ds))
       (combination-alike (residues p) (multiplierRows p es) (multiplierRows p (es ++ ds))
       (λ i j h l. sym (ap (λ (e : Entry). reduce p (getD (e .multipliers) j 0)) (List·getD-append es ds noEntry i h)))
       (λ j. reduce p (getD xs j 0)) (λ j. reduce p (getD xs j 0)) (λ j l. refl) c)
 
   -- the multipliers of an entry are a combination of the rows with it
-  combined-own : (es : List Entry) (xs : List ℕ) (v : ℕ) → Combined p n (es ++ (entry xs v ∷ [])) xs
+  span-own : (es : List Entry) (xs : List ℕ) (v : ℕ) → InSpan p n (es ++ (entry xs v ∷ [])) xs
   unfolding multiplierRows
-  combined-own es xs v =
+  span-own es xs v =
       let rows = multiplierRows p (es ++ (entry xs v ∷ [])) in
       combination-alike (residues p) rows rows (λ i j h l. refl) (rows (length es)) (λ j. reduce p (getD xs j 0))
       (λ j l. ap (λ (e : Entry). reduce p (getD (e .multipliers) j 0)) (entry-last es (entry xs v)))
       (own-combination (residues p) L rows (length es) (omega (arith, length-more es (entry xs v))))
 
   -- a refused take is not heard
-  refused-unheard : (frame mix : List ℕ) (r : Reply) → 3 ≤ r .told .number → r .told .number ≤ 9
-      → heardIn p n (Call.take frame mix) r ≡ []
+  refused-unheard : (frame mix : List ℕ) (r : Reply) → IsRefusal (r .told .number) → heardIn p n (Call.take frame mix) r ≡ []
   unfolding heardIn
-  refused-unheard frame mix r h l =
+  refused-unheard frame mix r h =
       rw (ne-eqb (r .told .number) 0 (λ e. omega arith), ne-eqb (r .told .number) 100 (λ e. omega arith))
 
   -- what a take heard is a combination of the rows after it
-  took-heard : (es : List Entry) (frame mix : List ℕ) {r : Taken} → Took p ok n es frame mix r → (xs : List ℕ)
-      → List·Memᴰ xs (heardIn p n (Call.take frame mix) (reply (r .told) (r .mix) [])) → Combined p n (r .entries) xs
+  took-heard : (l : Ledger) (frame mix : List ℕ) {r : Outcome (Ledger × List ℕ)} → Took p ok n l frame mix r → (xs : List ℕ)
+      → List·Memᴰ xs (heardIn p n (Call.take frame mix) (reply (r .told) (r .lent .1) [])) → InSpan p n (r .lent .0 .entries) xs
   unfolding heardIn multipliersOf
-  took-heard es frame mix (new ys v e f) xs m =
-      subst (Combined p n (es ++ (entry ys v ∷ [])))
+  took-heard l frame mix (new ys v e f) xs m =
+      subst (InSpan p n (l .entries ++ (entry ys v ∷ [])))
       (sym (List·Memᴰ·eq-of-singleton (subst (λ g. List·Memᴰ xs (multipliersOf g)) e m)))
-      (combined-own es ys v)
-  took-heard es frame mix (repeat ys v e c) xs m =
-      subst (Combined p n es) (sym (List·Memᴰ·eq-of-singleton (subst (λ g. List·Memᴰ xs (multipliersOf g)) e m))) c
-  took-heard es frame mix (refusal k h ws) xs m =
-      absurd (List·Memᴰ·not-nil (subst (List·Memᴰ xs) (refused-unheard frame mix (reply (refused k) ws []) (h .0) (h .1)) m))
+      (span-own (l .entries) ys v)
+  took-heard l frame mix (repeat ys v e c) xs m =
+      subst (InSpan p n (l .entries)) (sym (List·Memᴰ·eq-of-singleton (subst (λ g. List·Memᴰ xs (multipliersOf g)) e m))) c
+  took-heard l frame mix (refusal k h ws) xs m =
+      absurd (List·Memᴰ·not-nil (subst (List·Memᴰ xs) (refused-unheard frame mix (reply (refused k) ws []) (refusal-number k)) m))
 
   -- the entries after a take stood before it or were heard
-  took-stands : (es : List Entry) (frame mix : List ℕ) {r : Taken} → Took p ok n es frame mix r → (e : Entry)
-      → List·Memᴰ e (r .entries)
-      → List·Memᴰ e es ⊎ List·Memᴰ (e .multipliers) (heardIn p n (Call.take frame mix) (reply (r .told) (r .mix) []))
+  took-stands : (l : Ledger) (frame mix : List ℕ) {r : Outcome (Ledger × List ℕ)} → Took p ok n l frame mix r → (e : Entry)
+      → List·Memᴰ e (r .lent .0 .entries)
+      → List·Memᴰ e (l .entries) ⊎ List·Memᴰ (e .multipliers) (heardIn p n (Call.take frame mix) (reply (r .told) (r .lent .1) []))
   unfolding heardIn multipliersOf
-  took-stands es frame mix (new ys v e f) d m =
+  took-stands l frame mix (new ys v e f) d m =
       ⊎-elim inl
       (λ k. inr
       (subst (λ g. List·Memᴰ (d .multipliers) (multipliersOf g)) (sym e)
       (List·Memᴰ·head (ap (λ (a : Entry). a .multipliers) (List·Memᴰ·eq-of-singleton k)))))
-      (List·Memᴰ·append-cases es m)
-  took-stands es frame mix (repeat ys v e c) d m = inl m
-  took-stands es frame mix (refusal k h ws) d m = inl m
+      (List·Memᴰ·append-cases (l .entries) m)
+  took-stands l frame mix (repeat ys v e c) d m = inl m
+  took-stands l frame mix (refusal k h ws) d m = inl m
 
   -- what was heard is a combination of the rows at the end
-  run-heard : (es : List Entry) (cs : List Call) → NoWithdrawal cs → (xs : List ℕ)
-      → List·Memᴰ xs (heard p n cs (ledgerRun p ok n es cs .replies)) → Combined p n (ledgerRun p ok n es cs .state) xs
+  run-heard : (l : Ledger) (cs : List Call) → NoWithdrawal cs → (xs : List ℕ)
+      → List·Memᴰ xs (heard p n cs (ledgerRun p ok n l cs .replies)) → InSpan p n (ledgerRun p ok n l cs .state .entries) xs
   unfolding heard heardIn run ledgerStep
-  run-heard es [] h xs m = absurd (List·Memᴰ·not-nil m)
-  run-heard es (Call.take frame mix ∷ cs) h xs m =
-      let r = ledgerTake p ok n es frame mix in
+  run-heard l [] h xs m = absurd (List·Memᴰ·not-nil m)
+  run-heard l (Call.take frame mix ∷ cs) h xs m =
+      let r = ledgerTake p ok n l frame mix in
       ⊎-elim
       (λ k.
-      let (ds, e) = only-appends p ok n (r .entries) cs h in
-      subst (λ l. Combined p n l xs) (sym e)
-      (combined-more (r .entries) ds xs (took-heard es frame mix (took p ok n es frame mix) xs k)))
-      (run-heard (r .entries) cs h xs) (List·Memᴰ·append-cases (heardIn p n (Call.take frame mix) (reply (r .told) (r .mix) [])) m)
-  run-heard es (Call.withdraw t ∷ cs) h xs m = absurd h
-  run-heard es (Call.show marks numbers ∷ cs) h xs m = run-heard es cs h xs m
+      let (ds, e) = only-appends p ok n (r .lent .0) cs h in
+      subst (λ es. InSpan p n es xs) (sym e)
+      (span-more (r .lent .0 .entries) ds xs (took-heard l frame mix (took p ok n l frame mix) xs k)))
+      (run-heard (r .lent .0) cs h xs)
+      (List·Memᴰ·append-cases (heardIn p n (Call.take frame mix) (reply (r .told) (r .lent .1) [])) m)
+  run-heard l (Call.withdraw t ∷ cs) h xs m = absurd h
+  run-heard l (Call.show marks numbers ∷ cs) h xs m = run-heard l cs h xs m
 
   -- the entries at the end stood at the start or were heard
-  run-stands : (es : List Entry) (cs : List Call) → NoWithdrawal cs → (e : Entry) → List·Memᴰ e (ledgerRun p ok n es cs .state)
-      → List·Memᴰ e es ⊎ List·Memᴰ (e .multipliers) (heard p n cs (ledgerRun p ok n es cs .replies))
+  run-stands : (l : Ledger) (cs : List Call) → NoWithdrawal cs → (e : Entry) → List·Memᴰ e (ledgerRun p ok n l cs .state .entries)
+      → List·Memᴰ e (l .entries) ⊎ List·Memᴰ (e .multipliers) (heard p n cs (ledgerRun p ok n l cs .replies))
   unfolding heard heardIn run ledgerStep
-  run-stands es [] h e m = inl m
-  run-stands es (Call.take frame mix ∷ cs) h e m =
-      let r = ledgerTake p ok n es frame mix in
-      let now = heardIn p n (Call.take frame mix) (reply (r .told) (r .mix) []) in
-      ⊎-elim (λ k. ⊎-elim inl (λ l. inr (Memᴰ·append-left _ l)) (took-stands es frame mix (took p ok n es frame mix) e k))
-      (λ k. inr (Memᴰ·append-right now k)) (run-stands (r .entries) cs h e m)
-  run-stands es (Call.withdraw t ∷ cs) h e m = absurd h
-  run-stands es (Call.show marks numbers ∷ cs) h e m = run-stands es cs h e m
+  run-stands l [] h e m = inl m
+  run-stands l (Call.take frame mix ∷ cs) h e m =
+      let r = ledgerTake p ok n l frame mix in
+      let now = heardIn p n (Call.take frame mix) (reply (r .told) (r .lent .1) []) in
+      ⊎-elim (λ k. ⊎-elim inl (λ i. inr (Memᴰ·append-left _ i)) (took-stands l frame mix (took p ok n l frame mix) e k))
+      (λ k. inr (Memᴰ·append-right now k)) (run-stands (r .lent .0) cs h e m)
+  run-stands l (Call.withdraw t ∷ cs) h e m = absurd h
+  run-stands l (Call.show marks numbers ∷ cs) h e m = run-stands l cs h e m
 
   -- 01: "in a history without withdrawals that is also the rank of the multipliers of all frames answered new or repeat, in
   -- whatever order they came": hs is any order of them
   pub heard-rank : (cs : List Call) → NoWithdrawal cs → (hs : List (List ℕ))
-      → Perm (heard p n cs (ledgerRun p ok n [] cs .replies)) hs
-      → rankOf p ok n hs ≡ length (ledgerRun p ok n [] cs .state)
+      → Perm (heard p n cs (ledgerRun p ok n (ledger []) cs .replies)) hs
+      → rowsRank p ok n hs ≡ length (ledgerRun p ok n (ledger []) cs .state .entries)
   heard-rank cs only hs order =
-      ∥∥₁-elim order (ℕ-set (rankOf p ok n hs) (length held))
-      (λ d. same-rank hs (ledgerRows held) (among d) (stands d) ∙ ledger-rank held (run-proper p ok n [] (empty-proper p n) cs))
+      ∥∥₁-elim order (ℕ-set (rowsRank p ok n hs) (length held))
+      (λ d. same-rank hs (ledgerRows held) (among d) (stands d) ∙ ledger-rank held (run-proper p ok n (ledger []) (empty-proper p n) cs))
     where
       held : List Entry
-      held = ledgerRun p ok n [] cs .state
+      held = ledgerRun p ok n (ledger []) cs .state .entries
 
       all : List (List ℕ)
-      all = heard p n cs (ledgerRun p ok n [] cs .replies)
+      all = heard p n cs (ledgerRun p ok n (ledger []) cs .replies)
 
       among : List·Permᴰ all hs → (xs : List ℕ) → List·Memᴰ xs hs → Spanned p n (ledgerRows held) xs
-      among d xs m = combined-spanned held xs (run-heard [] cs only xs (perm-member (Permᴰ·symm d) m))
+      among d xs m = span-spanned held xs (run-heard (ledger []) cs only xs (perm-member (Permᴰ·symm d) m))
 
       stands : List·Permᴰ all hs → (xs : List ℕ) → List·Memᴰ xs (ledgerRows held) → Spanned p n hs xs
       stands d xs m =
           let (e, k, q) = Memᴰ·of-map (λ (e : Entry). e .multipliers) held m in
           ⊎-elim (λ l. absurd (List·Memᴰ·not-nil l)) (λ l. member-spanned hs xs (Memᴰ·cast (sym q) (perm-member d l)))
-          (run-stands [] cs only e k)
+          (run-stands (ledger []) cs only e k)

@@ -1,98 +1,85 @@
--- The calls on words, by cases: on a board each is the ledger's step on the entries that the words hold, on other words it is
--- refusal 11; and on the layout of a proper ledger it is the ledger's step. The proof that the modulus is one does not matter.
-use mathlib.Core.Path.{_≡_, ap, ap₂, _∙_}
+-- The calls on words, by cases: words that are no board are refused by 11, whatever else the call is given, and a board is the
+-- ledger's step on the entries that the words hold. On the layout of a proper ledger a call is the ledger's step. The proof that
+-- the modulus is one does not matter.
+use mathlib.Core.Path.{_≡_, refl, ap, ap₂, _∙_}
 use mathlib.Core.List.{List}
 use Prim.Native.Nat.{ℕ}
 use lib.IntN.{ℤ}
-use Rattle.algebra.specs.Choice.{pickBy}
-use Rattle.algebra.proofs.Choice.{pick-by-same, pick-by-no}
 use Rattle.checks.specs.declared.Refusal.the-variants.{NotBoard}
-use Rattle.checks.specs.Told.{refused}
+use Rattle.checks.specs.InOrder.{AllHold, FirstFailing}
+use Rattle.checks.specs.Outcome.{untouched}
 use Rattle.checks.specs.Prime.{IsModulus}
-use Rattle.checks.proofs.Guards.{modulus-prop}
 use Rattle.checks.specs.Largest.{FrameSize}
-use Rattle.ledger.specs.Ledger.{Entry}
-use Rattle.ledger.specs.Steps.{shown, ledgerTake, ledgerWithdraw, ledgerShow}
-use Rattle.ledger.specs.Board.{modulusWord, sizeWord, layout, entriesOf, IsBoard}
-use Rattle.ledger.specs.Decide.{board?}
-use Rattle.ledger.specs.Calls.{opened, takeOutcome, laidOut, takeCall, withdrawCall, showCall}
+use Rattle.checks.proofs.Guards.{modulus-prop}
+use Rattle.checks.proofs.InOrder.{none-left, holds-and, fails-here, in-order-done, in-order-refused}
+use Rattle.ledger.specs.Ledger.{Entry, ledger}
+use Rattle.ledger.specs.Steps.{ledgerTake, ledgerWithdraw, ledgerShow}
+use Rattle.ledger.specs.Board.{modulusWord, sizeWord, layout, ledgerOf, IsBoard}
+use Rattle.ledger.specs.Calls.{boardChecks, laidOut, takeCall, wordsOf, withdrawCall, showCall}
 use Rattle.ledger.specs.Proper.{Proper}
 use Rattle.ledger.proofs.LayoutBoard.{layout-entries, layout-board}
 
--- on a board the choice is made, by whatever proof that its modulus is one
-on-board : {A : Type 0} (ws : List ℕ) (f : IsModulus (modulusWord ws) → A) (a : A) (b : IsBoard ws)
-    → pickBy (board? ws) (λ c. f (c .prime)) a ≡ f (b .prime)
-on-board ws f a =
-    pick-by-same (board? ws) (λ c. f (c .prime)) a (λ c d. ap f (modulus-prop (modulusWord ws) (c .prime) (d .prime)))
+module _ (ws : List ℕ) (none : IsBoard ws → ⊥) where
+  off-board : FirstFailing (boardChecks ws) NotBoard
+  off-board = fails-here none
 
--- ---- take
+  pub take-off-board : (frame mix : List ℕ) → takeCall ws frame mix ≡ untouched (ws, mix) NotBoard
+  unfolding takeCall
+  take-off-board frame mix = in-order-refused _ _ off-board
 
-pub take-on-board : (ws frame mix : List ℕ) (b : IsBoard ws)
-    → takeCall ws frame mix
-    ≡ laidOut (modulusWord ws) (sizeWord ws) (ledgerTake (modulusWord ws) (b .prime) (sizeWord ws) (entriesOf ws) frame mix)
-unfolding takeCall
-take-on-board ws frame mix =
-    on-board ws
-    (λ ok. laidOut (modulusWord ws) (sizeWord ws) (ledgerTake (modulusWord ws) ok (sizeWord ws) (entriesOf ws) frame mix))
-    (takeOutcome (refused NotBoard) ws mix)
+  pub withdraw-off-board : (t : ℕ) → withdrawCall ws t ≡ untouched ws NotBoard
+  unfolding withdrawCall
+  withdraw-off-board t = in-order-refused _ _ off-board
 
-pub take-off-board : (ws frame mix : List ℕ) → (IsBoard ws → ⊥) → takeCall ws frame mix ≡ takeOutcome (refused NotBoard) ws mix
-unfolding takeCall
-take-off-board ws frame mix n = pick-by-no (board? ws) _ (takeOutcome (refused NotBoard) ws mix) n
+  pub show-off-board : (marks : List ℕ) (zs : List ℤ) → showCall ws marks zs ≡ untouched (marks, zs) NotBoard
+  unfolding showCall
+  show-off-board marks zs = in-order-refused _ _ off-board
 
--- ---- withdraw
+module _ (ws : List ℕ) (b : IsBoard ws) where
+  on-board : AllHold (boardChecks ws)
+  on-board = holds-and b (λ _. none-left)
 
-pub withdraw-on-board : (ws : List ℕ) (t : ℕ) → IsBoard ws
-    → withdrawCall ws t
-    ≡ opened (ledgerWithdraw (entriesOf ws) t .told)
-    (layout (modulusWord ws) (sizeWord ws) (ledgerWithdraw (entriesOf ws) t .entries))
-unfolding withdrawCall
-withdraw-on-board ws t =
-    on-board ws
-    (λ ok.
-    opened (ledgerWithdraw (entriesOf ws) t .told)
-    (layout (modulusWord ws) (sizeWord ws) (ledgerWithdraw (entriesOf ws) t .entries)))
-    (opened (refused NotBoard) ws)
+  pub take-on-board : (frame mix : List ℕ)
+      → takeCall ws frame mix
+      ≡ laidOut (modulusWord ws) (sizeWord ws) (ledgerTake (modulusWord ws) (b .prime) (sizeWord ws) (ledgerOf ws) frame mix)
+  unfolding takeCall
+  take-on-board frame mix =
+      in-order-done _ _ _ on-board
+      (λ hs.
+      ap (λ ok. laidOut (modulusWord ws) (sizeWord ws) (ledgerTake (modulusWord ws) ok (sizeWord ws) (ledgerOf ws) frame mix))
+      (modulus-prop (modulusWord ws) (hs .0 .prime) (b .prime)))
 
-pub withdraw-off-board : (ws : List ℕ) (t : ℕ) → (IsBoard ws → ⊥) → withdrawCall ws t ≡ opened (refused NotBoard) ws
-unfolding withdrawCall
-withdraw-off-board ws t n = pick-by-no (board? ws) _ (opened (refused NotBoard) ws) n
+  pub withdraw-on-board : (t : ℕ) → withdrawCall ws t ≡ wordsOf (modulusWord ws) (sizeWord ws) (ledgerWithdraw (ledgerOf ws) t)
+  unfolding withdrawCall
+  withdraw-on-board t = in-order-done _ _ _ on-board (λ _. refl)
 
--- ---- show
-
-pub show-on-board : (ws marks : List ℕ) (numbers : List ℤ) (b : IsBoard ws)
-    → showCall ws marks numbers ≡ ledgerShow (modulusWord ws) (b .prime) (sizeWord ws) (entriesOf ws) marks numbers
-unfolding showCall
-show-on-board ws marks numbers =
-    on-board ws (λ ok. ledgerShow (modulusWord ws) ok (sizeWord ws) (entriesOf ws) marks numbers)
-    (shown (refused NotBoard) marks numbers)
-
-pub show-off-board : (ws marks : List ℕ) (numbers : List ℤ) → (IsBoard ws → ⊥)
-    → showCall ws marks numbers ≡ shown (refused NotBoard) marks numbers
-unfolding showCall
-show-off-board ws marks numbers n = pick-by-no (board? ws) _ (shown (refused NotBoard) marks numbers) n
+  pub show-on-board : (marks : List ℕ) (zs : List ℤ)
+      → showCall ws marks zs ≡ ledgerShow (modulusWord ws) (b .prime) (sizeWord ws) (ledgerOf ws) marks zs
+  unfolding showCall
+  show-on-board marks zs =
+      in-order-done _ _ _ on-board
+      (λ hs.
+      ap (λ ok. ledgerShow (modulusWord ws) ok (sizeWord ws) (ledgerOf ws) marks zs)
+      (modulus-prop (modulusWord ws) (hs .0 .prime) (b .prime)))
 
 -- ---- on the layout of a proper ledger
 
 module _ (p n : ℕ) (es : List Entry) (ok : IsModulus p) (size : FrameSize n) (P : Proper p n es) where
   pub take-at-layout : (frame mix : List ℕ)
-      → takeCall (layout p n es) frame mix ≡ laidOut p n (ledgerTake p ok n es frame mix)
+      → takeCall (layout p n es) frame mix ≡ laidOut p n (ledgerTake p ok n (ledger es) frame mix)
   unfolding layout
   take-at-layout frame mix =
-      take-on-board (layout p n es) frame mix (layout-board p n es ok size P)
-      ∙ ap₂ (λ k ds. laidOut p n (ledgerTake p k n ds frame mix)) (modulus-prop p _ ok) (layout-entries p n es (P .wide))
+      take-on-board (layout p n es) (layout-board p n es ok size P) frame mix
+      ∙ ap₂ (λ k ds. laidOut p n (ledgerTake p k n (ledger ds) frame mix)) (modulus-prop p _ ok) (layout-entries p n es (P .wide))
 
-  pub withdraw-at-layout : (t : ℕ)
-      → withdrawCall (layout p n es) t ≡ opened (ledgerWithdraw es t .told) (layout p n (ledgerWithdraw es t .entries))
+  pub withdraw-at-layout : (t : ℕ) → withdrawCall (layout p n es) t ≡ wordsOf p n (ledgerWithdraw (ledger es) t)
   unfolding layout
   withdraw-at-layout t =
-      withdraw-on-board (layout p n es) t (layout-board p n es ok size P)
-      ∙ ap (λ ds. opened (ledgerWithdraw ds t .told) (layout p n (ledgerWithdraw ds t .entries)))
-      (layout-entries p n es (P .wide))
+      withdraw-on-board (layout p n es) (layout-board p n es ok size P) t
+      ∙ ap (λ ds. wordsOf p n (ledgerWithdraw (ledger ds) t)) (layout-entries p n es (P .wide))
 
-  pub show-at-layout : (marks : List ℕ) (numbers : List ℤ)
-      → showCall (layout p n es) marks numbers ≡ ledgerShow p ok n es marks numbers
+  pub show-at-layout : (marks : List ℕ) (zs : List ℤ) → showCall (layout p n es) marks zs ≡ ledgerShow p ok n (ledger es) marks zs
   unfolding layout
-  show-at-layout marks numbers =
-      show-on-board (layout p n es) marks numbers (layout-board p n es ok size P)
-      ∙ ap₂ (λ k ds. ledgerShow p k n ds marks numbers) (modulus-prop p _ ok) (layout-entries p n es (P .wide))
+  show-at-layout marks zs =
+      show-on-board (layout p n es) (layout-board p n es ok size P) marks zs
+      ∙ ap₂ (λ k ds. ledgerShow p k n (ledger ds) marks zs) (modulus-prop p _ ok) (layout-entries p n es (P .wide))

@@ -1,68 +1,51 @@
 -- What open, take, withdraw and show answer and leave in lent memory, for every input. A call on words that are a board is
--- the ledger's step on the entries that they hold, laid out again; on other words it is refusal 11.
+-- the ledger's step on the entries that they hold, laid out again; on other words it is refusal 11, before any check of the step.
 use mathlib.Core.List.{List, []}
 use Prim.Native.Nat.{ℕ}
-use native.Mathlib.Decide.{ℕ-discrete}
 use lib.IntN.{ℤ}
-use lib.ListN.{length}
-use Rattle.algebra.specs.Choice.{pick, pickBy}
-use Rattle.checks.specs.declared.Refusal.the-variants.{Modulus, Size, Length, NotBoard}
-use Rattle.checks.specs.Told.{Told, refused}
-use Rattle.checks.specs.Decide.{modulus?}
-use Rattle.checks.specs.Decide.{frameSize?}
-use Rattle.ledger.specs.Steps.{Taken, Shown, shown, ledgerTake, ledgerWithdraw, ledgerShow}
-use Rattle.ledger.specs.Board.{boardLength, modulusWord, sizeWord, layout, entriesOf}
+use Rattle.checks.specs.declared.Refusal.{Refusal}
+use Rattle.checks.specs.declared.Refusal.the-variants.{Length, NotBoard}
+use Rattle.checks.specs.InOrder.{Checks, passed, _else_, _⨾_, andThen, inOrder}
+use Rattle.checks.specs.Told.{done}
+use Rattle.checks.specs.Outcome.{Outcome, outcome, untouched}
+use Rattle.checks.specs.Decide.{long?}
+use Rattle.checks.specs.Sizes.{frameSizes}
+use Rattle.ledger.specs.Ledger.{Ledger}
+use Rattle.ledger.specs.Steps.{ledgerTake, ledgerWithdraw, ledgerShow}
+use Rattle.ledger.specs.Board.{boardLength, modulusWord, sizeWord, layout, boardOf, ledgerOf}
 use Rattle.ledger.specs.Decide.{board?}
 
--- ---- open: checks 1, 2, 3, then writes a fresh board
+-- ---- open: 1, 2, 3, then writes a fresh board
 
-pub record Opened : Type 0 where
-  pub told : Told
-  pub board : List ℕ
+abbrev pub openChecks : (p n : ℕ) (ws : List ℕ) → Checks Refusal
+openChecks p n ws = andThen (frameSizes p n) (λ _. long? ws (boardLength n) else Length ⨾ passed)
 
-abbrev pub opened : Told → List ℕ → Opened
-opened told board = record { told = told; board = board }
+unfoldable pub openCall : (p n : ℕ) → List ℕ → Outcome (List ℕ)
+openCall p n ws = inOrder (openChecks p n ws) (λ _. outcome done (layout p n [])) (untouched ws)
 
-unfoldable pub openCall : (p n : ℕ) → List ℕ → Opened
-openCall p n ws =
-    pick (modulus? p)
-    (pick (frameSize? n)
-    (pick (ℕ-discrete (length ws) (boardLength n)) (opened (record { number = 0; values = [] }) (layout p n [])) (opened (refused Length) ws))
-    (opened (refused Size) ws))
-    (opened (refused Modulus) ws)
+-- ---- the calls on a board: 11, then the ledger's step
 
--- ---- take
+abbrev pub boardChecks : List ℕ → Checks Refusal
+boardChecks ws = board? ws else NotBoard ⨾ passed
 
-pub record TakeOutcome : Type 0 where
-  pub told : Told
-  pub board : List ℕ
-  pub mix : List ℕ
+-- the outcome of a step, with the ledger laid out
+abbrev pub laidOut : (p n : ℕ) → Outcome (Ledger × List ℕ) → Outcome (List ℕ × List ℕ)
+laidOut p n r = outcome (r .told) (boardOf p n (r .lent .0), r .lent .1)
 
-abbrev pub takeOutcome : Told → List ℕ → List ℕ → TakeOutcome
-takeOutcome told board mix = record { told = told; board = board; mix = mix }
-
--- the ledger's answer, with the ledger laid out
-abbrev pub laidOut : (p n : ℕ) → Taken → TakeOutcome
-laidOut p n r = takeOutcome (r .told) (layout p n (r .entries)) (r .mix)
-
-unfoldable pub takeCall : (board frame mix : List ℕ) → TakeOutcome
+unfoldable pub takeCall : (ws frame mix : List ℕ) → Outcome (List ℕ × List ℕ)
 takeCall ws frame mix =
-    pickBy (board? ws)
-    (λ b. laidOut (modulusWord ws) (sizeWord ws) (ledgerTake (modulusWord ws) (b .prime) (sizeWord ws) (entriesOf ws) frame mix))
-    (takeOutcome (refused NotBoard) ws mix)
+    inOrder (boardChecks ws)
+    (λ hs. laidOut (modulusWord ws) (sizeWord ws) (ledgerTake (modulusWord ws) (hs .0 .prime) (sizeWord ws) (ledgerOf ws) frame mix))
+    (untouched (ws, mix))
 
--- ---- withdraw
+abbrev pub wordsOf : (p n : ℕ) → Outcome Ledger → Outcome (List ℕ)
+wordsOf p n r = outcome (r .told) (boardOf p n (r .lent))
 
-unfoldable pub withdrawCall : (board : List ℕ) (t : ℕ) → Opened
+unfoldable pub withdrawCall : (ws : List ℕ) (t : ℕ) → Outcome (List ℕ)
 withdrawCall ws t =
-    pickBy (board? ws)
-    (λ b.
-    opened (ledgerWithdraw (entriesOf ws) t .told) (layout (modulusWord ws) (sizeWord ws) (ledgerWithdraw (entriesOf ws) t .entries)))
-    (opened (refused NotBoard) ws)
+    inOrder (boardChecks ws) (λ _. wordsOf (modulusWord ws) (sizeWord ws) (ledgerWithdraw (ledgerOf ws) t)) (untouched ws)
 
--- ---- show
-
-unfoldable pub showCall : (board marks : List ℕ) (numbers : List ℤ) → Shown
-showCall ws marks numbers =
-    pickBy (board? ws) (λ b. ledgerShow (modulusWord ws) (b .prime) (sizeWord ws) (entriesOf ws) marks numbers)
-    (shown (refused NotBoard) marks numbers)
+unfoldable pub showCall : (ws marks : List ℕ) (zs : List ℤ) → Outcome (List ℕ × List ℤ)
+showCall ws marks zs =
+    inOrder (boardChecks ws) (λ hs. ledgerShow (modulusWord ws) (hs .0 .prime) (sizeWord ws) (ledgerOf ws) marks zs)
+    (untouched (marks, zs))

@@ -1,80 +1,111 @@
--- What the ledger and the board test ask is decided; the types say what, and nothing computes with it.
+-- What the ledger and the board test ask is decided; the types say what, and nothing computes with it. No other file of these
+-- definitions takes anything from proofs.
 use mathlib.Core.Path.{_≡_}
 use mathlib.Core.List.{List}
-use Prim.Native.Nat.{ℕ, _+_, _*_, _≤_, _<_}
+use Prim.Native.Nat.{ℕ, _≤_, _<_}
 use native.Mathlib.Decide.{decLe, decLt, ℕ-discrete}
 use lib.ListN.{length, getD}
-use Rattle.algebra.specs.Matrix.{apply}
-use Rattle.algebra.specs.Span.{Independent}
+use Rattle.algebra.specs.Matrix.{Vector, Matrix, sum, apply}
+use Rattle.algebra.specs.Span.{IsCombination, Independent}
 use Rattle.algebra.proofs.Choice.{all-below?}
 use Rattle.algebra.proofs.Decide.{combination?, independent?}
 use Rattle.algebra.proofs.Settled.{agree?}
 use Rattle.checks.specs.Prime.{IsModulus}
 use Rattle.checks.specs.Decide.{modulus?}
-use Rattle.field.specs.Residue.{reduce, residues}
-use Rattle.field.specs.View.{table}
-use Rattle.field.proofs.Field.{residues-field}
+use Rattle.field.specs.Residue.{reduce, residues, _⊗_}
+use Rattle.field.proofs.Field.{residues-field, residue-equal?}
 use Rattle.checks.specs.Decide.{frameSize?}
 use Rattle.checks.specs.Largest.{FrameSize}
-use Rattle.ledger.specs.Ledger.{Entry, Combined, Agreed, multiplierRows, valueColumn}
-use Rattle.ledger.specs.Board.{IsBoard, headerLength, rowLength, boardLength, modulusWord, sizeWord, countWord}
+use Rattle.ledger.specs.Ledger.{Entry, InSpan, GivesValue, Agreed, multiplierRows, valueColumn}
+use Rattle.ledger.specs.Board.{
+  IsBoard,
+  headerLength,
+  boardLength,
+  modulusWord,
+  sizeWord,
+  countWord,
+  rowsEnd,
+  multiplierTable,
+}
 
-pub combined? : (p : ℕ) → IsModulus p → (n : ℕ) (es : List Entry) (xs : List ℕ) → Dec (Combined p n es xs)
-combined? p ok n es xs =
-    combination? (residues p) (residues-field p (ok .prime)) (length es) n (multiplierRows p es) (λ j. reduce p (getD xs j 0))
+-- ---- the ledger's questions
 
-pub agreed? : (p : ℕ) → IsModulus p → (n : ℕ) (es : List Entry) (j : ℕ) → Dec (Agreed p n es j)
-unfolding apply multiplierRows valueColumn
-agreed? p ok n es j =
-    agree? (residues p) (residues-field p (ok .prime)) (length es) n (multiplierRows p es) (valueColumn p es) j
+module _ (p : ℕ) (ok : IsModulus p) where
+  -- a vector is a combination of the first k rows
+  abbrev pub combined? : (k n : ℕ) (X : Matrix (residues p)) (v : Vector (residues p)) → Dec (IsCombination (residues p) k n X v)
+  combined? = combination? (residues p) (residues-field p (ok .prime))
+
+  pub inSpan? : (n : ℕ) (es : List Entry) (xs : List ℕ) → Dec (InSpan p n es xs)
+  inSpan? n es xs = combined? (length es) n (multiplierRows p es) (λ j. reduce p (getD xs j 0))
+
+  pub agreed? : (n : ℕ) (es : List Entry) (j : ℕ) → Dec (Agreed p n es j)
+  unfolding apply multiplierRows valueColumn
+  agreed? n es j = agree? (residues p) (residues-field p (ok .prime)) (length es) n (multiplierRows p es) (valueColumn p es) j
+
+pub givesValue? : (p : ℕ) (es : List Entry) (u : Vector (residues p)) (v : ℕ) → Dec (GivesValue p es u v)
+givesValue? p es u v = residue-equal? (sum (residues p) (length es) (λ t. u t ⊗ valueColumn p es t)) (reduce p v)
+
+-- no more entries are dropped than stand
+pub within? : (t k : ℕ) → Dec (t ≤ k)
+within? = decLe
+
+-- ---- the board test, clause by clause
+
+implied? : {A B : Type 0} → Dec A → Dec B → Dec (A → B)
+implied? (no f) d = yes (λ h. absurd (f h))
+implied? (yes h) (yes e) = yes (λ _. e)
+implied? (yes h) (no f) = no (λ g. f (g h))
 
 -- the entries from the header on are below p
-below? : (ws : List ℕ) → Dec ((i : ℕ) → i < countWord ws * rowLength (sizeWord ws) → getD ws (headerLength + i) 0 < modulusWord ws)
+abbrev EntriesBelow : List ℕ → Type 0
+EntriesBelow ws = (q : ℕ) → q < rowsEnd ws → headerLength ≤ q → getD ws q 0 < modulusWord ws
+
+below? : (ws : List ℕ) → Dec (EntriesBelow ws)
 below? ws =
-    all-below? (λ i. getD ws (headerLength + i) 0 < modulusWord ws) (λ i. decLt (getD ws (headerLength + i) 0) (modulusWord ws))
-    (countWord ws * rowLength (sizeWord ws))
+    all-below? (λ q. headerLength ≤ q → getD ws q 0 < modulusWord ws)
+    (λ q. implied? (decLe headerLength q) (decLt (getD ws q 0) (modulusWord ws))) (rowsEnd ws)
 
 -- the words after the rows are 0
-zeros? : (ws : List ℕ) → Dec ((i : ℕ) → i < length ws → headerLength + countWord ws * rowLength (sizeWord ws) ≤ i → getD ws i 0 ≡ 0)
-zeros? ws = all-below? (λ i. headerLength + countWord ws * rowLength (sizeWord ws) ≤ i → getD ws i 0 ≡ 0) each (length ws)
-  where
-    each : (i : ℕ) → Dec (headerLength + countWord ws * rowLength (sizeWord ws) ≤ i → getD ws i 0 ≡ 0)
-    each i = go (decLe (headerLength + countWord ws * rowLength (sizeWord ws)) i) (ℕ-discrete (getD ws i 0) 0)
-      where
-        go : Dec (headerLength + countWord ws * rowLength (sizeWord ws) ≤ i) → Dec (getD ws i 0 ≡ 0)
-            → Dec (headerLength + countWord ws * rowLength (sizeWord ws) ≤ i → getD ws i 0 ≡ 0)
-        go (no f) d = yes (λ h. absurd (f h))
-        go (yes h) (yes e) = yes (λ _. e)
-        go (yes h) (no f) = no (λ g. f (g h))
+abbrev ZerosBehind : List ℕ → Type 0
+ZerosBehind ws = (q : ℕ) → q < length ws → rowsEnd ws ≤ q → getD ws q 0 ≡ 0
+
+zeros? : (ws : List ℕ) → Dec (ZerosBehind ws)
+zeros? ws =
+    all-below? (λ q. rowsEnd ws ≤ q → getD ws q 0 ≡ 0) (λ q. implied? (decLe (rowsEnd ws) q) (ℕ-discrete (getD ws q 0) 0)) (length ws)
 
 pub board? : (ws : List ℕ) → Dec (IsBoard ws)
 board? ws =
-    go (decLe 3 (length ws)) (modulus? (modulusWord ws)) (frameSize? (sizeWord ws)) (ℕ-discrete (length ws) (boardLength (sizeWord ws)))
-    (decLe (countWord ws) (sizeWord ws)) (below? ws) (zeros? ws)
+    go (decLe headerLength (length ws)) (modulus? (modulusWord ws)) (frameSize? (sizeWord ws))
+    (ℕ-discrete (length ws) (boardLength (sizeWord ws))) (decLe (countWord ws) (sizeWord ws)) (below? ws) (zeros? ws)
   where
-    last : 3 ≤ length ws → IsModulus (modulusWord ws) → FrameSize (sizeWord ws) → length ws ≡ boardLength (sizeWord ws)
-        → countWord ws ≤ sizeWord ws
-        → ((i : ℕ) → i < countWord ws * rowLength (sizeWord ws) → getD ws (headerLength + i) 0 < modulusWord ws)
-        → ((i : ℕ) → i < length ws → headerLength + countWord ws * rowLength (sizeWord ws) ≤ i → getD ws i 0 ≡ 0)
-        → Dec (Independent (residues (modulusWord ws)) (countWord ws) (sizeWord ws) (table (modulusWord ws) ws headerLength (rowLength (sizeWord ws)) (countWord ws) (sizeWord ws)))
-        → Dec (IsBoard ws)
+    last : headerLength ≤ length ws → IsModulus (modulusWord ws) → FrameSize (sizeWord ws) → length ws ≡ boardLength (sizeWord ws)
+        → countWord ws ≤ sizeWord ws → EntriesBelow ws → ZerosBehind ws
+        → Dec (Independent (residues (modulusWord ws)) (countWord ws) (sizeWord ws) (multiplierTable ws)) → Dec (IsBoard ws)
     last t m s l c b z (yes i) =
-        yes (record { three = t; prime = m; size = s; long = l; count = c; below = b; independent = i; zeros = λ k h g. z k g h })
+        yes
+        (record {
+          three = t;
+          prime = m;
+          size = s;
+          long = l;
+          count = c;
+          below = λ q h g. b q g h;
+          independent = i;
+          zeros = λ q h g. z q g h;
+        })
     last t m s l c b z (no f) = no (λ w. f (w .independent))
 
-    go : Dec (3 ≤ length ws) → Dec (IsModulus (modulusWord ws)) → Dec (FrameSize (sizeWord ws)) → Dec (length ws ≡ boardLength (sizeWord ws))
-        → Dec (countWord ws ≤ sizeWord ws)
-        → Dec ((i : ℕ) → i < countWord ws * rowLength (sizeWord ws) → getD ws (headerLength + i) 0 < modulusWord ws)
-        → Dec ((i : ℕ) → i < length ws → headerLength + countWord ws * rowLength (sizeWord ws) ≤ i → getD ws i 0 ≡ 0)
+    go : Dec (headerLength ≤ length ws) → Dec (IsModulus (modulusWord ws)) → Dec (FrameSize (sizeWord ws))
+        → Dec (length ws ≡ boardLength (sizeWord ws)) → Dec (countWord ws ≤ sizeWord ws) → Dec (EntriesBelow ws) → Dec (ZerosBehind ws)
         → Dec (IsBoard ws)
     go (no f) m s l c b z = no (λ w. f (w .three))
     go (yes t) (no f) s l c b z = no (λ w. f (w .prime))
     go (yes t) (yes m) (no f) l c b z = no (λ w. f (w .size))
     go (yes t) (yes m) (yes s) (no f) c b z = no (λ w. f (w .long))
     go (yes t) (yes m) (yes s) (yes l) (no f) b z = no (λ w. f (w .count))
-    go (yes t) (yes m) (yes s) (yes l) (yes c) (no f) z = no (λ w. f (w .below))
-    go (yes t) (yes m) (yes s) (yes l) (yes c) (yes b) (no f) = no (λ w. f (λ i g h. w .zeros i h g))
+    go (yes t) (yes m) (yes s) (yes l) (yes c) (no f) z = no (λ w. f (λ q g h. w .below q h g))
+    go (yes t) (yes m) (yes s) (yes l) (yes c) (yes b) (no f) = no (λ w. f (λ q g h. w .zeros q h g))
     go (yes t) (yes m) (yes s) (yes l) (yes c) (yes b) (yes z) =
         last t m s l c b z
         (independent? (residues (modulusWord ws)) (residues-field (modulusWord ws) (m .prime)) (countWord ws) (sizeWord ws)
-        (table (modulusWord ws) ws headerLength (rowLength (sizeWord ws)) (countWord ws) (sizeWord ws)))
+        (multiplierTable ws))

@@ -4,23 +4,18 @@
 -- order they came."
 use mathlib.Core.Bool.{true, false}
 use mathlib.Core.List.{List, [], _∷_, _++_, map}
-use Prim.Native.Nat.{ℕ, _+_, _≤_}
+use Prim.Native.Nat.{ℕ, _+_}
 use lib.Dec.{eqb}
 use lib.ListN.{length, getD}
 use Rattle.algebra.specs.Choice.{choose, pick}
 use Rattle.algebra.specs.Matrix.{Matrix}
 use Rattle.algebra.specs.Quasiinverse.{Marks, count}
-use Rattle.algebra.proofs.Decide.{combination?}
 use Rattle.checks.specs.Prime.{IsModulus}
 use Rattle.field.specs.Residue.{reduce, residues}
-use Rattle.field.proofs.Field.{residues-field}
 use Rattle.frame.specs.Reading.{Found, accepted, rejected, readFrame}
 use Rattle.ledger.specs.Ledger.{Entry}
+use Rattle.ledger.specs.Decide.{combined?}
 use Rattle.ledger.specs.History.{Call, take, withdraw, show, Reply}
-
--- a number that is told for a refusal
-abbrev pub IsRefusal : ℕ → Type 0
-IsRefusal k = (1 ≤ k) × (k ≤ 11)
 
 -- a list of calls without a withdrawal
 abbrev pub NoWithdrawal : List Call → Type 0
@@ -74,9 +69,8 @@ residueRows p xss i j = reduce p (getD (getD xss i []) j 0)
 
 -- the set J: the rows that are no combination of the rows before them
 unfoldable pub rowMarks : (p : ℕ) → IsModulus p → (n : ℕ) → List (List ℕ) → Marks
-rowMarks p ok n xss y =
-    pick (combination? (residues p) (residues-field p (ok .prime)) y n (residueRows p xss) (residueRows p xss y)) false true
+rowMarks p ok n xss y = pick (combined? p ok y n (residueRows p xss) (residueRows p xss y)) false true
 
--- the rank: how many rows J has
-unfoldable pub rankOf : (p : ℕ) → IsModulus p → (n : ℕ) → List (List ℕ) → ℕ
-rankOf p ok n xss = count (length xss) (rowMarks p ok n xss)
+-- the rank: how many rows J has (for rows of numbers, as the ledger has them)
+unfoldable pub rowsRank : (p : ℕ) → IsModulus p → (n : ℕ) → List (List ℕ) → ℕ
+rowsRank p ok n xss = count (length xss) (rowMarks p ok n xss)

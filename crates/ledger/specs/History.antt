@@ -5,9 +5,9 @@ use Prim.Native.Nat.{ℕ}
 use lib.IntN.{ℤ}
 use Rattle.checks.specs.Told.{Told}
 use Rattle.checks.specs.Prime.{IsModulus}
-use Rattle.ledger.specs.Ledger.{Entry}
+use Rattle.ledger.specs.Ledger.{Ledger}
 use Rattle.ledger.specs.Steps.{ledgerTake, ledgerWithdraw, ledgerShow}
-use Rattle.ledger.specs.Board.{layout}
+use Rattle.ledger.specs.Board.{boardOf}
 use Rattle.ledger.specs.Calls.{takeCall, withdrawCall, showCall}
 
 -- a call, with its arguments and the memory lent to it to be written, of any contents and length
@@ -34,19 +34,19 @@ abbrev pub after : {S : Type 0} → S → List Reply → After S
 after s rs = record { state = s; replies = rs }
 
 -- one call on the ledger
-unfoldable pub ledgerStep : (p : ℕ) → IsModulus p → (n : ℕ) → List Entry → Call → After (List Entry)
-ledgerStep p ok n es (take frame mix) =
-    let r = ledgerTake p ok n es frame mix in after (r .entries) (reply (r .told) (r .mix) [] ∷ [])
-ledgerStep p ok n es (withdraw t) = let r = ledgerWithdraw es t in after (r .entries) (reply (r .told) [] [] ∷ [])
-ledgerStep p ok n es (show marks numbers) =
-    let r = ledgerShow p ok n es marks numbers in after es (reply (r .told) (r .marks) (r .numbers) ∷ [])
+unfoldable pub ledgerStep : (p : ℕ) → IsModulus p → (n : ℕ) → Ledger → Call → After Ledger
+ledgerStep p ok n l (take frame mix) =
+    let r = ledgerTake p ok n l frame mix in after (r .lent .0) (reply (r .told) (r .lent .1) [] ∷ [])
+ledgerStep p ok n l (withdraw t) = let r = ledgerWithdraw l t in after (r .lent) (reply (r .told) [] [] ∷ [])
+ledgerStep p ok n l (show marks numbers) =
+    let r = ledgerShow p ok n l marks numbers in after l (reply (r .told) (r .lent .0) (r .lent .1) ∷ [])
 
 -- one call on the board
 unfoldable pub boardStep : List ℕ → Call → After (List ℕ)
-boardStep ws (take frame mix) = let r = takeCall ws frame mix in after (r .board) (reply (r .told) (r .mix) [] ∷ [])
-boardStep ws (withdraw t) = let r = withdrawCall ws t in after (r .board) (reply (r .told) [] [] ∷ [])
+boardStep ws (take frame mix) = let r = takeCall ws frame mix in after (r .lent .0) (reply (r .told) (r .lent .1) [] ∷ [])
+boardStep ws (withdraw t) = let r = withdrawCall ws t in after (r .lent) (reply (r .told) [] [] ∷ [])
 boardStep ws (show marks numbers) =
-    let r = showCall ws marks numbers in after ws (reply (r .told) (r .marks) (r .numbers) ∷ [])
+    let r = showCall ws marks numbers in after ws (reply (r .told) (r .lent .0) (r .lent .1) ∷ [])
 
 -- a list of calls, each on what the last one left
 unfoldable pub run : {S : Type 0} → (S → Call → After S) → S → List Call → After S
@@ -55,12 +55,12 @@ run step s (c ∷ cs) =
     let one = step s c in
     let rest = run step (one .state) cs in after (rest .state) (one .replies ++ rest .replies)
 
-abbrev pub ledgerRun : (p : ℕ) → IsModulus p → (n : ℕ) → List Entry → List Call → After (List Entry)
+abbrev pub ledgerRun : (p : ℕ) → IsModulus p → (n : ℕ) → Ledger → List Call → After Ledger
 ledgerRun p ok n = run (ledgerStep p ok n)
 
 abbrev pub boardRun : List ℕ → List Call → After (List ℕ)
 boardRun = run boardStep
 
 -- the ledger's state laid out as a board, with its replies
-abbrev pub onBoard : (p n : ℕ) → After (List Entry) → After (List ℕ)
-onBoard p n a = after (layout p n (a .state)) (a .replies)
+abbrev pub onBoard : (p n : ℕ) → After Ledger → After (List ℕ)
+onBoard p n a = after (boardOf p n (a .state)) (a .replies)

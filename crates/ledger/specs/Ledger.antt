@@ -21,6 +21,13 @@ entry xs v = record { multipliers = xs; value = v }
 abbrev pub noEntry : Entry
 noEntry = entry [] 0
 
+-- the ledger: the frames that stand, in the order in which they came
+pub record Ledger : Type 0 where
+  pub entries : List Entry
+
+abbrev pub ledger : List Entry → Ledger
+ledger es = record { entries = es }
+
 module _ (p : ℕ) where
   -- an assignment gives each record a residue
   abbrev pub Assignment : Type 0
@@ -53,5 +60,9 @@ module _ (p : ℕ) where
   Agreed n es j = (v : Residue p) × AgreeOn n es j v
 
   -- the multipliers of a frame are a combination of the ledger's rows
-  abbrev pub Combined : ℕ → List Entry → List ℕ → Type 0
-  Combined n es xs = IsCombination (residues p) (length es) n (multiplierRows es) (λ j. reduce p (getD xs j 0))
+  abbrev pub InSpan : ℕ → List Entry → List ℕ → Type 0
+  InSpan n es xs = IsCombination (residues p) (length es) n (multiplierRows es) (λ j. reduce p (getD xs j 0))
+
+  -- the combination u of the values is v
+  abbrev pub GivesValue : List Entry → Vector (residues p) → ℕ → Type 0
+  GivesValue es u v = sum (residues p) (length es) (λ t. u t ⊗ valueColumn es t) ≡ reduce p v

@@ -10,7 +10,7 @@ use Rattle.algebra.specs.Choice.{choose}
 use Rattle.field.specs.Written.{tabulate}
 use Rattle.signed.specs.Reading.{reading}
 use Rattle.frame.specs.Format.{frameOf}
-use Rattle.ledger.specs.Ledger.{Entry, Assignment, MeetsAll, Settled}
+use Rattle.ledger.specs.Ledger.{Entry, Ledger, Assignment, MeetsAll, Settled}
 use Rattle.ledger.specs.History.{Call, take, Reply, After}
 use Rattle.ledger.specs.Heard.{news}
 
@@ -26,10 +26,10 @@ abbrev pub AllSettled : (p n : ℕ) → List Entry → Type 0
 AllSettled p n es = (j : ℕ) → j < n → Settled p n es j
 
 -- what calls have made of a ledger and answered: new to every one, and all records are settled
-pub record Settling (p n : ℕ) (cs : List Call) (a : After (List Entry)) : Type 0 where
+pub record Settling (p n : ℕ) (cs : List Call) (a : After Ledger) : Type 0 where
   pub all-new : (r : Reply) → List·Memᴰ r (a .replies) → r .told .number ≡ 0
   pub news-told : news cs (a .replies) ≡ length cs
-  pub settles : AllSettled p n (a .state)
+  pub settles : AllSettled p n (a .state .entries)
 
 -- ---- frames that carry one record each
 

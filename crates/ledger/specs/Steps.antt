@@ -1,114 +1,100 @@
--- The ledger's step for each call: what it then holds, what is told, and what becomes of the memory lent to the call.
+-- The ledger's step for each call: its checks in 01's order, what is told, what the ledger then holds, and what becomes of the
+-- memory lent to the call.
 use mathlib.Core.List.{List, [], _∷_, _++_}
-use Prim.Native.Nat.{ℕ, zero, suc, _+_, _-_}
-use native.Mathlib.Decide.{decLe, ℕ-discrete}
+use Prim.Native.Nat.{ℕ, zero, suc, _-_}
 use lib.IntN.{ℤ, pos}
 use lib.ListN.{length, take, replicate}
-use Rattle.algebra.specs.Choice.{pick, pickBy}
-use Rattle.algebra.specs.Matrix.{Vector, sum}
+use Rattle.algebra.specs.Choice.{pickBy}
+use Rattle.algebra.specs.Matrix.{Vector}
+use Rattle.checks.specs.declared.Refusal.{Refusal}
 use Rattle.checks.specs.declared.Refusal.the-variants.{Length, Conflict, Withdrawal}
-use Rattle.checks.specs.Told.{Told, refused}
+use Rattle.checks.specs.InOrder.{Checks, passed, _else_, _⨾_, inOrder}
+use Rattle.checks.specs.Told.{Told, refused, gives, results}
+use Rattle.checks.specs.Outcome.{Outcome, outcome, untouched}
+use Rattle.checks.specs.Decide.{long?}
 use Rattle.checks.specs.Prime.{IsModulus}
-use Rattle.field.specs.Residue.{reduce, residues, _⊗_}
+use Rattle.field.specs.Residue.{residues}
 use Rattle.field.specs.Written.{tabulate, numbers}
-use Rattle.field.proofs.Field.{residue-equal?}
 use Rattle.signed.specs.Reading.{reading}
 use Rattle.frame.specs.Reading.{Found, accepted, rejected, readFrame}
-use Rattle.ledger.specs.Ledger.{Entry, entry, valueColumn}
-use Rattle.ledger.specs.Decide.{combined?, agreed?}
+use Rattle.ledger.specs.Ledger.{Entry, entry, Ledger, ledger}
+use Rattle.ledger.specs.Decide.{inSpan?, agreed?, givesValue?, within?}
+
+-- ---- take
 
 -- new tells 0 and the count, repeat 100 and the count
 abbrev pub newTold : ℕ → Told
-newTold k = record { number = 0; values = pos k ∷ [] }
+newTold k = gives (pos k)
 
 abbrev pub repeatTold : ℕ → Told
 repeatTold k = record { number = 100; values = pos k ∷ [] }
 
--- withdraw and show tell 200 + the count that they answer
-abbrev pub countTold : ℕ → Told
-countTold k = record { number = 200 + k; values = pos k ∷ [] }
+-- the multipliers of the combination, then zeros
+unfoldable pub mixWords : (p n : ℕ) → List Entry → Vector (residues p) → List ℕ
+mixWords p n es u = numbers (length es) u ++ replicate (n - length es) 0
 
--- ---- take
+-- 3 comes before anything of the frame
+abbrev pub takeChecks : (n : ℕ) (mix : List ℕ) → Checks Refusal
+takeChecks n mix = long? mix n else Length ⨾ passed
 
--- the ledger, what is told, and the mix
-pub record Taken : Type 0 where
-  pub entries : List Entry
-  pub told : Told
-  pub mix : List ℕ
+-- 9 of a frame whose multipliers the combination u gives
+abbrev pub valueChecks : (p : ℕ) → List Entry → Vector (residues p) → ℕ → Checks Refusal
+valueChecks p es u v = givesValue? p es u v else Conflict ⨾ passed
 
-abbrev pub taken : List Entry → Told → List ℕ → Taken
-taken es told mix = record { entries = es; told = told; mix = mix }
-
-module _ (p : ℕ) (ok : IsModulus p) (n : ℕ) (es : List Entry) where
-  -- the multipliers of the combination, then zeros
-  unfoldable pub mixWords : Vector (residues p) → List ℕ
-  mixWords u = numbers (length es) u ++ replicate (n - length es) 0
-
-  -- a combination: repeat if the same combination of values gives the frame's value, otherwise 9
-  unfoldable pub takeCombined : ℕ → Vector (residues p) → Taken
-  takeCombined v u =
-      pick (residue-equal? (sum (residues p) (length es) (λ t. u t ⊗ valueColumn p es t)) (reduce p v))
-      (taken es (repeatTold (length es)) (mixWords u))
-      (taken es (refused Conflict) (mixWords u))
+module _ (p : ℕ) (ok : IsModulus p) (n : ℕ) (l : Ledger) where
+  -- a combination: repeat if the same combination of values gives the frame's value, otherwise 9; the mix is written either way
+  unfoldable pub takeInSpan : ℕ → Vector (residues p) → Outcome (Ledger × List ℕ)
+  takeInSpan v u =
+      inOrder (valueChecks p (l .entries) u v) (λ _. outcome (repeatTold (length (l .entries))) (l, mixWords p n (l .entries) u))
+      (λ k. outcome (refused k) (l, mixWords p n (l .entries) u))
 
   -- no combination of the ledger's rows: append, answer new with the count, mix untouched
-  unfoldable pub takeAccepted : List ℕ → ℕ → List ℕ → Taken
+  unfoldable pub takeAccepted : List ℕ → ℕ → List ℕ → Outcome (Ledger × List ℕ)
   takeAccepted xs v mix =
-      pickBy (combined? p ok n es xs) (λ c. takeCombined v (c .0))
-      (taken (es ++ (entry xs v ∷ [])) (newTold (suc (length es))) mix)
+      pickBy (inSpan? p ok n (l .entries) xs) (λ c. takeInSpan v (c .0))
+      (outcome (newTold (suc (length (l .entries)))) (ledger (l .entries ++ (entry xs v ∷ [])), mix))
 
-  unfoldable pub takeFound : Found → List ℕ → Taken
+  unfoldable pub takeFound : Found → List ℕ → Outcome (Ledger × List ℕ)
   takeFound (accepted xs v) mix = takeAccepted xs v mix
-  takeFound (rejected k) mix = taken es (refused k) mix
+  takeFound (rejected k) mix = untouched (l, mix) k
 
-  -- checks 3, then the frame's
-  unfoldable pub ledgerTake : (frame mix : List ℕ) → Taken
-  ledgerTake frame mix = pick (ℕ-discrete (length mix) n) (takeFound (readFrame p n frame) mix) (taken es (refused Length) mix)
+  unfoldable pub ledgerTake : (frame mix : List ℕ) → Outcome (Ledger × List ℕ)
+  ledgerTake frame mix = inOrder (takeChecks n mix) (λ _. takeFound (readFrame p n frame) mix) (untouched (l, mix))
 
--- ---- withdraw
+-- ---- withdraw: 10, then the last t entries are dropped
 
-pub record Withdrawn : Type 0 where
-  pub entries : List Entry
-  pub told : Told
+abbrev pub withdrawChecks : Ledger → ℕ → Checks Refusal
+withdrawChecks l t = within? t (length (l .entries)) else Withdrawal ⨾ passed
 
-abbrev pub withdrawn : List Entry → Told → Withdrawn
-withdrawn es told = record { entries = es; told = told }
-
--- checks 10, then drops the last t entries
-unfoldable pub ledgerWithdraw : List Entry → ℕ → Withdrawn
-ledgerWithdraw es t =
-    pick (decLe t (length es)) (withdrawn (take (length es - t) es) (countTold (length es - t)))
-    (withdrawn es (refused Withdrawal))
+unfoldable pub ledgerWithdraw : Ledger → ℕ → Outcome Ledger
+ledgerWithdraw l t =
+    inOrder (withdrawChecks l t)
+    (λ _. outcome (results (length (l .entries) - t)) (ledger (take (length (l .entries) - t) (l .entries)))) (untouched l)
 
 -- ---- show
-
-pub record Shown : Type 0 where
-  pub told : Told
-  pub marks : List ℕ
-  pub numbers : List ℤ
-
-abbrev pub shown : Told → List ℕ → List ℤ → Shown
-shown told marks numbers = record { told = told; marks = marks; numbers = numbers }
 
 -- f 0, f 1, .., f (n - 1), of signed numbers
 unfoldable pub tabulateℤ : ℕ → (ℕ → ℤ) → List ℤ
 tabulateℤ zero f = []
 tabulateℤ (suc n) f = f 0 ∷ tabulateℤ n (λ k. f (suc k))
 
+-- record j is marked 1 and its signed reading given exactly if all assignments meeting the ledger's frames agree at j;
+-- otherwise 0 and 0
 module _ (p : ℕ) (ok : IsModulus p) (n : ℕ) (es : List Entry) where
-  -- record j is marked 1 and its signed reading given exactly if all assignments meeting the ledger's frames agree at j;
-  -- otherwise 0 and 0
   unfoldable pub shownMark : ℕ → ℕ
   shownMark j = pickBy (agreed? p ok n es j) (λ a. 1) 0
 
   unfoldable pub shownNumber : ℕ → ℤ
   shownNumber j = pickBy (agreed? p ok n es j) (λ a. reading p (a .0 .value)) (pos 0)
 
-  -- checks 3; the answer is n minus the count
-  unfoldable pub ledgerShow : List ℕ → List ℤ → Shown
-  ledgerShow marks numbers =
-      pick (ℕ-discrete (length marks) n)
-      (pick (ℕ-discrete (length numbers) n)
-      (shown (countTold (n - length es)) (tabulate n shownMark) (tabulateℤ n shownNumber))
-      (shown (refused Length) marks numbers))
-      (shown (refused Length) marks numbers)
+abbrev pub showChecks : (n : ℕ) (marks : List ℕ) (zs : List ℤ) → Checks Refusal
+showChecks n marks zs = long? marks n else Length ⨾ long? zs n else Length ⨾ passed
+
+-- the answer is n minus the count
+unfoldable pub ledgerShow : (p : ℕ) → IsModulus p → (n : ℕ) → Ledger → List ℕ → List ℤ → Outcome (List ℕ × List ℤ)
+ledgerShow p ok n l marks zs =
+    inOrder (showChecks n marks zs)
+    (λ _.
+    outcome (results (n - length (l .entries)))
+    (tabulate n (shownMark p ok n (l .entries)), tabulateℤ n (shownNumber p ok n (l .entries))))
+    (untouched (marks, zs))

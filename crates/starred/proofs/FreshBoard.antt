@@ -18,10 +18,11 @@ use Rattle.checks.specs.Largest.{FrameSize}
 use Rattle.frame.specs.Format.{frameOf}
 use Rattle.frame.specs.Reading.{accepted, readFrame}
 use Rattle.frame.proofs.Round.{written-reads-back}
-use Rattle.ledger.specs.Ledger.{Combined}
+use Rattle.checks.specs.Outcome.{Outcome, outcome}
+use Rattle.ledger.specs.Ledger.{Ledger, ledger, InSpan}
 use Rattle.ledger.specs.Board.{layout}
-use Rattle.ledger.specs.Steps.{Taken, taken, repeatTold, mixWords, takeAccepted}
-use Rattle.ledger.specs.Calls.{takeOutcome, laidOut, takeCall}
+use Rattle.ledger.specs.Steps.{repeatTold, mixWords, takeAccepted}
+use Rattle.ledger.specs.Calls.{laidOut, takeCall}
 use Rattle.ledger.proofs.Proper.{empty-proper}
 use Rattle.ledger.proofs.LedgerLaws.{take-accepted, take-repeat, take-conflict}
 use Rattle.ledger.proofs.WordsCalls.{take-at-layout}
@@ -32,12 +33,12 @@ module _ (p n : ℕ) (ok : IsModulus p) (size : FrameSize n) where
   zeroRow = replicate n 0
 
   -- it is the combination of no rows
-  combined : Combined p n [] zeroRow
+  combined : InSpan p n [] zeroRow
   unfolding mixed sum
   combined = (λ t. reduce p 0, λ j h. ap (reduce p) (zeros-at n j))
 
   -- whose mix is all 0
-  mix-zero : mixWords p ok n [] (combined .0) ≡ zeroRow
+  mix-zero : mixWords p n [] (combined .0) ≡ zeroRow
   unfolding mixWords tabulate
   mix-zero = ap (λ k. replicate k 0) (sub-zero n)
 
@@ -48,7 +49,7 @@ module _ (p n : ℕ) (ok : IsModulus p) (size : FrameSize n) where
         written-reads-back p n zeroRow v (ok .in-range) (length-replicate n 0) (λ i h. rw (zeros-at n i) (omega arith)) below
 
     -- so take is what the zero row and the value decide
-    on-ledger : (mix : List ℕ) (r : Taken) → length mix ≡ n → takeAccepted p ok n [] zeroRow v mix ≡ r
+    on-ledger : (mix : List ℕ) (r : Outcome (Ledger × List ℕ)) → length mix ≡ n → takeAccepted p ok n (ledger []) zeroRow v mix ≡ r
         → takeCall (layout p n []) (frameOf n zeroRow (v ∷ [])) mix ≡ laidOut p n r
     on-ledger mix r long e =
         take-at-layout p n [] ok size (empty-proper p n) (frameOf n zeroRow (v ∷ [])) mix
@@ -56,17 +57,18 @@ module _ (p n : ℕ) (ok : IsModulus p) (size : FrameSize n) where
 
   -- with value 0 it is a repeat
   pub empty-repeats : (mix : List ℕ) → length mix ≡ n
-      → takeCall (layout p n []) (frameOf n zeroRow (0 ∷ [])) mix ≡ takeOutcome (repeatTold 0) (layout p n []) zeroRow
+      → takeCall (layout p n []) (frameOf n zeroRow (0 ∷ [])) mix ≡ outcome (repeatTold 0) (layout p n [], zeroRow)
   unfolding sum
   empty-repeats mix long =
-      on-ledger 0 (omega (arith, ok .prime .two-or-more)) mix (taken [] (repeatTold 0) zeroRow) long
-      (take-repeat p ok n [] (empty-proper p n) zeroRow 0 mix combined refl ∙ ap (taken [] (repeatTold 0)) mix-zero)
+      on-ledger 0 (omega (arith, ok .prime .two-or-more)) mix (outcome (repeatTold 0) (ledger [], zeroRow)) long
+      (take-repeat p ok n [] (empty-proper p n) zeroRow 0 mix combined refl
+      ∙ ap (λ ws. outcome (repeatTold 0) (ledger [], ws)) mix-zero)
 
   -- with any other it is a conflict
   pub empty-conflicts : (v : ℕ) → 0 < v → v < p → (mix : List ℕ) → length mix ≡ n
-      → takeCall (layout p n []) (frameOf n zeroRow (v ∷ [])) mix ≡ takeOutcome (refused Conflict) (layout p n []) zeroRow
+      → takeCall (layout p n []) (frameOf n zeroRow (v ∷ [])) mix ≡ outcome (refused Conflict) (layout p n [], zeroRow)
   unfolding sum
   empty-conflicts v positive below mix long =
-      on-ledger v below mix (taken [] (refused Conflict) zeroRow) long
+      on-ledger v below mix (outcome (refused Conflict) (ledger [], zeroRow)) long
       (take-conflict p ok n [] (empty-proper p n) zeroRow v mix combined (λ e. nonzero-of-positive p v positive below (sym e))
-      ∙ ap (taken [] (refused Conflict)) mix-zero)
+      ∙ ap (λ ws. outcome (refused Conflict) (ledger [], ws)) mix-zero)

@@ -6,12 +6,13 @@ use Prim.Native.Nat.{ℕ}
 use lib.ListN.{length}
 use Rattle.checks.specs.declared.Refusal.the-variants.{Conflict}
 use Rattle.checks.specs.Told.{Told, refused}
+use Rattle.checks.specs.Outcome.{outcome}
 use Rattle.matrix.specs.Examples.{TableExample, tableExamples, Holds as TableHolds}
 use Rattle.frame.specs.Reading.{accepted, readFrame}
 use Rattle.frame.specs.Examples.{FrameExample, frameExamples}
 use Rattle.ledger.specs.Board.{layout}
 use Rattle.ledger.specs.Steps.{repeatTold}
-use Rattle.ledger.specs.Calls.{takeOutcome, takeCall}
+use Rattle.ledger.specs.Calls.{takeCall}
 
 -- a frame's bytes on a fresh board, what take tells and the mix that it writes
 pub record BoardExample : Type 0 where
@@ -55,7 +56,7 @@ abbrev pub BoardHolds : BoardExample → Type 0
 BoardHolds e =
     (mix : List ℕ) → length mix ≡ e .size
     → takeCall (layout (e .modulus) (e .size) []) (e .bytes) mix
-    ≡ takeOutcome (e .told) (layout (e .modulus) (e .size) []) (e .mix)
+    ≡ outcome (e .told) (layout (e .modulus) (e .size) [], e .mix)
 
 -- the frame's bytes read as its multipliers and its value
 abbrev pub FrameHolds : FrameExample → Type 0

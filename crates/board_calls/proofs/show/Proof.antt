@@ -1,10 +1,12 @@
 -- `board_calls::show` meets its contract: off a board it is refusal 11, with memory of another length refusal 3, and else `show_records`
 -- writes what the ledger shows.
+use mathlib.Core.Path.{sym}
 use native.Mathlib.Omega.{arith}
 use borrow.Author.Needs.{needs}
-use Rattle.board_words.specs.Held.{Held}
+use Rattle.ledger.proofs.WordsCalls.{show-off-board}
+use Rattle.board_words.specs.Inverse.{BoardInverse}
 use Rattle.board_calls.proofs.CallBoard.{is-held, no-board}
-use Rattle.board_calls.proofs.CallShow.{show-no-board, show-no-marks, show-no-numbers, show-done}
+use Rattle.board_calls.proofs.CallShow.{show-no-marks, show-no-numbers, show-done}
 use Rattle.board_calls.proofs.show.Statement.{statement}
 use Rattle.board_calls.proofs.show.Tie as tie
 
@@ -12,7 +14,7 @@ use Rattle.board_calls.proofs.show.Tie as tie
 held :
     (c : tie.Else1) →
     let t = c .before .before .before in
-    Held (t .before .before .before .before .before .before .before .args .board .now) (t .is-board .last .1 .0) (t .is-board .last .1 .1 .0)
+    BoardInverse (t .before .before .before .before .before .before .before .args .board .now) (t .is-board .last .1 .0) (t .is-board .last .1 .1 .0)
 held c = is-held (c .before .before .before .is-board .ensures) (c .if1 .left)
 
 table-room-requires : tie.Need-table-room-requires
@@ -31,7 +33,7 @@ is-board-requires : tie.Need-is-board-requires
 is-board-requires c κs = search needs
 
 returns : tie.Need-returns
-returns c = show-no-board _ _ _ (no-board (c .before .before .before .is-board .ensures) (c .if1 .taken))
+returns c = sym (show-off-board _ (no-board (c .before .before .before .is-board .ensures) (c .if1 .taken)) _ _)
 
 shared-slice-read-n : tie.Need-shared-slice-read-n
 shared-slice-read-n c = omega (arith, held (c .before) .board .three)
@@ -40,10 +42,10 @@ cast-n : tie.Need-cast-n
 cast-n c = omega (arith, held (c .before) .board .size .1)
 
 returns-2 : tie.Need-returns-2
-returns-2 c = show-no-marks _ _ _ (held (c .before .before) .board) (c .if2 .taken)
+returns-2 c = show-no-marks _ (held (c .before .before) .board) _ _ (c .if2 .taken)
 
 returns-3 : tie.Need-returns-3
-returns-3 c = show-no-numbers _ _ _ (held (c .before .before .before) .board) (c .before .if2 .left) (c .if3 .taken)
+returns-3 c = show-no-numbers _ (held (c .before .before .before) .board) _ _ (c .before .if2 .left) (c .if3 .taken)
 
 slice-aggregate-show-records : tie.Need-slice-aggregate-show-records
 slice-aggregate-show-records c = search needs
@@ -76,7 +78,7 @@ returns-4 c =
     let e = c .before .before .before .before .before .before .before .before .before .before in
     let board = held (e .before .before .before) .board in
     let written = c .before .before .before .before .before .show-records .ensures (board .prime) in
-    show-done _ _ _ board (e .before .if2 .left) (e .if3 .left) _ _ (written .0) (written .1)
+    show-done _ board _ _ (e .before .if2 .left) (e .if3 .left) _ _ (written .0) (written .1)
 
 pub show-spec : {M : Type 1} → statement M
 show-spec =

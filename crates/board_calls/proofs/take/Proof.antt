@@ -6,9 +6,10 @@ use lib.Seq.{length-take-le}
 use borrow.Author.Needs.{needs}
 use Rattle.ledger.specs.Board.{modulusWord, sizeWord}
 use Rattle.ledger.proofs.Proper.{Numbers}
-use Rattle.board_words.specs.Held.{Held}
+use Rattle.ledger.proofs.WordsCalls.{take-off-board}
+use Rattle.board_words.specs.Inverse.{BoardInverse}
 use Rattle.board_calls.proofs.CallBoard.{is-held, no-board}
-use Rattle.board_calls.proofs.CallTake.{take-no-board, take-no-length, numbers-found, row-inside, row-long, row-below, take-unread, take-read}
+use Rattle.board_calls.proofs.CallTake.{take-no-length, numbers-found, row-inside, row-long, row-for, take-unread, take-read}
 use Rattle.board_calls.proofs.take.Statement.{statement}
 use Rattle.board_calls.proofs.take.Tie as tie
 
@@ -16,7 +17,7 @@ use Rattle.board_calls.proofs.take.Tie as tie
 held :
     (c : tie.Else1) →
     let t = c .before .before .before in
-    Held (t .before .before .before .before .before .before .before .before .before .args .board .now) (t .is-board .last .1 .0) (t .is-board .last .1 .1 .0)
+    BoardInverse (t .before .before .before .before .before .before .before .before .before .args .board .now) (t .is-board .last .1 .0) (t .is-board .last .1 .1 .0)
 held c = is-held (c .before .before .before .is-board .ensures) (c .if1 .left)
 
 -- the numbers that reading found
@@ -47,7 +48,7 @@ same-length : tie.Need-same-length
 same-length c = search needs
 
 returns : tie.Need-returns
-returns c = take-no-board _ _ _ (no-board (c .before .before .before .is-board .ensures) (c .if1 .taken))
+returns c = sym (take-off-board _ (no-board (c .before .before .before .is-board .ensures) (c .if1 .taken)) _ _)
 
 slice-read-p : tie.Need-slice-read-p
 slice-read-p c = omega (arith, held (c .before) .board .three)
@@ -62,7 +63,7 @@ same-length-2 : tie.Need-same-length-2
 same-length-2 c = search needs
 
 returns-2 : tie.Need-returns-2
-returns-2 c = take-no-length _ _ _ (held (c .before .before .before) .board) (c .if2 .taken)
+returns-2 c = take-no-length _ (held (c .before .before .before) .board) _ _ (c .if2 .taken)
 
 row-room-requires : tie.Need-row-room-requires
 row-room-requires c κs = search needs
@@ -103,7 +104,12 @@ take-row-requires : tie.Need-take-row-requires
 take-row-requires c κs =
     let x = numbers (c .before .before .before .before .before .before) in
     let e = c .before .before .before .before .before .before .before .before .before .before .before .before in
-    (held (e .before .before .before), row-long _ _ _ _ x _, row-below _ _ _ _ x _, x .value-below, e .if2 .left)
+    record {
+      inverse = held (e .before .before .before);
+      row = row-for _ _ _ x _;
+      value-below = x .value-below;
+      mix-long = e .if2 .left;
+    }
 
 enum-known-kind : tie.Need-enum-known-kind
 enum-known-kind c = search needs
@@ -120,8 +126,8 @@ returns-3 c =
     let r = v .before .before .before in
     let e = r .before .before .before in
     let board = held (e .before .before .before) .board in
-    take-read _ _ _ board (e .if2 .left) _ _ _ (r .read-frame .ensures) _ (v .v .given .1) _ _
-    (c .before .before .before .before .take-row .ensures (board .prime))
+    take-read _ board _ _ (e .if2 .left) _ _ _ (r .read-frame .ensures) _ (v .v .given .1) _ _
+    (c .before .before .before .before .take-row .ensures)
 
 same-length-5 : tie.Need-same-length-5
 same-length-5 c = search needs
@@ -132,7 +138,7 @@ returns-4 c =
     let r = k .before .before .before in
     let e = r .before .before .before in
     let board = held (e .before .before .before) .board in
-    take-unread _ _ _ board (e .if2 .left) _ _ _ (r .read-frame .ensures) (k .kind .given .0 .0) (k .kind .given .1)
+    take-unread _ board _ _ (e .if2 .left) _ _ _ (r .read-frame .ensures) (k .kind .given .0 .0) (k .kind .given .1)
 
 pub take-spec : {M : Type 1} → statement M
 take-spec =

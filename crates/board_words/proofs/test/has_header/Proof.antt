@@ -1,19 +1,13 @@
 -- `board_words::test::has_header` meets its contract: each return refutes the clause that its test is about, and past all tests the
 -- last one decides.
 use mathlib.Core.Path.{_∙_, sym}
-use Prim.Native.Nat.{_≤_}
 use native.Mathlib.Omega.{arith}
 use borrow.Author.Needs.{needs}
 use Rattle.checks.proofs.Guards.{no-modulus, is-modulus}
 use Rattle.ledger.specs.Board.{sizeWord, countWord}
 use Rattle.algebra.proofs.Answers.{tells-no, tells-leb}
-use Rattle.board_words.proofs.TestSizes.{rows-most, board-long}
 use Rattle.board_words.proofs.test.has_header.Statement.{statement}
 use Rattle.board_words.proofs.test.has_header.Tie as tie
-
--- past the tests of n it is at most 64
-small : (c : tie.After-shared-slice-known5) → sizeWord (c .before .before .before .before .before .before .before .before .before .before .args .board .now) ≤ 64
-small c = c .before .if4 .left
 
 returns : tie.Need-returns
 returns c = tells-no (λ h. omega (arith, h .three))
@@ -45,17 +39,11 @@ shared-slice-read-n c = search needs
 cast-n : tie.Need-cast-n
 cast-n c = search needs
 
-add-if5 : tie.Need-add-if5
-add-if5 c = search needs
-
-mul-if5 : tie.Need-mul-if5
-mul-if5 c = omega (arith, rows-most (small c) (small c))
-
-add-if5-2 : tie.Need-add-if5-2
-add-if5-2 c = omega (arith, rows-most (small c) (small c))
+board-length-requires : tie.Need-board-length-requires
+board-length-requires c κs = c .before .if4 .left
 
 returns-5 : tie.Need-returns-5
-returns-5 c = tells-no (λ h. c .if5 .taken (h .long ∙ board-long _))
+returns-5 c = tells-no (λ h. c .if5 .taken (h .long ∙ sym (c .before .board-length .ensures)))
 
 shared-slice-read-result : tie.Need-shared-slice-read-result
 shared-slice-read-result c = search needs
@@ -65,16 +53,16 @@ shared-slice-read-result-2 c = search needs
 
 returns-6 : tie.Need-returns-6
 returns-6 c =
-    let s = c .before .before .before .before .before .before .before .before .before .before .before .before .before in
+    let s = c .before .before .before .before .before .before .before .before .before .before .before .before .before .before in
     let ws = s .args .board .now in
-    let e2 = c .before .before .before .before .before .before .before .before in
+    let e2 = c .before .before .before .before .before .before .before .before .before in
     tells-leb (countWord ws) (sizeWord ws)
     (λ h.
     record {
       three = omega arith;
       prime = is-modulus _ _ (e2 .before .is-modulus .ensures) (e2 .if2 .left);
       size = (omega arith, omega arith);
-      long = c .before .before .if5 .left ∙ sym (board-long _);
+      long = c .before .before .if5 .left ∙ c .before .before .before .board-length .ensures;
       count = h;
     })
     (λ h. h .count)
@@ -93,9 +81,7 @@ has-header-spec =
     returns-4
     shared-slice-read-n
     cast-n
-    add-if5
-    mul-if5
-    add-if5-2
+    board-length-requires
     returns-5
     shared-slice-read-result
     shared-slice-read-result-2

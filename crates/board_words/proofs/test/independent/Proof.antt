@@ -8,8 +8,8 @@ use lib.ListN.{length, drop}
 use lib.Seq.{length-take-le}
 use borrow.Author.Needs.{needs}
 use Rattle.ledger.specs.Board.{sizeWord, countWord}
-use Rattle.board_words.proofs.TestSizes.{rows-end, rows-inside, table-most}
-use Rattle.board_words.proofs.TestIndependent.{Room, board-ready, board-marks, board-inverted}
+use Rattle.board_words.proofs.TestSizes.{count-most, rows-inside, table-most}
+use Rattle.board_words.proofs.TestIndependent.{EliminationRoom, board-ready, board-marks, board-inverted}
 use Rattle.board_words.proofs.test.independent.Statement.{statement}
 use Rattle.board_words.proofs.test.independent.Tie as tie
 
@@ -25,7 +25,7 @@ rooms-of c = c .before .before .before .before .before
 
 -- there are few rows
 few : (s : tie.Start) → countWord (s .args .board .now) ≤ 64
-few s = omega (arith, s .pre .0 .count, s .pre .0 .size .1)
+few s = count-most _ (s .pre .0)
 
 small : (s : tie.Start) → countWord (s .args .board .now) * sizeWord (s .args .board .now) ≤ 4096
 small s = table-most (few s) (s .pre .0 .size .1)
@@ -39,7 +39,7 @@ rows-room c =
     omega (arith, small s, copied-of c .copy-rows .ensures .same-length, s .pre .2 .0)
 
 -- the memory lent to the elimination
-room : (c : tie.After-row-room2) → Room (start-of c .args .d .now) (c .before .row-room .result) (c .row-room2 .result)
+room : (c : tie.After-row-room2) → EliminationRoom (start-of c .args .d .now) (c .before .row-room .result) (c .row-room2 .result)
 room c =
     let s = start-of c in
     record {
@@ -78,7 +78,7 @@ copy-rows-requires c κs =
     record {
       k-most = few s;
       n-most = s .pre .0 .size .1;
-      inside = rw rows-end (rows-inside _ (s .pre .0));
+      inside = rows-inside _ (s .pre .0);
       room = s .pre .2 .0;
     }
 

@@ -1,22 +1,25 @@
 -- `board_words::test::is_filled` meets its contract: the entries are below p and what stands behind the rows is 0 exactly if the words
 -- are filled as a board's.
-use Prim.Native.Nat.{_+_, _*_, _≤_}
+use Prim.Native.Nat.{_≤_}
 use native.Mathlib.Omega.{arith}
 use lib.ListN.{length}
 use borrow.Author.Needs.{needs}
-use Rattle.ledger.specs.Board.{sizeWord, countWord}
+use Rattle.ledger.specs.Board.{headerLength, sizeWord, countWord}
+use Rattle.ledger.proofs.LayoutPlaces.{row-behind, row-most}
 use Rattle.algebra.proofs.Answers.{tells-no, tells-same, guard-left, guard-taken}
-use Rattle.board_words.proofs.TestSizes.{rows-most, rows-inside}
+use Rattle.board_words.proofs.TestSizes.{count-most, rows-inside}
 use Rattle.board_words.proofs.TestFilled.{filled-below, filled-zero, parts-filled}
 use Rattle.board_words.proofs.test.is_filled.Statement.{statement}
 use Rattle.board_words.proofs.test.is_filled.Tie as tie
 
--- the rows are few, and lie in the words
-few : (s : tie.Start) → countWord (s .args .board .now) * (sizeWord (s .args .board .now) + 1) ≤ 4160
-few s = rows-most (omega (arith, s .pre .count, s .pre .size .1)) (s .pre .size .1)
-
-inside : (s : tie.Start) → 3 + countWord (s .args .board .now) * (sizeWord (s .args .board .now) + 1) ≤ length (s .args .board .now)
-inside s = rows-inside _ (s .pre)
+-- the end of the rows is behind the header, and lies in the words
+end : (c : tie.After-row-start) →
+    let ws = c .before .before .before .before .args .board .now in
+    (headerLength ≤ c .row-start .result) × (c .row-start .result ≤ length ws)
+end c =
+    let s = c .before .before .before .before in
+    let ws = s .args .board .now in
+    (omega (arith, c .row-start .ensures, row-behind (sizeWord ws) (countWord ws)), omega (arith, c .row-start .ensures, rows-inside ws (s .pre)))
 
 shared-slice-read-n : tie.Need-shared-slice-read-n
 shared-slice-read-n c = search needs
@@ -30,43 +33,41 @@ shared-slice-read-k c = search needs
 cast-k : tie.Need-cast-k
 cast-k c = search needs
 
-add-end : tie.Need-add-end
-add-end c = search needs
-
-mul-end : tie.Need-mul-end
-mul-end c = omega (arith, few (c .before .before .before))
-
-add-end-2 : tie.Need-add-end-2
-add-end-2 c = omega (arith, few (c .before .before .before))
+row-start-requires : tie.Need-row-start-requires
+row-start-requires c κs = let s = c .before .before .before in (s .pre .size .1, count-most _ (s .pre))
 
 shared-slice-read-all-below : tie.Need-shared-slice-read-all-below
 shared-slice-read-all-below c = search needs
 
 sub-all-below : tie.Need-sub-all-below
-sub-all-below c = search needs
+sub-all-below c = end (c .before) .0
 
 part-all-below-start : tie.Need-part-all-below-start
-part-all-below-start c = search needs
+part-all-below-start c = end (c .before) .0
 
 part-all-below-end : tie.Need-part-all-below-end
-part-all-below-end c = inside (c .before .before .before .before)
+part-all-below-end c = end (c .before) .1
 
 all-below-requires : tie.Need-all-below-requires
 all-below-requires c κs = search needs
 
 returns : tie.Need-returns
 returns c =
-    let s = c .before .before .before .before .before .before .before in
-    tells-no (λ f. guard-taken (c .before .all-below .ensures) (c .if1 .taken) (filled-below _ (s .pre) f))
+    let e = c .before .before .before .before in
+    let s = e .before .before .before .before in
+    tells-no (λ f. guard-taken (rw (e .row-start .ensures) at (c .before .all-below .ensures)) (c .if1 .taken) (filled-below _ (s .pre) f))
 
 mul-all-zero : tie.Need-mul-all-zero
-mul-all-zero c = omega (arith, few (c .before .before .before .before .before .before .before))
+mul-all-zero c =
+    let e = c .before .before .before .before in
+    let s = e .before .before .before .before in
+    omega (arith, e .row-start .ensures, row-most (sizeWord (s .args .board .now)) (s .pre .size .1) _ (count-most _ (s .pre)))
 
 sub-all-zero : tie.Need-sub-all-zero
-sub-all-zero c = inside (c .before .before .before .before .before .before .before)
+sub-all-zero c = end (c .before .before .before .before) .1
 
 part-all-zero-start : tie.Need-part-all-zero-start
-part-all-zero-start c = inside (c .before .before .before .before .before .before .before)
+part-all-zero-start c = end (c .before .before .before .before) .1
 
 part-all-zero-end : tie.Need-part-all-zero-end
 part-all-zero-end c = search needs
@@ -76,9 +77,11 @@ all-zero-requires c κs = search needs
 
 returns-2 : tie.Need-returns-2
 returns-2 c =
-    let s = c .before .before .before .before .before .before .before .before .before in
     let e = c .before .before in
-    tells-same (parts-filled _ (s .pre) (guard-left (e .before .all-below .ensures) (e .if1 .left))) (filled-zero _ (s .pre)) (c .all-zero .ensures)
+    let r = e .before .before .before .before in
+    let s = r .before .before .before .before in
+    tells-same (parts-filled _ (s .pre) (guard-left (rw (r .row-start .ensures) at (e .before .all-below .ensures)) (e .if1 .left)))
+    (filled-zero _ (s .pre)) (rw (r .row-start .ensures) at (c .all-zero .ensures))
 
 pub is-filled-spec : {M : Type 1} → statement M
 is-filled-spec =
@@ -88,9 +91,7 @@ is-filled-spec =
     cast-n
     shared-slice-read-k
     cast-k
-    add-end
-    mul-end
-    add-end-2
+    row-start-requires
     shared-slice-read-all-below
     sub-all-below
     part-all-below-start

@@ -1,0 +1,158 @@
+-- `board_solve::records::show_records` meets its contract. The loop's invariant: the records passed are shown as the ledger shows them.
+use mathlib.Core.Path.{_≡_, sym, _∙_}
+use mathlib.Core.Logic.{⊎-elim}
+use Prim.Native.Nat.{_-_, _≤_}
+use native.Mathlib.Omega.{arith}
+use mir.Syntax.{w32}
+use mir.Val.{SFits}
+use Rattle.ledger.specs.Board.{IsBoard, sizeWord, entriesOf}
+use Rattle.board_solve.proofs.RecordShown.{ShownBelow, shown-none, shown-all, turn-shown, turn-hidden}
+use Rattle.board_solve.proofs.records.show_records.Statement.{statement}
+use Rattle.board_solve.proofs.records.show_records.Tie as tie
+
+abbrev Inv-loop : tie.InvT-loop
+Inv-loop board rows d marks₀ numbers₀ p n k j₀ marks numbers j = (j ≤ n) × ShownBelow p n (entriesOf board) j marks numbers
+
+abbrev μ-loop : tie.MeasureT-loop
+μ-loop board rows d marks₀ numbers₀ p n k j₀ marks numbers j = n - j
+
+-- the board of a call
+board : (s : tie.Start Inv-loop μ-loop) → IsBoard (s .args .board .now)
+board s = s .pre .0 .board
+
+shared-slice-read-p : tie.Need-shared-slice-read-p Inv-loop μ-loop
+shared-slice-read-p c = omega (arith, board (c .before .before .before .before .before) .three)
+
+shared-slice-read-n : tie.Need-shared-slice-read-n Inv-loop μ-loop
+shared-slice-read-n c = omega (arith, board (c .before .before .before .before .before .before) .three)
+
+cast-n : tie.Need-cast-n Inv-loop μ-loop
+cast-n c = omega (arith, board (c .before .before .before .before .before .before) .size)
+
+shared-slice-read-k : tie.Need-shared-slice-read-k Inv-loop μ-loop
+shared-slice-read-k c = omega (arith, board (c .before .before .before .before .before .before .before) .three)
+
+cast-k : tie.Need-cast-k Inv-loop μ-loop
+cast-k c =
+    let b = board (c .before .before .before .before .before .before .before) in omega (arith, b .size, b .count)
+
+loop-holds : tie.Need-loop-holds Inv-loop μ-loop
+loop-holds c =
+    let s = c .before .before .before .before .before .before .before in (omega arith, shown-none _ _ _ _ _ (s .pre .1) (s .pre .2))
+
+settled-requires : tie.Need-settled-requires Inv-loop μ-loop
+settled-requires c κs =
+    let s = c .before .before .before .before .before .before .before .before .before in
+    let b = board s in
+    let H = s .pre .0 in (
+      b .prime .prime .two-or-more,
+      b .prime .in-range,
+      b .size .1,
+      omega (arith, b .size, b .count),
+      c .loop-test .taken,
+      H .work .rows-long,
+      H .work .d-long,
+      H .work .rows-below,
+      H .work .d-below,
+    )
+
+mul-marks : tie.Need-mul-marks Inv-loop μ-loop
+mul-marks c = omega arith
+
+slice-write-marks : tie.Need-slice-write-marks Inv-loop μ-loop
+slice-write-marks c = omega arith
+
+record-at-requires : tie.Need-record-at-requires Inv-loop μ-loop
+record-at-requires c κs =
+    let s = c .before .before .before .before .before .before .before .before .before .before .before in
+    let b = board s in
+    (b .prime .prime .two-or-more, b .prime .in-range, b .size .1, b .count, c .before .before .loop-test .taken, b .long, s .pre .0 .work .d-long)
+
+mul-t16 : tie.Need-mul-t16 Inv-loop μ-loop
+mul-t16 c = omega arith
+
+slice-set-from-numbers : tie.Need-slice-set-from-numbers Inv-loop μ-loop
+slice-set-from-numbers c = omega arith
+
+mul-marks-2 : tie.Need-mul-marks-2 Inv-loop μ-loop
+mul-marks-2 c = omega arith
+
+slice-write-marks-2 : tie.Need-slice-write-marks-2 Inv-loop μ-loop
+slice-write-marks-2 c = omega arith
+
+mul-numbers : tie.Need-mul-numbers Inv-loop μ-loop
+mul-numbers c = omega arith
+
+slice-set-of-numbers : tie.Need-slice-set-of-numbers Inv-loop μ-loop
+slice-set-of-numbers c = omega arith
+
+add-j : tie.Need-add-j Inv-loop μ-loop
+add-j c = omega arith
+
+loop-less : tie.Need-loop-less Inv-loop μ-loop
+loop-less c = omega arith
+
+loop-again : tie.Need-loop-again Inv-loop μ-loop
+loop-again c =
+    let t = c .before in
+    let l = t .before .before .loop in
+    let s = t .before .before .before .before .before .before .before .before .before .before in
+    let a = s .args in
+    let inside = t .before .loop-test .taken in (
+      omega arith,
+      ⊎-elim
+          (λ w.
+          let fits : SFits w32 (w .1 .result) = record { sfits = w .1 .ok } in
+          rw (w .2, w .3)
+          (turn-shown (a .board .now) (a .rows .now) (a .d .now) (s .pre .0) (l .j) (l .marks) (l .numbers) inside (l .inv .1)
+          (w .1 .result) fits (t .settled .ensures .0 (w .0 .taken)) (w .1 .ensures)))
+          (λ w.
+          rw (w .1, w .2)
+          (turn-hidden (a .board .now) (a .rows .now) (a .d .now) (s .pre .0) (l .j) (l .marks) (l .numbers) inside (l .inv .1)
+          (t .settled .ensures .1 (w .0 .left))))
+          (c .if1 .came),
+    )
+
+same-length : tie.Need-same-length Inv-loop μ-loop
+same-length c =
+    let s = c .before .before .before .before .before .before .before .before .before in c .before .loop .inv .1 .marks-long ∙ sym (s .pre .1)
+
+same-length-2 : tie.Need-same-length-2 Inv-loop μ-loop
+same-length-2 c =
+    let s = c .before .before .before .before .before .before .before .before .before in c .before .loop .inv .1 .numbers-long ∙ sym (s .pre .2)
+
+returns : tie.Need-returns Inv-loop μ-loop
+returns c =
+    let l = c .before .loop in
+    let s = c .before .before .before .before .before .before .before .before .before in
+    let end : l .j ≡ sizeWord (s .args .board .now) = omega arith in
+    shown-all _ _ _ (l .marks) (l .numbers) (rw end at (l .inv .1))
+
+pub show-records-spec : {M : Type 1} → statement M
+show-records-spec =
+    tie.close
+    (tie.spec
+    Inv-loop
+    μ-loop
+    shared-slice-read-p
+    shared-slice-read-n
+    cast-n
+    shared-slice-read-k
+    cast-k
+    loop-holds
+    settled-requires
+    mul-marks
+    slice-write-marks
+    record-at-requires
+    mul-t16
+    slice-set-from-numbers
+    mul-marks-2
+    slice-write-marks-2
+    mul-numbers
+    slice-set-of-numbers
+    add-j
+    loop-less
+    loop-again
+    same-length
+    same-length-2
+    returns)
