@@ -22,7 +22,7 @@ use Rattle.ledger.specs.Steps.{ledgerTake}
 use Rattle.ledger.specs.Board.{IsBoard, modulusWord, sizeWord, entriesOf, ledgerOf}
 use Rattle.ledger.specs.Calls.{laidOut, takeCall}
 use Rattle.ledger.proofs.Parse.{board-layout}
-use Rattle.ledger.proofs.Proper.{Numbers, accepted-numbers}
+use Rattle.frame.proofs.Round.{Numbers, accepted-numbers}
 use Rattle.ledger.proofs.LedgerLaws.{take-length-first, take-rejected, take-accepted}
 use Rattle.ledger.proofs.WordsCalls.{take-on-board}
 use Rattle.board_solve.specs.Combination.{RowFor}

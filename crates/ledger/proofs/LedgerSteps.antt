@@ -3,30 +3,18 @@
 use mathlib.Core.Path.{_≡_, refl}
 use mathlib.Core.List.{List, [], _∷_, _++_}
 use Prim.Native.Nat.{ℕ, suc, _-_, _≤_}
-use native.Mathlib.Decide.{decLe, decLt, ℕ-discrete}
 use native.Mathlib.Omega.{arith}
 use lib.IntN.{ℤ}
 use lib.ListN.{length, take}
-use Rattle.algebra.proofs.Choice.{pick-elim, pick-by-elim}
+use Rattle.algebra.proofs.Choice.{pick-by-elim}
 use Rattle.checks.specs.declared.Refusal.{Refusal}
 use Rattle.checks.specs.Refusal.{refusalNumber}
 use Rattle.checks.specs.Told.{refused, results}
 use Rattle.checks.specs.Outcome.{Outcome, outcome, untouched}
 use Rattle.checks.specs.Prime.{IsModulus}
 use Rattle.checks.proofs.InOrder.{in-order-elim, kind-of-list}
-use Rattle.frame.specs.Format.{mapLength}
-use Rattle.frame.specs.Reading.{
-  Found,
-  accepted,
-  rejected,
-  judgeValue,
-  judge,
-  readNumbers,
-  readFrame,
-  frameLength,
-  unpadded?,
-  frameNumbers,
-}
+use Rattle.frame.specs.Reading.{Found, accepted, rejected, readFrame}
+use Rattle.frame.proofs.ReadChecks.{reading-elim}
 use Rattle.ledger.specs.Ledger.{entry, Ledger, ledger, InSpan}
 use Rattle.ledger.specs.Decide.{inSpan?}
 use Rattle.ledger.specs.Steps.{
@@ -52,24 +40,8 @@ abbrev Judged : Found → Type 0
 Judged (accepted xs v) = Unit {0}
 Judged (rejected k) = StepKind k
 
-judged : (p : ℕ) (ns xs : List ℕ) (v : ℕ) → Judged (judge p ns xs v)
-unfolding judge judgeValue
-judged p [] xs v = pick-elim Judged (decLt v p) _ _ (λ _. tt) (λ _ e. omega arith)
-judged p (x ∷ ns) xs v =
-    pick-elim Judged (ℕ-discrete x 0) _ _ (λ _ e. omega arith)
-    (λ _. pick-elim Judged (decLt x p) _ _ (λ _. judged p ns xs v) (λ _ e. omega arith))
-
 read-judged : (p n : ℕ) (bytes : List ℕ) → Judged (readFrame p n bytes)
-unfolding readFrame readNumbers
-read-judged p n bytes =
-    pick-elim Judged (decLe (mapLength n) (length bytes)) _ _
-    (λ _.
-    pick-elim Judged (unpadded? n bytes) _ _
-    (λ _.
-    pick-elim Judged (ℕ-discrete (length bytes) (frameLength n bytes)) _ _ (λ _. judged p (frameNumbers n bytes) _ _)
-    (λ _ e. omega arith))
-    (λ _ e. omega arith))
-    (λ _ e. omega arith)
+read-judged p n bytes = reading-elim Judged p n bytes (λ xs v. tt) (λ k r e. omega arith)
 
 module _ (p : ℕ) (ok : IsModulus p) (n : ℕ) (l : Ledger) (frame mix : List ℕ) where
   pub data Took : Outcome (Ledger × List ℕ) → Type 0 where

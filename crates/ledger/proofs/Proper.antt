@@ -18,10 +18,7 @@ use Rattle.checks.specs.declared.Refusal.the-variants.{FrameLength, Padding}
 use Rattle.field.specs.Residue.{reduce, residues}
 use Rattle.words.specs.Words.{Below}
 use Rattle.field.proofs.Field.{residues-field, residues-ring}
-use Rattle.frame.specs.Format.{mapLength}
-use Rattle.frame.specs.Reading.{accepted, readFrame, readNumbers, unpadded?, recordBits, frameLength, frameNumbers}
-use Rattle.frame.proofs.RoundMap.{record-bits-length}
-use Rattle.frame.proofs.RoundNumbers.{accepted-if, judge-passed, spread-length, spread-below}
+use Rattle.frame.proofs.Round.{Numbers, accepted-numbers}
 use Rattle.ledger.specs.Ledger.{Entry, entry, noEntry, Ledger, ledger, InSpan, multiplierRows}
 use Rattle.checks.specs.Outcome.{Outcome}
 use Rattle.ledger.specs.History.{Call, ledgerStep}
@@ -36,29 +33,6 @@ use Rattle.ledger.proofs.RankRows.{
   append-independent,
   independent-most,
 }
-
--- ---- what reading accepts
-
--- n multipliers and a value, all below p
-pub record Numbers (p n : ℕ) (xs : List ℕ) (v : ℕ) : Type 0 where
-  pub long : length xs ≡ n
-  pub below : Below p xs
-  pub value-below : v < p
-
-pub accepted-numbers : (p n : ℕ) (bytes xs : List ℕ) (v : ℕ) → readFrame p n bytes ≡ accepted xs v → Numbers p n xs v
-unfolding readFrame readNumbers
-accepted-numbers p n bytes xs v e =
-    let (h, e1) = accepted-if (decLe (mapLength n) (length bytes)) _ FrameLength xs v e in
-    let (u, e2) = accepted-if (unpadded? n bytes) _ Padding xs v e1 in
-    let (l, e3) = accepted-if (ℕ-discrete (length bytes) (frameLength n bytes)) _ FrameLength xs v e2 in
-    let t = judge-passed p (frameNumbers n bytes) _ _ xs v e3 in
-    record {
-      long = rw (← (t .multipliers)) (spread-length (recordBits n bytes) (frameNumbers n bytes) ∙ record-bits-length n bytes);
-      below =
-          rw (← (t .multipliers))
-          (spread-below p (recordBits n bytes) (frameNumbers n bytes) (omega (arith, t .value-below)) (t .below));
-      value-below = rw (← (t .value)) (t .value-below);
-    }
 
 -- ---- an entry more
 

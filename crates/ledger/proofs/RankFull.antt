@@ -18,7 +18,7 @@ use Rattle.algebra.proofs.Applied as applied
 use Rattle.algebra.proofs.Marks.{by-test, is-true}
 use Rattle.algebra.proofs.Kernel.{kernel-vector-in, kernel-vector-own, kernel-vector-chosen}
 use Rattle.algebra.proofs.Settled.{agree-if, agree-only-if}
-use Rattle.algebra.proofs.Exists.{Solved, solved}
+use Rattle.algebra.proofs.Exists.{PivotInverse, pivot-inverse}
 use Rattle.algebra.proofs.Decide.{cut, cut-sized}
 use Rattle.algebra.proofs.Independent.{count-next, count-most, all-marked, all-counted}
 use Rattle.ledger.proofs.LayoutTables.{mixed-agree}
@@ -43,8 +43,8 @@ module _ (R : Ring) (F : IsField R) (k n : ℕ) (X : Matrix R) where
   C = cut R k n X
 
   -- the quasiinverse of the rows
-  S : Solved R k n C
-  S = solved R F k n C (cut-sized R k n X)
+  S : PivotInverse R k n C
+  S = pivot-inverse R F k n C (cut-sized R k n X)
 
   to-cut : (x w : Vector R) → Solves R k n X x w → Solves R k n C x w
   to-cut x w s i h = apply-alike R C X (cut-alike R k n X) x i h ∙ s i h
@@ -64,7 +64,7 @@ module _ (R : Ring) (F : IsField R) (k n : ℕ) (X : Matrix R) where
           (λ e.
           F .one-not-zero
           (sym (kernel-vector-own R L (S .holds) c c e ∙ sums.unit-same R c)
-          ∙ agree-only-if R L (S .holds) w z (to-cut z w s) c c l (z c) (λ x t. agree c l x z (from-cut x w t) s)))
+          ∙ agree-only-if R L (S .holds .absorbs) w z (to-cut z w s) c c l (z c) (λ x t. agree c l x z (from-cut x w t) s)))
 
   -- n independent rows: the solutions agree at every column
   pub full-agree : k ≡ n → Independent R k n X → (w x y : Vector R) → Solves R k n X x w → Solves R k n X y w
@@ -76,7 +76,7 @@ module _ (R : Ring) (F : IsField R) (k n : ℕ) (X : Matrix R) where
 
       at : (v : Vector R) → Solves R k n X v w → v j ≡ apply R k (S .D) w j
       at v h =
-          agree-if R L (S .holds) w j l (λ c b. kernel-vector-chosen R L (S .holds) c j (all-marked n (S .I) counted c b)) v (to-cut v w h)
+          agree-if R L (S .holds .absorbs) w j l (λ c b. kernel-vector-chosen R L (S .holds) c j (all-marked n (S .I) counted c b)) v (to-cut v w h)
 
   -- fewer rows than columns: the unit row of some column is no combination of them, as the kernel vector of a column outside I
   -- is 1 on it and 0 on the rows
@@ -93,7 +93,7 @@ module _ (R : Ring) (F : IsField R) (k n : ℕ) (X : Matrix R) where
           (λ j b. ap (λ a. R .times a (x j)) (h j b ∙ sym (mixed-agree R k n C X (cut-alike R k n X) u j b)))
           ∙ applied.mixed-apply R L n k u C x
           ∙ sums.sum-zeros R L k (λ s. R .times (u s) (apply R n C x s))
-          (λ s b. ap (R .times (u s)) (kernel-vector-in R L (S .holds) c l s b) ∙ rings.times-zero R L (u s)))
+          (λ s b. ap (R .times (u s)) (kernel-vector-in R L (S .holds .absorbs) c l s b) ∙ rings.times-zero R L (u s)))
         where
           x : Vector R
           x = kernelVector R k (S .D) C c

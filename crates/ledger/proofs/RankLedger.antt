@@ -38,7 +38,7 @@ use Rattle.algebra.specs.Span.{IsCombination, Independent}
 use Rattle.algebra.specs.Quasiinverse.{Marks, count, IsPivotInverse}
 use Rattle.algebra.proofs.Counts.{count-same}
 use Rattle.algebra.proofs.Rank.{same-span-same-rank}
-use Rattle.algebra.proofs.Exists.{Solved, solved}
+use Rattle.algebra.proofs.Exists.{PivotInverse, pivot-inverse}
 use Rattle.algebra.proofs.Decide.{cut, cut-inside, cut-sized}
 use Rattle.algebra.proofs.Independent.{all-counted}
 use Rattle.checks.specs.Told.{refused}
@@ -114,8 +114,8 @@ module _ (p : ℕ) (ok : IsModulus p) (n : ℕ) where
   rank-counted xss {J = J} Q =
       count-same (length xss) (rowMarks p ok n xss) J (λ y h. sym (chosen-rows (residues p) F (residueRows p xss) Q y h))
 
-  quasi : (xss : List (List ℕ)) → Solved (residues p) (length xss) n (rowsCut xss)
-  quasi xss = solved (residues p) F (length xss) n (rowsCut xss) (cut-sized (residues p) (length xss) n (residueRows p xss))
+  quasi : (xss : List (List ℕ)) → PivotInverse (residues p) (length xss) n (rowsCut xss)
+  quasi xss = pivot-inverse (residues p) F (length xss) n (rowsCut xss) (cut-sized (residues p) (length xss) n (residueRows p xss))
 
   -- rows of one list, each a combination of the rows of the other, when both are cut to size
   rows-spanned : (xss yss : List (List ℕ)) → ((xs : List ℕ) → List·Memᴰ xs xss → Spanned p n yss xs)

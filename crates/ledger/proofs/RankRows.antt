@@ -1,6 +1,6 @@
 -- What a ledger needs to know of rows over a ring or a field: which rows and numbers count, that a front of independent rows
 -- is independent and so are rows with one more that is no combination of them, that independent rows of n numbers are at most
--- n, combine in one way only, and let every system be solved.
+-- n, combine in one way only, and let every system be pivot-inverse.
 use mathlib.Core.Path.{_≡_, sym, ap, ap₂, _∙_}
 use mathlib.Core.Bool.{true, false}
 use mathlib.Core.Logic.{⊎-elim}
@@ -18,7 +18,7 @@ use Rattle.algebra.proofs.Rings as rings
 use Rattle.algebra.proofs.Sums as sums
 use Rattle.algebra.proofs.Applied as applied
 use Rattle.algebra.proofs.Transpose.{mixed-transpose}
-use Rattle.algebra.proofs.Exists.{Solved, solved}
+use Rattle.algebra.proofs.Exists.{PivotInverse, pivot-inverse}
 use Rattle.algebra.proofs.Decide.{cut, cut-inside, cut-sized, combination?}
 use Rattle.algebra.proofs.Choice.{pick-elim}
 use Rattle.algebra.proofs.Marks.{is-true, is-false}
@@ -172,7 +172,7 @@ module _ (R : Ring) (F : IsField R) where
   -- independent rows of n numbers are at most n
   pub independent-most : (k n : ℕ) (X : Matrix R) → Independent R k n X → k ≤ n
   independent-most k n X free =
-      let S = solved R F k n (cut R k n X) (cut-sized R k n X) in
+      let S = pivot-inverse R F k n (cut R k n X) (cut-sized R k n X) in
       omega (arith, all-counted k (S .J) (all-chosen k n X free (S .holds)), S .holds .equally-many, count-most n (S .I))
 
   -- every system of independent rows has a solution: A D = 1
@@ -189,8 +189,8 @@ module _ (R : Ring) (F : IsField R) where
       C : Matrix R
       C = cut R k n X
 
-      S : Solved R k n C
-      S = solved R F k n C (cut-sized R k n X)
+      S : PivotInverse R k n C
+      S = pivot-inverse R F k n C (cut-sized R k n X)
 
       D : Matrix R
       D = S .D

@@ -5,7 +5,7 @@ use native.Mathlib.Omega.{arith}
 use lib.Seq.{length-take-le}
 use borrow.Author.Needs.{needs}
 use Rattle.ledger.specs.Board.{modulusWord, sizeWord}
-use Rattle.ledger.proofs.Proper.{Numbers}
+use Rattle.frame.proofs.Round.{Numbers}
 use Rattle.ledger.proofs.WordsCalls.{take-off-board}
 use Rattle.board_words.specs.Inverse.{BoardInverse}
 use Rattle.board_calls.proofs.CallBoard.{is-held, no-board}
