@@ -82,7 +82,7 @@ module _ (ws rows d f c g : List ℕ) (H : BoardInverse ws rows d) (row : RowFor
       at : (j : ℕ) → j < n → getD f j 0 ≡ getD (take n g) j 0
       at j l =
           reduce-injective p (getD f j 0) (getD g j 0) (row .below j l) (mixed-below p (take k c) rows n g mixed-g positive j l)
-          (combination-found (residues p) (residues-ring p positive) (H .work .inverse) (residuesOf p f) u h j l
+          (combination-found (residues p) (residues-ring p positive) (H .work .inverse .absorbs) (residuesOf p f) u h j l
           ∙ mixed-same (residues p) k (mixed (residues p) n (residuesOf p f) (table p d 0 k n k)) (residuesOf p c) (table p rows 0 n k n)
           (λ t b. sym (first-mix t b)) j
           ∙ sym (second-mix j l))

@@ -37,7 +37,7 @@ module _
     pub unit-agree : (j : ℕ) → j < n → ((c : ℕ) → c < n → product R m D A j c ≡ unit R j c) → AgreeAt R m n A v j (apply R m D v j)
     unfolding kernelVector
     unit-agree j l row =
-        agree-if R L Q v j l (λ c h. ap (λ a. R .plus (unit R j c) (R .minus a)) (row c h) ∙ L .plus-minus (unit R j c))
+        agree-if R L (Q .absorbs) v j l (λ c h. ap (λ a. R .plus (unit R j c) (R .minus a)) (row c h) ∙ L .plus-minus (unit R j c))
 
     -- and the other way round
     pub agree-unit : (j : ℕ) → ((x y : Vector R) → Solves R m n A x v → Solves R m n A y v → x j ≡ y j)
@@ -46,5 +46,5 @@ module _
     agree-unit j agree c h =
         sym
         (rings.difference-zero R L (unit R j c) (product R m D A j c)
-        (agree-only-if R L Q v (apply R m D v) inverse-solves j c h (apply R m D v j)
+        (agree-only-if R L (Q .absorbs) v (apply R m D v) inverse-solves j c h (apply R m D v j)
         (λ x s. agree x (apply R m D v) s inverse-solves)))

@@ -20,15 +20,16 @@ combine-requires : tie.Need-combine-requires
 combine-requires c κs =
     let s = c .before .before .before .before in
     let m = s .pre in
-    let e = slice-aggregate-combine c in (
-      m .positive,
-      m .in-range,
-      m .few,
-      omega (arith, m .narrow, e),
-      m .by-below,
-      m .table-below,
-      λ t h. omega (arith, e, m .table-long, row-inside t (s .args .width) (omega (arith, m .few)) (m .narrow)),
-    )
+    let e = slice-aggregate-combine c in
+    record {
+      positive = m .positive;
+      in-range = m .in-range;
+      few = m .few;
+      narrow = omega (arith, m .narrow, e);
+      by-below = m .by-below;
+      table-below = m .table-below;
+      inside = λ t h. omega (arith, e, m .table-long, row-inside t (s .args .width) (omega (arith, m .few)) (m .narrow));
+    }
 
 same-length : tie.Need-same-length
 same-length c = search needs

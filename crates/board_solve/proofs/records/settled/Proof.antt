@@ -66,15 +66,16 @@ combine-requires c κs =
     let s = z .before .before .before .before .before .before in
     let n = s .args .n in
     let long = part-in-d s in
-    let front = front-length n (z .row-room .result) (omega arith) (z .row-room .ensures) in (
-      omega arith,
-      s .pre .1,
-      omega (arith, long),
-      omega (arith, front),
-      part-below (s .args .k) (s .args .j) (s .args .d .now) (omega (arith, in-d s)) (s .pre .8),
-      s .pre .7,
-      λ t h. let inside : t < 64 = omega (arith, long) in omega (arith, front, row-inside t n inside (s .pre .2)),
-    )
+    let front = front-length n (z .row-room .result) (omega arith) (z .row-room .ensures) in
+    record {
+      positive = omega arith;
+      in-range = s .pre .1;
+      few = omega (arith, long);
+      narrow = omega (arith, front);
+      by-below = part-below (s .args .k) (s .args .j) (s .args .d .now) (omega (arith, in-d s)) (s .pre .8);
+      table-below = s .pre .7;
+      inside = λ t h. let short : t < 64 = omega (arith, long) in omega (arith, front, row-inside t n short (s .pre .2));
+    }
 
 -- the row that `combine` leaves
 abbrev out : tie.After-combine → List ℕ
