@@ -9,3 +9,4 @@ pub mod Basis
 pub mod Checker
 pub mod CheckedTables
 pub mod Examples
+pub mod Order
