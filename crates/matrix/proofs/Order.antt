@@ -18,10 +18,10 @@ use Rattle.checks.proofs.InOrder.{fails-here}
 use Rattle.field.specs.Residue.{residues}
 use Rattle.field.specs.Written.{numbers}
 use Rattle.words.specs.Words.{Below}
-use Rattle.matrix.specs.Calls.{tableOf, inverseOf, quasiinverseCall, kernelCall, solveCall, wanted, candidate, firstRow, solution}
+use Rattle.matrix.specs.Calls.{tableOf, inverseOf, quasiinverseCall, kernelCall, solveCall, vectorOf, candidate, firstRow, solution}
 use Rattle.matrix.specs.Parts.{Checked, InverseRoom, System}
 use Rattle.matrix.proofs.Answers.{_then_, past-sizes, sizes-first, quasiinverse-refused, kernel-refused, solve-refused, solve-done}
-use Rattle.matrix.proofs.Solved.{solution-none}
+use Rattle.matrix.proofs.Systems.{solution-none}
 
 -- a check fails, or else a later one of the same kind
 or-later : {c : Check Refusal} {cs : Checks Refusal} → (c .Holds → FirstFailing cs (c .kind)) → FirstFailing (c ⨾ cs) (c .kind)
@@ -92,7 +92,7 @@ module _ (p m n : ℕ) (a : List ℕ) where
 
     -- "5 | no solution | u written, z untouched": where A(Dw) is not w
     pub solve-insoluble : (k : Checked p m n a) → System p m n w z u
-        → (Solves (residues p) m n (tableOf p m n a) (candidate p (k .is-modulus) m n a w) (wanted p (k .is-modulus) m n a w) → ⊥)
+        → (Solves (residues p) m n (tableOf p m n a) (candidate p (k .is-modulus) m n a w) (vectorOf p w) → ⊥)
         → outcome (refused Insoluble) (
           z,
           numbers m (mixOf (residues p) n (tableOf p m n a) (inverseOf p (k .is-modulus) m n a) (firstRow p (k .is-modulus) m n a w)),
