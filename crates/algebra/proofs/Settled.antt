@@ -15,7 +15,7 @@ use Rattle.algebra.proofs.Rings as rings
 use Rattle.algebra.proofs.Sums as sums
 use Rattle.algebra.proofs.Applied as applied
 use Rattle.algebra.proofs.Kernel.{kernel-vector-in}
-use Rattle.algebra.proofs.Solve as solve
+use Rattle.algebra.proofs.Solve.{candidate-solves}
 use Rattle.algebra.proofs.Exists.{PivotInverse, pivot-inverse}
 use Rattle.algebra.proofs.Decide.{cut, cut-sized, cut-inside}
 
@@ -116,7 +116,7 @@ module _ (R : Ring) (F : IsField R) where
           → Dec ((v : R .Carrier) × AgreeAt R m n A w j v)
       go (no f) b k =
           yes
-          (R .zero, λ x s. absurd (f (solves-cut m n A z w (solve.solved R (F .ring) (S .holds .absorbs) x w (cut-solves m n A x w s)))))
+          (R .zero, λ x s. absurd (f (solves-cut m n A z w (candidate-solves R (F .ring) (S .holds .absorbs) x w (cut-solves m n A x w s)))))
       go (yes s) (no b) k =
           no
           (λ (v, h).

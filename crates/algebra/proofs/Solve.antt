@@ -20,8 +20,8 @@ module _ (R : Ring) (L : IsCommutativeRing R) where
   infixl 70 _⊗_
   module _ {m n : ℕ} {A D : Matrix R} (E : Absorbs R m n A D) where
     -- if the system has a solution, D w is one
-    pub solved : (x w : Vector R) → Solves R m n A x w → Solves R m n A (apply R m D w) w
-    solved x w h i l =
+    pub candidate-solves : (x w : Vector R) → Solves R m n A x w → Solves R m n A (apply R m D w) w
+    candidate-solves x w h i l =
         applied.apply-same R n A (apply R m D w) (apply R m D (apply R n A x))
         (λ c k. applied.apply-same R m D w (apply R n A x) (λ t g. sym (h t g)) c) i
         ∙ absorbs-apply R L E x i

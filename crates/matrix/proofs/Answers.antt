@@ -40,14 +40,19 @@ pub past-sizes : {p m n : ℕ} {cs : Checks Refusal} {k : Refusal} → Given (ta
     → FirstFailing (andThen (tableSizes p m n) (λ _. cs)) k
 past-sizes s f = s .0 then s .1 .0 then f
 
--- what the function for 1 and 2 tells: they hold, or the kind of the first that fails, before whatever else is checked
+-- 1 or 2 fails, before whatever else is checked
+pub sizes-first : {p m n : ℕ} {cs : Checks Refusal} {k : Refusal} → FirstFailing (tableSizes p m n) k
+    → FirstFailing (andThen (tableSizes p m n) (λ _. cs)) k
+sizes-first {p} {m} {n} {cs} f = fails-in-front (tableSizes p m n) (λ _. cs) f
+
+-- what the function for 1 and 2 tells: they hold, or the kind of the first that fails
 module _ {p m n : ℕ} {v : Verdict} (told : Judges (tableSizes p m n) v) where
   pub sizes-passed : v ≡ verdict.Passed → Given (tableSizes p m n)
   sizes-passed e = given (subst (Judges (tableSizes p m n)) e told)
 
   pub sizes-failed : {k : Refusal} {rest : Checks Refusal} → v ≡ verdict.Refused k
       → FirstFailing (andThen (tableSizes p m n) (λ _. rest)) k
-  sizes-failed {rest = rest} e = fails-in-front (tableSizes p m n) (λ _. rest) (subst (Judges (tableSizes p m n)) e told)
+  sizes-failed e = sizes-first (subst (Judges (tableSizes p m n)) e told)
 
 -- ---- quasiinverse
 

@@ -17,13 +17,13 @@ use Rattle.field.specs.Written.{numbers, tabulate}
 use Rattle.checks.specs.Prime.{IsModulus}
 use Rattle.checks.specs.Told.{results}
 use Rattle.checks.specs.Outcome.{outcome}
-use Rattle.matrix.specs.Calls.{tableOf, tableRank, vectorsFrom, firstFrom, quasiinverseCall, kernelCall, solveCall, solution}
-use Rattle.matrix.specs.Parts.{Checked, StoresInverse, InverseRoom, KernelVectors, StoresBasis, marked, vectorOf}
+use Rattle.matrix.specs.Calls.{tableOf, tableRank, vectorsFrom, firstFrom, quasiinverseCall, kernelCall, solveCall, solution, vectorOf}
+use Rattle.matrix.specs.Parts.{Checked, StoresInverse, InverseRoom, KernelVectors, StoresBasis, marked}
 use Rattle.matrix.specs.Examples.{Becomes, solvedBy, refusedBy, SystemExample, TableExample, tableExamples, systemOutcome, Holds}
 use Rattle.matrix.proofs.Stored.{rank-is}
 use Rattle.matrix.proofs.Answers.{quasiinverse-done, kernel-done, solve-done}
 use Rattle.matrix.proofs.Basis.{basis-filled, vectors-many}
-use Rattle.matrix.proofs.Solved.{Compared, solved-by, refused-by}
+use Rattle.matrix.proofs.Systems.{Compared, solved-by, refused-by}
 use Rattle.matrix.proofs.Checker.{_and_, every, everyBelow, isPivotInverse, both, every-member}
 use Rattle.matrix.proofs.CheckedTables.{
   areBelow,

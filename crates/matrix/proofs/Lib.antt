@@ -4,8 +4,9 @@ pub mod Vectors
 pub mod First
 pub mod Theorems
 pub mod Answers
-pub mod Solved
+pub mod Systems
 pub mod Basis
 pub mod Checker
 pub mod CheckedTables
 pub mod Examples
+pub mod Order

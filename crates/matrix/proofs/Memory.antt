@@ -27,7 +27,8 @@ use Rattle.field.proofs.Totals.{total, total-zero, total-suc}
 use Rattle.field.proofs.Views.{table-entry}
 use Rattle.words.proofs.Walk.{Walked}
 use Rattle.field.proofs.Written.{is-tabulate}
-use Rattle.matrix.specs.Parts.{crossed, marked, vectorOf}
+use Rattle.matrix.specs.Calls.{vectorOf}
+use Rattle.matrix.specs.Parts.{crossed, marked}
 
 -- numbers below p that read as the table D, n rows and m columns, are D written row by row
 pub rows-written : (p n m : ℕ) (d : List ℕ) (D : Matrix (residues p)) → Below p d → length d ≡ n * m → table p d 0 m n m ≡ D → d ≡ rowsOf n m D

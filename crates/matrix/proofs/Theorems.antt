@@ -20,11 +20,11 @@ use Rattle.algebra.proofs.Unique.{inverse-on, inverse-unique, is-quasiinverse}
 use Rattle.algebra.proofs.Rank.{rows-spanned}
 use Rattle.algebra.proofs.Marked.{same-span-rank}
 use Rattle.algebra.proofs.Kernel.{kernel-vector-in, kernel-vector-own, kernel-spanned, kernel-spanned-once}
-use Rattle.algebra.proofs.Solve.{solved, mix-kills, mix-shows}
+use Rattle.algebra.proofs.Solve.{candidate-solves, mix-kills, mix-shows}
 use Rattle.checks.specs.Prime.{IsModulus}
 use Rattle.field.specs.Residue.{residues, _⊗_}
 use Rattle.matrix.specs.Decide.{field, combinations, equal?}
-use Rattle.matrix.specs.Calls.{tableOf, columnsOf, rowMarksOf, tableRank, inverseOf, wanted, candidate, firstRow}
+use Rattle.matrix.specs.Calls.{tableOf, columnsOf, rowMarksOf, tableRank, inverseOf, vectorOf, candidate, firstRow}
 use Rattle.matrix.proofs.First.{first-or-none, picked-true, picked-false}
 use Rattle.matrix.proofs.Stored.{table-pivots, columns-many}
 
@@ -136,10 +136,10 @@ module _ (p : ℕ) (ok : IsModulus p) (m n : ℕ) (a : List ℕ) where
   module _ (w : List ℕ) where
     -- the system A x = w has a solution exactly "If A(Dw) = w"
     pub solvable-exactly :
-        ((x : Vector (residues p)) × Solves (residues p) m n A x (wanted p ok m n a w))
-        ↔ Solves (residues p) m n A (candidate p ok m n a w) (wanted p ok m n a w)
+        ((x : Vector (residues p)) × Solves (residues p) m n A x (vectorOf p w))
+        ↔ Solves (residues p) m n A (candidate p ok m n a w) (vectorOf p w)
     solvable-exactly = (
-      (λ (x, h). solved (residues p) L (Q .absorbs) x (wanted p ok m n a w) h),
+      (λ (x, h). candidate-solves (residues p) L (Q .absorbs) x (vectorOf p w) h),
       (λ h. (candidate p ok m n a w, h)),
     )
 
@@ -148,9 +148,9 @@ module _ (p : ℕ) (ok : IsModulus p) (m n : ℕ) (a : List ℕ) where
     u = mixOf (residues p) n A D (firstRow p ok m n a w)
 
     -- where there is none, y is a row at which they differ
-    first-row-differs : (Solves (residues p) m n A (candidate p ok m n a w) (wanted p ok m n a w) → ⊥)
+    first-row-differs : (Solves (residues p) m n A (candidate p ok m n a w) (vectorOf p w) → ⊥)
         → (firstRow p ok m n a w < m)
-        × (apply (residues p) n A (candidate p ok m n a w) (firstRow p ok m n a w) ≡ wanted p ok m n a w (firstRow p ok m n a w) → ⊥)
+        × (apply (residues p) n A (candidate p ok m n a w) (firstRow p ok m n a w) ≡ vectorOf p w (firstRow p ok m n a w) → ⊥)
     unfolding firstRow
     first-row-differs f =
         ⊎-elim
@@ -159,14 +159,14 @@ module _ (p : ℕ) (ok : IsModulus p) (m n : ℕ) (a : List ℕ) where
         (first-or-none _ 0 m)
 
     -- "Then uA = 0, and u times w is not 0": refused exactly where there is no solution, and the mix shows it
-    pub refused-exactly : (((x : Vector (residues p)) × Solves (residues p) m n A x (wanted p ok m n a w)) → ⊥)
+    pub refused-exactly : (((x : Vector (residues p)) × Solves (residues p) m n A x (vectorOf p w)) → ⊥)
         → ((j : ℕ) → j < n → mixed (residues p) m u A j ≡ residues p .zero)
-        × (sum (residues p) m (λ t. u t ⊗ wanted p ok m n a w t) ≡ residues p .zero → ⊥)
+        × (sum (residues p) m (λ t. u t ⊗ vectorOf p w t) ≡ residues p .zero → ⊥)
     refused-exactly none =
         let (l, differs) = first-row-differs (λ h. none (solvable-exactly .1 h)) in
         let y = firstRow p ok m n a w in (
           mix-kills (residues p) L (Q .absorbs) y l,
-          λ z. differs (sym (rings.difference-zero (residues p) L _ _ (sym (mix-shows (residues p) L m n A D (wanted p ok m n a w) y l) ∙ z))),
+          λ z. differs (sym (rings.difference-zero (residues p) L _ _ (sym (mix-shows (residues p) L m n A D (vectorOf p w) y l) ∙ z))),
         )
 
 -- "The ledger's rank .. in whatever order they came": rows that are combinations of each other's have the same rank

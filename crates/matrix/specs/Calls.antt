@@ -99,28 +99,29 @@ kernelCall p m n a basis =
 
 -- ---- solve
 
--- the least t below k, from t on, where the test is true
+-- the first of k places, from t on, where the test is true, or t + k
 unfoldable pub firstFrom : (ℕ → Bool) → (t k : ℕ) → ℕ
 firstFrom f t zero = t
 firstFrom f t (suc k) = choose (f t) t (firstFrom f (suc t) k)
 
-module _ (p : ℕ) (ok : IsModulus p) (m n : ℕ) (a w : List ℕ) where
-  -- w as a vector, and Dw
-  abbrev pub wanted : Vector (residues p)
-  wanted i = reduce p (getD w i 0)
+-- the numbers of a list as a vector
+unfoldable pub vectorOf : (p : ℕ) → List ℕ → Vector (residues p)
+vectorOf p w i = reduce p (getD w i 0)
 
+module _ (p : ℕ) (ok : IsModulus p) (m n : ℕ) (a w : List ℕ) where
+  -- Dw
   abbrev pub candidate : Vector (residues p)
-  candidate = apply (residues p) m (inverseOf p ok m n a) wanted
+  candidate = apply (residues p) m (inverseOf p ok m n a) (vectorOf p w)
 
   -- the first row y where A(Dw) and w differ
   unfoldable pub firstRow : ℕ
   firstRow =
-      firstFrom (λ i. pick (equal? (apply (residues p) n (tableOf p m n a) candidate i) (wanted i)) false true) 0 m
+      firstFrom (λ i. pick (equal? (apply (residues p) n (tableOf p m n a) candidate i) (vectorOf p w i)) false true) 0 m
 
   -- if A(Dw) = w, z becomes Dw and u 0; else u becomes the unit row of y minus (row y of A) times D, and z stays
   unfoldable pub solution : List ℕ → Outcome (List ℕ × List ℕ)
   solution z =
-      pick (solves? m n (tableOf p m n a) candidate wanted)
+      pick (solves? m n (tableOf p m n a) candidate (vectorOf p w))
       (outcome (results (tableRank p ok m n a)) (numbers n candidate, replicate m 0))
       (outcome (refused Insoluble) (z, numbers m (mixOf (residues p) n (tableOf p m n a) (inverseOf p ok m n a) firstRow)))
 

@@ -5,14 +5,14 @@ use mathlib.Core.List.{List, _++_}
 use Prim.Native.Nat.{ℕ, _+_, _*_, _-_, _≤_}
 use lib.ListN.{length, getD, replicate}
 use lib.Dec.{eqb}
-use Rattle.algebra.specs.Matrix.{Vector, sum}
+use Rattle.algebra.specs.Matrix.{sum}
 use Rattle.algebra.specs.Quasiinverse.{Marks, count}
 use Rattle.checks.specs.declared.Refusal.the-variants.{Insoluble}
 use Rattle.checks.specs.Largest.{largest}
 use Rattle.checks.specs.Prime.{IsModulus}
 use Rattle.checks.specs.Told.{Told, results, refused}
 use Rattle.checks.specs.Outcome.{outcome}
-use Rattle.field.specs.Residue.{Residue, residues, reduce, _⊗_}
+use Rattle.field.specs.Residue.{Residue, residues, _⊗_}
 use Rattle.field.specs.View.{line, table, Reaches}
 use Rattle.words.specs.Words.{Below}
 use Rattle.field.specs.Written.{rowsOf, marksOf}
@@ -62,10 +62,6 @@ crossed p k x i y j width = sum (residues p) k (λ t. line p x (i * k) 1 t ⊗ l
 unfoldable pub marked : List ℕ → Marks
 marked xs c = not (eqb (getD xs c 0) 0)
 
--- the numbers of a list as a vector
-unfoldable pub vectorOf : (p : ℕ) → List ℕ → Vector (residues p)
-vectorOf p xs i = reduce p (getD xs i 0)
-
 -- r vectors of the columns that are not marked, vector after vector, and 0 after them
 pub record KernelVectors (p m n : ℕ) (a d columns basis : List ℕ) (r : ℕ) : Type 0 where
   pub filled :
@@ -90,11 +86,11 @@ abbrev pub solveTold : ℕ → Bool → Told
 solveTold r true = results r
 solveTold r false = refused Insoluble
 
--- what is told, and z′ and u′, are what 01's solution of the system is
+-- what is told and left in z and u is 01's solution of the system
 abbrev pub IsSolution : (p m n : ℕ) (a w z : List ℕ) → Told → (z′ u′ : List ℕ) → Type 0
 IsSolution p m n a w z told z′ u′ = (ok : IsModulus p) → outcome told (z′, u′) ≡ solution p ok m n a w z
 
--- and so, where d holds the table's D, is whether the system is solved
+-- the same of a function that is lent the table's D in d, and tells whether the system is solved
 abbrev pub SolvedBy : (p m n : ℕ) (a d w z : List ℕ) → Bool → (z′ u′ : List ℕ) → Type 0
 SolvedBy p m n a d w z solved z′ u′ =
     (ok : IsModulus p) → table p d 0 m n m ≡ inverseOf p ok m n a

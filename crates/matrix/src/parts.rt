@@ -12,7 +12,8 @@ ghost use Rattle.field.specs.Residue.{residues, _⊕_, negated};
 ghost use Rattle.field.specs.View.{table};
 ghost use Rattle.field.specs.Written.{numbers};
 ghost use Rattle.field.proofs.Totals.{total};
-ghost use Rattle.matrix.specs.Parts.{Tables, Crossing, crossed, vectorOf, KernelVectors, Checked, InverseRoom, StoresInverse};
+ghost use Rattle.matrix.specs.Calls.{vectorOf};
+ghost use Rattle.matrix.specs.Parts.{Tables, Crossing, crossed, KernelVectors, Checked, InverseRoom, StoresInverse};
 
 // The sum of marks, each 0 or 1.
 pub fn count_marks(xs: &[u32]) -> u32

@@ -6,7 +6,7 @@ use Rattle.algebra.specs.Matrix.{apply}
 use Rattle.field.specs.Residue.{residues}
 use Rattle.field.specs.View.{table}
 use Rattle.words.proofs.Walk.{Walked, walked-none, walked-more}
-use Rattle.matrix.specs.Parts.{vectorOf}
+use Rattle.matrix.specs.Calls.{vectorOf}
 use Rattle.matrix.proofs.Memory.{row-inside, apply-number, walked-numbers}
 use Rattle.matrix.proofs.parts.times_vector.Statement.{statement}
 use Rattle.matrix.proofs.parts.times_vector.Tie as tie

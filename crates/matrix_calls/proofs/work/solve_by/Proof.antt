@@ -5,7 +5,7 @@ use Prim.Native.Nat.{ℕ}
 use native.Mathlib.Omega.{arith}
 use lib.ListN.{length}
 use Rattle.matrix.proofs.Memory.{copied-whole, zeros-written}
-use Rattle.matrix.proofs.Solved.{Compared, solved-by, refused-by}
+use Rattle.matrix.proofs.Systems.{Compared, solved-by, refused-by}
 use Rattle.matrix_calls.proofs.work.solve_by.Statement.{statement}
 use Rattle.matrix_calls.proofs.work.solve_by.Tie as tie
 

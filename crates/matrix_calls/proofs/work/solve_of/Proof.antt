@@ -9,7 +9,7 @@ use lib.ListN.{length, length-append}
 use lib.Seq.{length-take-le}
 use Rattle.checks.specs.Largest.{largest}
 use Rattle.matrix.proofs.Memory.{table-most, table-again}
-use Rattle.matrix.proofs.Solved.{told-so}
+use Rattle.matrix.proofs.Systems.{told-so}
 use Rattle.matrix_calls.proofs.work.solve_of.Statement.{statement}
 use Rattle.matrix_calls.proofs.work.solve_of.Tie as tie
 

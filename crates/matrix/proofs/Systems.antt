@@ -22,8 +22,8 @@ use Rattle.field.specs.Written.{numbers}
 use Rattle.field.proofs.Residues.{reduce-small, reduce-value}
 use Rattle.field.proofs.Written.{length-tabulate, getD-tabulate}
 use Rattle.matrix.specs.Decide.{equal?, solves?}
-use Rattle.matrix.specs.Calls.{tableOf, tableRank, inverseOf, wanted, candidate, firstRow, solution}
-use Rattle.matrix.specs.Parts.{vectorOf, solveTold}
+use Rattle.matrix.specs.Calls.{tableOf, tableRank, inverseOf, vectorOf, candidate, firstRow, solution}
+use Rattle.matrix.specs.Parts.{solveTold}
 use Rattle.words.specs.Words.{FirstDifference}
 use Rattle.matrix.proofs.First.{first-is}
 
@@ -37,27 +37,29 @@ pub apply-read : (p n : ℕ) (X : Matrix (residues p)) (v : Vector (residues p))
 apply-read p n X v = fun-ext (apply-same (residues p) n X (vectorOf p (numbers n v)) v (vector-read p n v))
 
 module _ (p : ℕ) (ok : IsModulus p) (m n : ℕ) (a w z : List ℕ) where
-  pub solution-found : Solves (residues p) m n (tableOf p m n a) (candidate p ok m n a w) (wanted p ok m n a w)
+  pub solution-found : Solves (residues p) m n (tableOf p m n a) (candidate p ok m n a w) (vectorOf p w)
       → solution p ok m n a w z ≡ outcome (results (tableRank p ok m n a)) (numbers n (candidate p ok m n a w), replicate m 0)
   unfolding solution
-  solution-found h = pick-yes (solves? m n (tableOf p m n a) (candidate p ok m n a w) (wanted p ok m n a w)) _ _ h
+  solution-found h = pick-yes (solves? m n (tableOf p m n a) (candidate p ok m n a w) (vectorOf p w)) _ _ h
 
-  pub solution-none : (Solves (residues p) m n (tableOf p m n a) (candidate p ok m n a w) (wanted p ok m n a w) → ⊥)
+  pub solution-none : (Solves (residues p) m n (tableOf p m n a) (candidate p ok m n a w) (vectorOf p w) → ⊥)
       → solution p ok m n a w z
       ≡ outcome (refused Insoluble) (z, numbers m (mixOf (residues p) n (tableOf p m n a) (inverseOf p ok m n a) (firstRow p ok m n a w)))
   unfolding solution
-  solution-none h = pick-no (solves? m n (tableOf p m n a) (candidate p ok m n a w) (wanted p ok m n a w)) _ _ h
+  solution-none h = pick-no (solves? m n (tableOf p m n a) (candidate p ok m n a w) (vectorOf p w)) _ _ h
 
   -- A(Dw)
   abbrev image : Vector (residues p)
   image = apply (residues p) n (tableOf p m n a) (candidate p ok m n a w)
 
   module _ (long : length w ≡ m) (below : Below p w) where
-    same-number : (i : ℕ) → i < m → image i ≡ wanted p ok m n a w i → getD (numbers m image) i 0 ≡ getD w i 0
+    same-number : (i : ℕ) → i < m → image i ≡ vectorOf p w i → getD (numbers m image) i 0 ≡ getD w i 0
+    unfolding vectorOf
     same-number i l e =
         getD-tabulate m _ i l ∙ ap (λ r. r .value) e ∙ reduce-small p (getD w i 0) (below i (omega arith))
 
-    same-residue : (i : ℕ) → i < m → getD (numbers m image) i 0 ≡ getD w i 0 → image i ≡ wanted p ok m n a w i
+    same-residue : (i : ℕ) → i < m → getD (numbers m image) i 0 ≡ getD w i 0 → image i ≡ vectorOf p w i
+    unfolding vectorOf
     same-residue i l e = sym (reduce-value (image i)) ∙ ap (reduce p) (sym (getD-tabulate m _ i l) ∙ e)
 
     module _ (y : ℕ) (first : FirstDifference (numbers m image) w y) where
@@ -66,15 +68,15 @@ module _ (p : ℕ) (ok : IsModulus p) (m n : ℕ) (a w z : List ℕ) where
       nowhere h = solution-found (λ i l. same-residue i l (first .before i (omega arith)))
 
       -- y is a place that differs: it is the first row, and the system is refused
-      differs : y < m → image y ≡ wanted p ok m n a w y → ⊥
+      differs : y < m → image y ≡ vectorOf p w y → ⊥
       differs h e = first .differs (omega (arith, length-tabulate m (λ i. (image i) .value))) (same-number y h e)
 
       pub first-row : y < m → firstRow p ok m n a w ≡ y
       unfolding firstRow
       first-row h =
           first-is _ 0 m y (omega arith) (omega arith)
-          (λ i l. pick-yes (equal? (image i) (wanted p ok m n a w i)) false true (same-residue i (omega arith) (first .before i l)))
-          (pick-no (equal? (image y) (wanted p ok m n a w y)) false true (differs h))
+          (λ i l. pick-yes (equal? (image i) (vectorOf p w i)) false true (same-residue i (omega arith) (first .before i l)))
+          (pick-no (equal? (image y) (vectorOf p w y)) false true (differs h))
 
       pub somewhere : y < m → solution p ok m n a w z
           ≡ outcome (refused Insoluble) (z, numbers m (mixOf (residues p) n (tableOf p m n a) (inverseOf p ok m n a) y))
@@ -93,8 +95,7 @@ pub record Compared (p : ℕ) (m n : ℕ) (a d w x image : List ℕ) (y : ℕ) :
 module _ (p : ℕ) (ok : IsModulus p) (m n : ℕ) (a d w z x image : List ℕ) (y : ℕ)
     (is-D : table p d 0 m n m ≡ inverseOf p ok m n a) (h : Compared p m n a d w x image y) where
   candidate-written : x ≡ numbers n (candidate p ok m n a w)
-  unfolding vectorOf
-  candidate-written = h .x-is ∙ ap (λ X. numbers n (apply (residues p) m X (wanted p ok m n a w))) is-D
+  candidate-written = h .x-is ∙ ap (λ X. numbers n (apply (residues p) m X (vectorOf p w))) is-D
 
   image-written : image ≡ numbers m (apply (residues p) n (tableOf p m n a) (candidate p ok m n a w))
   image-written =

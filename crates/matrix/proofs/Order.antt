@@ -1,0 +1,105 @@
+-- 01, "Order for all three: 1, 2, 3, 4 (A first, then w)", and "What is handed back on refusal", said of the three calls: 1 or 2
+-- refuses whatever the lengths and numbers are, 3 whatever the numbers are, then 4, all with lent memory untouched; and solve's 5
+-- leaves z untouched, with u written.
+use mathlib.Core.Path.{_≡_, sym, ap, _∙_}
+use mathlib.Core.List.{List}
+use Prim.Native.Nat.{ℕ, _*_}
+use lib.ListN.{length}
+use Rattle.algebra.specs.Span.{Solves}
+use Rattle.algebra.specs.Solve.{mixOf}
+use Rattle.checks.specs.declared.Refusal.{Refusal}
+use Rattle.checks.specs.declared.Refusal.the-variants.{Length, Number, Insoluble}
+use Rattle.checks.specs.InOrder.{Check, Checks, _⨾_, Given, FirstFailing}
+use Rattle.checks.specs.Sizes.{tableSizes}
+use Rattle.checks.specs.Told.{refused}
+use Rattle.checks.specs.Outcome.{outcome, untouched}
+use Rattle.checks.proofs.Guards.{modulus-prop}
+use Rattle.checks.proofs.InOrder.{fails-here}
+use Rattle.field.specs.Residue.{residues}
+use Rattle.field.specs.Written.{numbers}
+use Rattle.words.specs.Words.{Below}
+use Rattle.matrix.specs.Calls.{tableOf, inverseOf, quasiinverseCall, kernelCall, solveCall, vectorOf, candidate, firstRow, solution}
+use Rattle.matrix.specs.Parts.{Checked, InverseRoom, System}
+use Rattle.matrix.proofs.Answers.{_then_, past-sizes, sizes-first, quasiinverse-refused, kernel-refused, solve-refused, solve-done}
+use Rattle.matrix.proofs.Systems.{solution-none}
+
+-- a check fails, or else a later one of the same kind
+or-later : {c : Check Refusal} {cs : Checks Refusal} → (c .Holds → FirstFailing cs (c .kind)) → FirstFailing (c ⨾ cs) (c .kind)
+or-later {c} {cs} f = go (c .decide)
+  where
+    go : Dec (c .Holds) → FirstFailing (c ⨾ cs) (c .kind)
+    go (yes h) = h then f h
+    go (no h) = fails-here h
+
+module _ (p m n : ℕ) (a : List ℕ) where
+  -- ---- quasiinverse
+
+  module _ (d columns rows : List ℕ) where
+    pub quasiinverse-sizes : {k : Refusal} → FirstFailing (tableSizes p m n) k
+        → quasiinverseCall p m n a d columns rows ≡ untouched (d, (columns, rows)) k
+    quasiinverse-sizes f = sym (quasiinverse-refused p m n a d columns rows (sizes-first f))
+
+    pub quasiinverse-length : Given (tableSizes p m n) → (length a ≡ m * n → InverseRoom m n d columns rows → ⊥)
+        → quasiinverseCall p m n a d columns rows ≡ untouched (d, (columns, rows)) Length
+    quasiinverse-length s bad =
+        sym
+        (quasiinverse-refused p m n a d columns rows
+        (past-sizes s
+        (or-later (λ la.
+        or-later (λ ld.
+        or-later (λ lc. fails-here (λ lr. bad la (record { d-long = ld; columns-long = lc; rows-long = lr }))))))))
+
+    pub quasiinverse-number : Given (tableSizes p m n) → length a ≡ m * n → InverseRoom m n d columns rows → (Below p a → ⊥)
+        → quasiinverseCall p m n a d columns rows ≡ untouched (d, (columns, rows)) Number
+    quasiinverse-number s la r bad =
+        sym
+        (quasiinverse-refused p m n a d columns rows
+        (past-sizes s (la then r .d-long then r .columns-long then r .rows-long then fails-here bad)))
+
+  -- ---- kernel
+
+  module _ (basis : List ℕ) where
+    pub kernel-sizes : {k : Refusal} → FirstFailing (tableSizes p m n) k → kernelCall p m n a basis ≡ untouched basis k
+    kernel-sizes f = sym (kernel-refused p m n a basis (sizes-first f))
+
+    pub kernel-length : Given (tableSizes p m n) → (length a ≡ m * n → length basis ≡ n * n → ⊥)
+        → kernelCall p m n a basis ≡ untouched basis Length
+    kernel-length s bad = sym (kernel-refused p m n a basis (past-sizes s (or-later (λ la. fails-here (bad la)))))
+
+    pub kernel-number : Given (tableSizes p m n) → length a ≡ m * n → length basis ≡ n * n → (Below p a → ⊥)
+        → kernelCall p m n a basis ≡ untouched basis Number
+    kernel-number s la lb bad = sym (kernel-refused p m n a basis (past-sizes s (la then lb then fails-here bad)))
+
+  -- ---- solve
+
+  module _ (w z u : List ℕ) where
+    pub solve-sizes : {k : Refusal} → FirstFailing (tableSizes p m n) k → solveCall p m n a w z u ≡ untouched (z, u) k
+    solve-sizes f = sym (solve-refused p m n a w z u (sizes-first f))
+
+    pub solve-length : Given (tableSizes p m n) → (length a ≡ m * n → length w ≡ m → length z ≡ n → length u ≡ m → ⊥)
+        → solveCall p m n a w z u ≡ untouched (z, u) Length
+    solve-length s bad =
+        sym
+        (solve-refused p m n a w z u
+        (past-sizes s (or-later (λ la. or-later (λ lw. or-later (λ lz. fails-here (bad la lw lz)))))))
+
+    pub solve-number : Given (tableSizes p m n) → length a ≡ m * n → length w ≡ m → length z ≡ n → length u ≡ m
+        → (Below p a → Below p w → ⊥) → solveCall p m n a w z u ≡ untouched (z, u) Number
+    solve-number s la lw lz lu bad =
+        sym
+        (solve-refused p m n a w z u
+        (past-sizes s (la then lw then lz then lu then or-later (λ b. fails-here (bad b)))))
+
+    -- "5 | no solution | u written, z untouched": where A(Dw) is not w
+    pub solve-insoluble : (k : Checked p m n a) → System p m n w z u
+        → (Solves (residues p) m n (tableOf p m n a) (candidate p (k .is-modulus) m n a w) (vectorOf p w) → ⊥)
+        → outcome (refused Insoluble) (
+          z,
+          numbers m (mixOf (residues p) n (tableOf p m n a) (inverseOf p (k .is-modulus) m n a) (firstRow p (k .is-modulus) m n a w)),
+        )
+        ≡ solveCall p m n a w z u
+    solve-insoluble k s none =
+        solve-done p m n a w z u _ k s
+        (λ ok.
+        sym (solution-none p (k .is-modulus) m n a w z none)
+        ∙ ap (λ q. solution p q m n a w z) (modulus-prop p (k .is-modulus) ok))
