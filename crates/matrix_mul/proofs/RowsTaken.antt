@@ -17,7 +17,7 @@ use Rattle.field.specs.Residue.{largestModulus}
 use Rattle.matrix_mul.specs.declared.Place.{Place}
 use Rattle.matrix_mul.specs.declared.rows.Row.{Row}
 use Rattle.matrix_mul.specs.Rows.{Short, Shorts, Quarter, Inside, FourInside, Leads, Each, PassesOver, Passes, Walkable, RowTaken}
-use Rattle.matrix_mul.specs.Rows.{RowsInside, Combinable, productAt, partAt}
+use Rattle.matrix_mul.specs.Rows.{Combinable, productAt, partAt}
 use Rattle.field.proofs.Totals.{total-more, total-passed}
 
 pub short-zero : Short 0

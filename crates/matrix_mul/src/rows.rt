@@ -1,7 +1,7 @@
 // Sums of rows modulo p: a row plus a combination of rows. Four rows are added at a time; the low and the high limbs of the sums
 // of their products, of 32 bits each, are added apart, and reduced once at the end.
 ghost use mathlib.Core.Path.{_≡_};
-ghost use Prim.Native.Nat.{ℕ, _+_, _<_, _≤_};
+ghost use Prim.Native.Nat.{_+_, _<_, _≤_};
 ghost use lib.ListN.{length};
 ghost use Rattle.field.specs.Residue.{reduce, largestModulus};
 ghost use Rattle.field.specs.Limbs.{whole, LimbFits};

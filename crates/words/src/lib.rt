@@ -1,8 +1,8 @@
 // Slices of u32 words, whatever they stand for: room of zeros, clearing, copying, comparing, and tests of every word. Leaves for
 // the crates above, which meet what each requires.
 ghost use mathlib.Core.Path.{_≡_};
-ghost use Prim.Native.Nat.{ℕ, _+_, _≤_, _<_};
-ghost use lib.ListN.{length, getD};
+ghost use Prim.Native.Nat.{_+_, _≤_, _<_};
+ghost use lib.ListN.{length};
 ghost use Rattle.algebra.specs.Answers.{Tells};
 ghost use Rattle.words.specs.Lengths.{longestRow, largestTable, halfTable, quarterTable};
 ghost use Rattle.words.specs.Words.{Below, Blank, Zeros, AllMarked, Copied, PutAt, FirstDifference};

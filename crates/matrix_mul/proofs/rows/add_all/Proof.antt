@@ -1,6 +1,6 @@
 -- `matrix_mul::rows::add_all` meets its contract. The loop's invariant: the sums of limbs hold what the first t rows add.
 use mathlib.Core.Path.{_≡_}
-use Prim.Native.Nat.{ℕ, _-_, _<_, _≤_}
+use Prim.Native.Nat.{ℕ, _-_, _≤_}
 use native.Mathlib.Omega.{arith}
 use lib.ListN.{length}
 use Rattle.matrix_mul.specs.Rows.{Walkable}

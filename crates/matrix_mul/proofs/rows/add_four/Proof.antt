@@ -1,7 +1,7 @@
 -- `matrix_mul::rows::add_four` meets its contract. The loop's invariant: the first j numbers have the four products added, the others are
 -- as they were.
 use mathlib.Core.Path.{ap}
-use Prim.Native.Nat.{_-_, _%_, _<_, _≤_}
+use Prim.Native.Nat.{_-_, _%_, _≤_}
 use native.Mathlib.Omega.{arith}
 use lib.ListN.{length}
 use Rattle.field.specs.Residue.{reduce}

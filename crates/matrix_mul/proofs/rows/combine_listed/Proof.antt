@@ -1,6 +1,6 @@
 -- `matrix_mul::rows::combine_listed` meets its contract: where four rows are all, they are added in one pass, and else `add_all` adds them.
 use mathlib.Core.Path.{refl}
-use Prim.Native.Nat.{ℕ, _<_, _≤_}
+use Prim.Native.Nat.{ℕ, _≤_}
 use native.Mathlib.Omega.{arith}
 use lib.ListN.{length}
 use Rattle.matrix_mul.specs.Rows.{Walkable}
