@@ -1,10 +1,9 @@
 -- The laws of limbs: adding the limbs of a product apart adds the product, k limbs stay within k times the largest limb, and so
 -- 4096 of them fit. `Within` is opened here alone, so that no invariant shows its large number.
 use mathlib.Core.Path.{_≡_, refl, sym, ap, _∙_}
-use Prim.Native.Nat.{ℕ, zero, suc, _+_, _*_, _-_, _/_, _%_, _<_, _≤_}
+use Prim.Native.Nat.{ℕ, _+_, _*_, _-_, _/_, _%_, _<_, _≤_}
 use native.Mathlib.Nat.{mod-lt, mod-add-div, mod-add-mod, mul-le-mul}
 use native.Mathlib.Omega.{arith}
-use lib.ListN.{getD, replicate}
 use mir.Val.{Fits}
 use mir.Syntax.{w32, w64}
 use Rattle.words.specs.Lengths.{largestTable}

@@ -1,9 +1,8 @@
 -- How numbers in memory are read as vectors and matrices of residues: by a start and a step, or by a start, a stride and
 -- sizes. 01: entry (row i, column j) of a table stands at i × n + j.
-use mathlib.Core.Path.{_≡_}
 use Prim.Native.Nat.{ℕ, _+_, _*_, _<_}
 use mathlib.Core.List.{List}
-use lib.ListN.{length, getD}
+use lib.ListN.{getD}
 use lib.Dec.{ltb}
 use Rattle.algebra.specs.Choice.{choose}
 use Rattle.algebra.specs.Matrix.{Vector, Matrix}

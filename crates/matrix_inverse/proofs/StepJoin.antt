@@ -1,11 +1,11 @@
 -- The step after the halves: what `join_halves` asks of its callees, and that what they leave is G and E - G T.
 use mathlib.Core.Path.{_≡_, sym, ap, _∙_}
 use mathlib.Core.List.{List}
-use Prim.Native.Nat.{ℕ, _+_, _*_, _≤_, _<_}
+use Prim.Native.Nat.{ℕ, _+_, _*_, _≤_}
 use native.Mathlib.Nat.{mul-le-mul}
 use native.Mathlib.Omega.{arith}
 use lib.ListN.{length}
-use Rattle.algebra.specs.Matrix.{Matrix, add, negative, product}
+use Rattle.algebra.specs.Matrix.{Matrix, add, product}
 use Rattle.algebra.proofs.Matrices.{product-negative}
 use Rattle.field.specs.Residue.{residues}
 use Rattle.field.specs.View.{table}

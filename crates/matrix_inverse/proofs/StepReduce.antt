@@ -1,5 +1,5 @@
 -- The step between the halves: what `reduce_rows` asks of its callees, and that what they leave is -T and C.
-use mathlib.Core.Path.{_≡_, ap, _∙_}
+use mathlib.Core.Path.{ap, _∙_}
 use mathlib.Core.List.{List}
 use Prim.Native.Nat.{ℕ, _*_, _≤_, _<_}
 use native.Mathlib.Nat.{mul-le-mul}

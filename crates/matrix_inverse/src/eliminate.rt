@@ -283,11 +283,6 @@ pub fn eliminate(
     if m == 0 {
         return;
     }
-    if m == 1 {
-        let found = one_row(p, n, a, d, at, stride, rows);
-        add_marks(n, &found, columns);
-        return;
-    }
-    let found = halves(p, m, n, a, d, at, stride, rows);
+    let found = half(p, m, n, a, d, at, stride, rows);
     add_marks(n, &found, columns);
 }

@@ -1,13 +1,13 @@
 -- Blocks of numbers in memory. The table of a part; tables of lists that agree; what `Kept` gives: it composes, widens, and
 -- leaves tables elsewhere as they were; and entries and sizes of sums, negatives and products of tables.
 use mathlib.Core.Path.{_≡_, refl, sym, ap, _∙_}
-use mathlib.Core.List.{List, _++_}
+use mathlib.Core.List.{List}
 use Prim.Native.Nat.{ℕ, _+_, _*_, _-_, _≤_, _<_}
 use native.Mathlib.Nat.{mul-le-mul-right}
 use native.Mathlib.Decide.{decLt}
 use native.Mathlib.Omega.{arith}
-use lib.ListN.{length, getD, take, drop, length-append, length-drop, List·getD-append}
-use lib.Seq.{length-take-le, take-all, getD-append-add, getD-take, getD-drop}
+use lib.ListN.{length, getD, take}
+use lib.Seq.{getD-take}
 use Rattle.algebra.specs.Ring.{IsCommutativeRing}
 use Rattle.algebra.specs.Matrix.{Matrix, Sized, sum, add, negative, product}
 use Rattle.algebra.proofs.Rings.{minus-zero}

@@ -13,12 +13,13 @@ use Rattle.words.specs.Lengths.{longestRow}
 use Rattle.words.specs.Words.{Zeros}
 use Rattle.field.specs.Totals.{products}
 use Rattle.matrix_mul.specs.declared.Place.{Place}
-use Rattle.matrix_mul.specs.declared.rows.Row.{Row}
-use Rattle.matrix_mul.specs.Rows.{Shorts, PassesOver, Passes, Ready, Added, wholeAt, Summed, CombinedInto, productAt, fourAt, partAt, sumAt, summedAt}
+use Rattle.matrix_mul.specs.declared.rows.Four.{Four}
+use Rattle.matrix_mul.specs.Rows.{Shorts, PassesOver, Passes, FourTaken, Ready, Added, wholeAt, Summed, CombinedInto}
+use Rattle.matrix_mul.specs.Rows.{productAt, fourAt, partAt, sumAt, summedAt}
 use Rattle.field.proofs.Totals.{total-zero, reduce-products}
 use Rattle.field.proofs.Residues.{reduce-plus}
 use Rattle.field.proofs.Limbs.{Sums, sums-none, sums-more, sums-widen, sums-low-fits, sums-high-fits, number-fits}
-use Rattle.matrix_mul.proofs.RowsTaken.{FourTaken, quarter-product, four-fit}
+use Rattle.matrix_mul.proofs.RowsTaken.{quarter-product, four-fit}
 
 -- where the same numbers are added, the same is left
 pub summed-same : {p : ℕ} {v w : ℕ → ℕ} {before after : List ℕ} → ((j : ℕ) → j < length before → v j ≡ w j)
@@ -58,8 +59,8 @@ module _ {by table : List ℕ} {Y : Place} {width : ℕ} where
       }
 
   -- four rows more
-  module _ {next : List ℕ} (passes : Passes (length by) next Y width table) (short : Shorts table) {t : ℕ} {a b c d : Row}
-      (taken : FourTaken by next Y t a b c d)
+  module _ {next : List ℕ} (passes : Passes (length by) next Y width table) (short : Shorts table) {t : ℕ} {f : Four}
+      (taken : FourTaken by next Y t f)
     where
       -- rows of zeros add nothing
       over : (j : ℕ) → j < width → PassesOver (length by) next (products by table (Y .start + j) (Y .stride))
@@ -68,7 +69,7 @@ module _ {by table : List ℕ} {Y : Place} {width : ℕ} where
           let here : Y .start + j + u * Y .stride ≡ Y .start + u * Y .stride + j = omega arith in
           rw (here, passes .zeros j k s u h l g, mul-zero)
 
-      sum-four : (j : ℕ) → j < width → partAt by table Y t j + fourAt table a b c d j ≡ partAt by table Y (d .next) j
+      sum-four : (j : ℕ) → j < width → partAt by table Y t j + fourAt table f j ≡ partAt by table Y (f .d .next) j
       unfolding fourAt
       sum-four j k =
           let o = over j k in
@@ -80,7 +81,7 @@ module _ {by table : List ℕ} {Y : Place} {width : ℕ} where
             taken .fourth .added table j o,
           )
 
-      four-fits : (j : ℕ) → Fits w64 (fourAt table a b c d j)
+      four-fits : (j : ℕ) → Fits w64 (fourAt table f j)
       unfolding fourAt productAt
       four-fits j =
           number-fits _
@@ -88,20 +89,20 @@ module _ {by table : List ℕ} {Y : Place} {width : ℕ} where
           (quarter-product _ _ (taken .third .short) (short _)) (quarter-product _ _ (taken .fourth .short) (short _)))
 
       pub held-four : {lo hi los his : List ℕ} → t < length by → RowsHeld by table Y width t lo hi
-          → Added width (fourAt table a b c d) lo hi los his → RowsHeld by table Y width (d .next) los his
+          → Added width (fourAt table f) lo hi los his → RowsHeld by table Y width (f .d .next) los his
       held-four {lo} {hi} l h s =
           record {
             long-lo = s .long-lo ∙ h .long-lo;
             long-hi = s .long-hi ∙ h .long-hi;
             held-at =
                 λ j k. rw (s .low-at j k, s .high-at j k, ← sum-four j k)
-                (sums-widen (t + 1) (d .next) _ _ _
+                (sums-widen (t + 1) (f .d .next) _ _ _
                 (omega (arith, taken .first .onward l, taken .second .later, taken .third .later, taken .fourth .later))
                 (sums-more t (getD lo j 0) (getD hi j 0) _ _ (h .held-at j k) (four-fits j)));
           }
 
       -- where no row is left, four rows from the first on are all
-      pub four-all : t ≡ 0 → d .next ≡ length by → (j : ℕ) → j < width → fourAt table a b c d j ≡ sumAt by table Y j
+      pub four-all : t ≡ 0 → f .d .next ≡ length by → (j : ℕ) → j < width → fourAt table f j ≡ sumAt by table Y j
       four-all first last j k =
           let none : partAt by table Y t j ≡ 0 = ap (λ n. partAt by table Y n j) first ∙ total-zero _ in
           omega (arith, sum-four j k) ∙ ap (λ n. partAt by table Y n j) last

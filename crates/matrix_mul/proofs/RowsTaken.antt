@@ -16,8 +16,9 @@ use Rattle.field.specs.Limbs.{LimbFits}
 use Rattle.field.specs.Residue.{largestModulus}
 use Rattle.matrix_mul.specs.declared.Place.{Place}
 use Rattle.matrix_mul.specs.declared.rows.Row.{Row}
-use Rattle.matrix_mul.specs.Rows.{Short, Shorts, Quarter, Inside, FourInside, Leads, Each, PassesOver, Passes, Walkable, RowTaken}
-use Rattle.matrix_mul.specs.Rows.{RowsInside, Combinable, productAt, partAt}
+use Rattle.matrix_mul.specs.declared.rows.Four.{Four}
+use Rattle.matrix_mul.specs.Rows.{Short, Shorts, Quarter, Inside, FourInside, Leads, Each, PassesOver, Passes, Walkable, RowTaken, FourTaken}
+use Rattle.matrix_mul.specs.Rows.{Combinable, productAt, partAt}
 use Rattle.field.proofs.Totals.{total-more, total-passed}
 
 pub short-zero : Short 0
@@ -63,8 +64,7 @@ unfolding Quarter LimbFits
 four-fit a b c d f g h k = omega arith
 
 -- four rows that are inside the table are so up to any of their places
-pub inside-at : {width j : ℕ} {table : List ℕ} {a b c d : Row} → j < width → FourInside width table a b c d
-    → FourInside (j + 1) table a b c d
+pub inside-at : {width j : ℕ} {table : List ℕ} {f : Four} → j < width → FourInside width table f → FourInside (j + 1) table f
 inside-at {width} {j} {table} h i =
     record {
       table-short = i .table-short;
@@ -93,16 +93,9 @@ module _ {p : ℕ} {by table : List ℕ} {Y : Place} {out : List ℕ} (c : Combi
   pub table-short : Shorts table
   table-short = below-shorts p table (c .in-range) (c .table-below)
 
--- four rows that are taken one after the other, from row t on
-pub record FourTaken (by next : List ℕ) (Y : Place) (t : ℕ) (a b c d : Row) : Type 0 where
-  pub first : RowTaken by next Y t a
-  pub second : RowTaken by next Y (a .next) b
-  pub third : RowTaken by next Y (b .next) c
-  pub fourth : RowTaken by next Y (c .next) d
-
--- they lie in the table where all rows do
+-- four rows that are taken lie in the table where all rows do
 pub four-inside : {p : ℕ} {by table : List ℕ} {Y : Place} {out : List ℕ} → Combinable p by table Y out → 0 < length by
-    → {next : List ℕ} {t : ℕ} {a b c d : Row} → FourTaken by next Y t a b c d → FourInside (length out) table a b c d
+    → {next : List ℕ} {t : ℕ} {f : Four} → FourTaken by next Y t f → FourInside (length out) table f
 four-inside {by = by} {table = table} {Y = Y} {out = out} combinable some {next} taken =
     record {
       table-short = table-short combinable;

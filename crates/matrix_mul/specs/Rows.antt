@@ -13,6 +13,7 @@ use Rattle.words.specs.Lengths.{longestRow}
 use Rattle.words.specs.Words.{Below}
 use Rattle.matrix_mul.specs.declared.Place.{Place}
 use Rattle.matrix_mul.specs.declared.rows.Row.{Row}
+use Rattle.matrix_mul.specs.declared.rows.Four.{Four}
 
 -- below the largest modulus, as every residue is
 unfoldable pub Short : ℕ → Type 0
@@ -40,8 +41,8 @@ RowsInside k Y width n = (t : ℕ) → t < k → Y .start + t * Y .stride + widt
 unfoldable pub productAt : List ℕ → Row → ℕ → ℕ
 productAt table r j = r .times * getD table (r .at + j) 0
 
-unfoldable pub fourAt : List ℕ → (a b c d : Row) → ℕ → ℕ
-fourAt table a b c d j = productAt table a j + productAt table b j + productAt table c j + productAt table d j
+unfoldable pub fourAt : List ℕ → Four → ℕ → ℕ
+fourAt table f j = productAt table (f .a) j + productAt table (f .b) j + productAt table (f .c) j + productAt table (f .d) j
 
 -- the row's multiplier is short, and its first `width` numbers lie in the table
 pub record Inside (width : ℕ) (table : List ℕ) (r : Row) : Type 0 where
@@ -49,12 +50,12 @@ pub record Inside (width : ℕ) (table : List ℕ) (r : Row) : Type 0 where
   pub in-table : r .at + width ≤ length table
 
 -- the same of four rows, in a table of short numbers
-pub record FourInside (width : ℕ) (table : List ℕ) (a b c d : Row) : Type 0 where
+pub record FourInside (width : ℕ) (table : List ℕ) (f : Four) : Type 0 where
   pub table-short : Shorts table
-  pub first : Inside width table a
-  pub second : Inside width table b
-  pub third : Inside width table c
-  pub fourth : Inside width table d
+  pub first : Inside width table (f .a)
+  pub second : Inside width table (f .b)
+  pub third : Inside width table (f .c)
+  pub fourth : Inside width table (f .d)
 
 -- a list that leads from each of k rows to a later one, or to the end: next[t] is the next row to visit after t
 pub record Leads (k : ℕ) (next : List ℕ) : Type 0 where
@@ -101,6 +102,13 @@ pub record RowTaken (by next : List ℕ) (Y : Place) (from : ℕ) (r : Row) : Ty
   pub added :
       (xs : List ℕ) (j : ℕ) → PassesOver (length by) next (products by xs (Y .start + j) (Y .stride))
       → partAt by xs Y (r .next) j ≡ partAt by xs Y from j + productAt xs r j
+
+-- four rows that are taken one after the other, from row t on
+pub record FourTaken (by next : List ℕ) (Y : Place) (t : ℕ) (f : Four) : Type 0 where
+  pub first : RowTaken by next Y t (f .a)
+  pub second : RowTaken by next Y (f .a .next) (f .b)
+  pub third : RowTaken by next Y (f .b .next) (f .c)
+  pub fourth : RowTaken by next Y (f .c .next) (f .d)
 
 -- lo and hi are sums of limbs for the longest row, to which a limb can be added at the first n places
 pub record Ready (n : ℕ) (lo hi : List ℕ) : Type 0 where

@@ -36,7 +36,7 @@ pub fn negate(p: u32, xs: &mut [u32])
     }
 }
 
-// Leads from each row to the next one that is marked, or to the end.
+// Writes the list of the marked rows: next[t] is the next row to visit after t, the first marked one behind it, or the end.
 pub fn list_marked(marks: &[u32], next: &mut [u32])
     requires { ⌜ (length (now marks) ≤ longestRow) × (length (now marks) ≤ length (now next)) ⌝ }
     ensures { λ _. ⌜ (length (now (next .exit)) ≡ length (now (next .entry))) × Listed (now (marks .entry)) (now (next .exit)) ⌝ }

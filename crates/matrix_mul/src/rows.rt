@@ -1,7 +1,7 @@
 // Sums of rows modulo p: a row plus a combination of rows. Four rows are added at a time; the low and the high limbs of the sums
 // of their products, of 32 bits each, are added apart, and reduced once at the end.
 ghost use mathlib.Core.Path.{_≡_};
-ghost use Prim.Native.Nat.{ℕ, _+_, _<_, _≤_};
+ghost use Prim.Native.Nat.{_+_, _<_, _≤_};
 ghost use lib.ListN.{length};
 ghost use Rattle.field.specs.Residue.{reduce, largestModulus};
 ghost use Rattle.field.specs.Limbs.{whole, LimbFits};
@@ -9,7 +9,7 @@ ghost use Rattle.words.specs.Lengths.{longestRow};
 ghost use Rattle.words.specs.Words.{Zeros};
 ghost use Rattle.matrix_mul.specs.Places.{place};
 ghost use Rattle.matrix_mul.specs.Rows.{Shorts, Inside, FourInside, Quarter, productAt, fourAt, Powers, Ready, Added, wholeAt};
-ghost use Rattle.matrix_mul.specs.Rows.{Each, Passes, Walkable, RowTaken, Summed, sumAt, Combinable, CombinedInto};
+ghost use Rattle.matrix_mul.specs.Rows.{Each, Passes, Walkable, RowTaken, FourTaken, Summed, sumAt, Combinable, CombinedInto};
 use super::Place;
 use field::sums::BASE;
 use words::ROW;
@@ -26,6 +26,14 @@ struct Row {
     times: u32,
     at: usize,
     next: usize,
+}
+
+// Four rows that are to be added together.
+struct Four {
+    a: Row,
+    b: Row,
+    c: Row,
+    d: Row,
 }
 
 // The list that passes over no row: next[t] is the next row to visit after t, here t + 1.
@@ -70,6 +78,18 @@ fn next_row(by: &[u32], next: &[u32], rows: Place, from: usize) -> Row
     }
 }
 
+// The next four rows with multipliers that are not 0, at `from` or later, or as many as there are.
+fn next_four(by: &[u32], next: &[u32], rows: Place, from: usize) -> Four
+    requires { ⌜ (from ≤ length (now by)) × Walkable (now by) (now next) rows ⌝ }
+    ensures { λ r. ⌜ FourTaken (now (by .entry)) (now (next .entry)) rows from r ⌝ }
+{
+    let a = next_row(by, next, rows, from);
+    let b = next_row(by, next, rows, a.next);
+    let c = next_row(by, next, rows, b.next);
+    let d = next_row(by, next, rows, c.next);
+    Four { a, b, c, d }
+}
+
 // The product of a row at place j.
 fn product_at(table: &[u32], row: Row, j: usize) -> u64
     requires { ⌜ Shorts (now table) × Inside (j + 1) (now table) row ⌝ }
@@ -79,46 +99,37 @@ fn product_at(table: &[u32], row: Row, j: usize) -> u64
 }
 
 // The sum of the products of four rows at place j: it has 64 bits with room for 2^32, as the numbers are below 2^31 - 1.
-fn four_at(table: &[u32], a: Row, b: Row, c: Row, d: Row, j: usize) -> u64
-    requires { ⌜ FourInside (j + 1) (now table) a b c d ⌝ }
-    ensures { λ r. ⌜ (r ≡ fourAt (now (table .entry)) a b c d j) × LimbFits r ⌝ }
+fn four_at(table: &[u32], four: Four, j: usize) -> u64
+    requires { ⌜ FourInside (j + 1) (now table) four ⌝ }
+    ensures { λ r. ⌜ (r ≡ fourAt (now (table .entry)) four j) × LimbFits r ⌝ }
 {
-    product_at(table, a, j)
-        + product_at(table, b, j)
-        + product_at(table, c, j)
-        + product_at(table, d, j)
+    product_at(table, four.a, j)
+        + product_at(table, four.b, j)
+        + product_at(table, four.c, j)
+        + product_at(table, four.d, j)
 }
 
 // Adds four rows to `out` in one pass, modulo p.
-fn add_four(p: u32, table: &[u32], a: Row, b: Row, c: Row, d: Row, out: &mut [u32])
-    requires { ⌜ (0 < p) × FourInside (length (now out)) (now table) a b c d ⌝ }
-    ensures { λ _. ⌜ Summed p (fourAt (now (table .entry)) a b c d) (now (out .entry)) (now (out .exit)) ⌝ }
+fn add_four(p: u32, table: &[u32], four: Four, out: &mut [u32])
+    requires { ⌜ (0 < p) × FourInside (length (now out)) (now table) four ⌝ }
+    ensures { λ _. ⌜ Summed p (fourAt (now (table .entry)) four) (now (out .entry)) (now (out .exit)) ⌝ }
 {
     let mut j = 0;
     while j < out.len() {
-        let x = four_at(table, a, b, c, d, j) + (out[j] as u64);
+        let x = four_at(table, four, j) + (out[j] as u64);
         out[j] = (x % (p as u64)) as u32;
         j += 1;
     }
 }
 
 // Adds the limbs of the sums of products of four rows to the sums of limbs, at the first `width` places.
-fn add_rows(
-    width: usize,
-    table: &[u32],
-    a: Row,
-    b: Row,
-    c: Row,
-    d: Row,
-    lo: &mut [u64; ROW],
-    hi: &mut [u64; ROW],
-)
-    requires { ⌜ Ready width (now lo) (now hi) × FourInside width (now table) a b c d ⌝ }
-    ensures { λ _. ⌜ Added width (fourAt (now (table .entry)) a b c d) (now (lo .entry)) (now (hi .entry)) (now (lo .exit)) (now (hi .exit)) ⌝ }
+fn add_rows(width: usize, table: &[u32], four: Four, lo: &mut [u64; ROW], hi: &mut [u64; ROW])
+    requires { ⌜ Ready width (now lo) (now hi) × FourInside width (now table) four ⌝ }
+    ensures { λ _. ⌜ Added width (fourAt (now (table .entry)) four) (now (lo .entry)) (now (hi .entry)) (now (lo .exit)) (now (hi .exit)) ⌝ }
 {
     let mut j = 0;
     while j < width {
-        let x = four_at(table, a, b, c, d, j);
+        let x = four_at(table, four, j);
         lo[j] += x % BASE;
         hi[j] += x / BASE;
         j += 1;
@@ -159,12 +170,9 @@ fn add_all(p: u32, by: &[u32], next: &[u32], table: &[u32], rows: Place, out: &m
     let mut hi = no_rows();
     let mut t = 0;
     while t < by.len() {
-        let a = next_row(by, next, rows, t);
-        let b = next_row(by, next, rows, a.next);
-        let c = next_row(by, next, rows, b.next);
-        let d = next_row(by, next, rows, c.next);
-        add_rows(width, table, a, b, c, d, &mut lo, &mut hi);
-        t = d.next;
+        let four = next_four(by, next, rows, t);
+        add_rows(width, table, four, &mut lo, &mut hi);
+        t = four.d.next;
     }
     fold_into(p, &lo, &hi, out);
 }
@@ -177,12 +185,9 @@ pub fn combine_listed(p: u32, by: &[u32], next: &[u32], table: &[u32], rows: Pla
     ensures { λ _. ⌜ CombinedInto p (now (by .entry)) (now (table .entry)) (rows .start) (rows .stride) (now (out .entry)) (now (out .exit)) ⌝ }
 {
     if by.len() != 0 {
-        let a = next_row(by, next, rows, 0);
-        let b = next_row(by, next, rows, a.next);
-        let c = next_row(by, next, rows, b.next);
-        let d = next_row(by, next, rows, c.next);
-        if d.next == by.len() {
-            add_four(p, table, a, b, c, d, out);
+        let four = next_four(by, next, rows, 0);
+        if four.d.next == by.len() {
+            add_four(p, table, four, out);
             return;
         }
     }

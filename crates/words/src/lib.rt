@@ -1,19 +1,22 @@
 // Slices of u32 words, whatever they stand for: room of zeros, clearing, copying, comparing, and tests of every word. Leaves for
 // the crates above, which meet what each requires.
 ghost use mathlib.Core.Path.{_≡_};
-ghost use Prim.Native.Nat.{ℕ, _+_, _≤_, _<_};
-ghost use lib.ListN.{length, getD};
+ghost use Prim.Native.Nat.{_+_, _≤_, _<_};
+ghost use lib.ListN.{length};
 ghost use Rattle.algebra.specs.Answers.{Tells};
 ghost use Rattle.words.specs.Lengths.{longestRow, largestTable, halfTable, quarterTable};
 ghost use Rattle.words.specs.Words.{Below, Blank, Zeros, AllMarked, Copied, PutAt, FirstDifference};
 
-// The numbers of the longest row or column, and of the largest table; of half its rows, and of half the columns of these.
+// The most numbers of a row or a column.
 pub const ROW: usize = 64;
 
+// The numbers of the largest table.
 pub const TABLE: usize = 4096;
 
+// The numbers of half its rows.
 pub const HALF: usize = 2048;
 
+// The numbers of half the columns of these.
 pub const QUARTER: usize = 1024;
 
 // Zeros: room for the longest row or column.

@@ -1,10 +1,9 @@
 -- `matrix_mul::rows::add_all` meets its contract. The loop's invariant: the sums of limbs hold what the first t rows add.
 use mathlib.Core.Path.{_≡_}
-use Prim.Native.Nat.{ℕ, _-_, _<_, _≤_}
+use Prim.Native.Nat.{_-_, _≤_}
 use native.Mathlib.Omega.{arith}
 use lib.ListN.{length}
-use Rattle.matrix_mul.specs.Rows.{Walkable}
-use Rattle.matrix_mul.proofs.RowsTaken.{walkable, table-short, FourTaken, four-inside}
+use Rattle.matrix_mul.proofs.RowsTaken.{walkable, table-short, four-inside}
 use Rattle.matrix_mul.proofs.RowSums.{RowsHeld, held-none, held-ready, held-four, held-whole, summed-same}
 use Rattle.matrix_mul.proofs.rows.add_all.Statement.{statement}
 use Rattle.matrix_mul.proofs.rows.add_all.Tie as tie
@@ -29,54 +28,25 @@ loop-holds c = (omega arith, held-none (c .before .no-rows .ensures) (c .no-rows
 abbrev entry : tie.In-loop Inv-loop μ-loop → tie.Start Inv-loop μ-loop
 entry c = c .before .before .before .before .before .before .before .before
 
--- a turn asks for a row
-row-asked : (c : tie.In-loop Inv-loop μ-loop) (from : ℕ) → from ≤ length (entry c .args .by .now)
-    → (from ≤ length (entry c .args .by .now)) × Walkable (entry c .args .by .now) (entry c .args .next .now) (entry c .args .rows)
-row-asked c = walkable (entry c .pre .0) (omega arith) (entry c .pre .1)
-
-next-row-requires : tie.Need-next-row-requires Inv-loop μ-loop
-next-row-requires c κs = row-asked c _ (c .before .loop .inv .0)
-
-next-row-requires-2 : tie.Need-next-row-requires-2 Inv-loop μ-loop
-next-row-requires-2 c κs = row-asked (c .before) _ (c .next-row .ensures .within)
-
-next-row-requires-3 : tie.Need-next-row-requires-3 Inv-loop μ-loop
-next-row-requires-3 c κs = row-asked (c .before .before) _ (c .next-row2 .ensures .within)
-
-next-row-requires-4 : tie.Need-next-row-requires-4 Inv-loop μ-loop
-next-row-requires-4 c κs = row-asked (c .before .before .before) _ (c .next-row3 .ensures .within)
-
--- the four rows of a turn
-taken : (d : tie.After-next-row4 Inv-loop μ-loop) →
-    let s = entry (d .before .before .before .before) .args in
-    FourTaken (s .by .now) (s .next .now) (s .rows) (d .before .before .before .before .before .loop .t)
-    (d .before .before .before .next-row .result) (d .before .before .next-row2 .result) (d .before .next-row3 .result)
-    (d .next-row4 .result)
-taken d =
-    record {
-      first = d .before .before .before .next-row .ensures;
-      second = d .before .before .next-row2 .ensures;
-      third = d .before .next-row3 .ensures;
-      fourth = d .next-row4 .ensures;
-    }
+next-four-requires : tie.Need-next-four-requires Inv-loop μ-loop
+next-four-requires c κs = walkable (entry c .pre .0) (omega arith) (entry c .pre .1) _ (c .before .loop .inv .0)
 
 add-rows-requires : tie.Need-add-rows-requires Inv-loop μ-loop
 add-rows-requires c κs =
-    let d = c .before .before in
-    let i = d .before .before .before .before in
-    let l = i .before .loop in
-    let pre = entry i .pre .0 in (
+    let f = c .before .before in
+    let l = f .before .before .loop in
+    let pre = entry (f .before) .pre .0 in (
       held-ready (omega (arith, l .inv .0, pre .few)) (pre .narrow) (l .inv .1),
-      four-inside pre (omega (arith, i .loop-test .taken)) (taken d),
+      four-inside pre (omega (arith, f .before .loop-test .taken)) (f .next-four .ensures),
     )
 
 loop-less : tie.Need-loop-less Inv-loop μ-loop
 loop-less c =
-    let d = c .before .before .before in
-    let four = taken d in
+    let f = c .before .before .before in
+    let four = f .next-four .ensures in
     omega (
       arith,
-      four .first .onward (d .before .before .before .before .loop-test .taken),
+      four .first .onward (f .before .loop-test .taken),
       four .second .later,
       four .third .later,
       four .fourth .later,
@@ -85,11 +55,12 @@ loop-less c =
 
 loop-again : tie.Need-loop-again Inv-loop μ-loop
 loop-again c =
-    let d = c .before .before .before in
-    let i = d .before .before .before .before in
+    let f = c .before .before .before in
+    let i = f .before in
     let pre = entry i .pre in (
-      d .next-row4 .ensures .within,
-      held-four (pre .1) (table-short (pre .0)) (taken d) (i .loop-test .taken) (i .before .loop .inv .1) (c .add-rows .ensures),
+      f .next-four .ensures .fourth .within,
+      held-four (pre .1) (table-short (pre .0)) (f .next-four .ensures) (i .loop-test .taken) (i .before .loop .inv .1)
+          (c .add-rows .ensures),
     )
 
 fold-into-requires : tie.Need-fold-into-requires Inv-loop μ-loop
@@ -117,10 +88,7 @@ add-all-spec =
     no-rows-requires
     no-rows-requires-2
     loop-holds
-    next-row-requires
-    next-row-requires-2
-    next-row-requires-3
-    next-row-requires-4
+    next-four-requires
     add-rows-requires
     loop-less
     loop-again

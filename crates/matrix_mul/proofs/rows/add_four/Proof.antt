@@ -1,7 +1,7 @@
 -- `matrix_mul::rows::add_four` meets its contract. The loop's invariant: the first j numbers have the four products added, the others are
 -- as they were.
 use mathlib.Core.Path.{ap}
-use Prim.Native.Nat.{_-_, _%_, _<_, _≤_}
+use Prim.Native.Nat.{_-_, _%_, _≤_}
 use native.Mathlib.Omega.{arith}
 use lib.ListN.{length}
 use Rattle.field.specs.Residue.{reduce}
@@ -13,10 +13,10 @@ use Rattle.matrix_mul.proofs.rows.add_four.Statement.{statement}
 use Rattle.matrix_mul.proofs.rows.add_four.Tie as tie
 
 abbrev Inv-loop : tie.InvT-loop
-Inv-loop p table a b c d out₀ j₀ out j = (j ≤ length out₀) × Walked j (summedAt p (fourAt table a b c d) out₀) out₀ out
+Inv-loop p table four out₀ j₀ out j = (j ≤ length out₀) × Walked j (summedAt p (fourAt table four) out₀) out₀ out
 
 abbrev μ-loop : tie.MeasureT-loop
-μ-loop p table a b c d out₀ j₀ out j = length out₀ - j
+μ-loop p table four out₀ j₀ out j = length out₀ - j
 
 loop-holds : tie.Need-loop-holds Inv-loop μ-loop
 loop-holds c = (omega arith, walked-none _ _)

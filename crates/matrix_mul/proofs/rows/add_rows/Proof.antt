@@ -20,11 +20,11 @@ with-high : (ℕ → ℕ) → List ℕ → ℕ → ℕ
 with-high x hi j = getD hi j 0 + high (x j)
 
 abbrev Inv-loop : tie.InvT-loop
-Inv-loop width table a b c d lo₀ hi₀ j₀ lo hi j =
-    (j ≤ width) × Walked j (with-low (fourAt table a b c d) lo₀) lo₀ lo × Walked j (with-high (fourAt table a b c d) hi₀) hi₀ hi
+Inv-loop width table four lo₀ hi₀ j₀ lo hi j =
+    (j ≤ width) × Walked j (with-low (fourAt table four) lo₀) lo₀ lo × Walked j (with-high (fourAt table four) hi₀) hi₀ hi
 
 abbrev μ-loop : tie.MeasureT-loop
-μ-loop width table a b c d lo₀ hi₀ j₀ lo hi j = width - j
+μ-loop width table four lo₀ hi₀ j₀ lo hi j = width - j
 
 loop-holds : tie.Need-loop-holds Inv-loop μ-loop
 loop-holds c = (omega arith, walked-none _ _, walked-none _ _)
