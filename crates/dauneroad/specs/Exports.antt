@@ -72,7 +72,7 @@ residueAnswer p z v = let r = residueCall p z in answer (r .told .number) (numbe
 
 -- ---- tables
 
-abbrev pub quasiinverseAnswer : (p m n : ℕ) (a d columns rows : List ℕ) → Answer (List ℕ × List ℕ × List ℕ)
+abbrev pub quasiinverseAnswer : (p m n : ℕ) (a d columns rows : List ℕ) → Answer (List ℕ × (List ℕ × List ℕ))
 quasiinverseAnswer p m n a d columns rows = exported (quasiinverseCall p m n a d columns rows)
 
 abbrev pub kernelAnswer : (p m n : ℕ) (a basis : List ℕ) → Answer (List ℕ)

@@ -185,7 +185,7 @@ pub extern "C" fn dauneroad_quasiinverse(
     columns: &mut [u32],
     rows: &mut [u32],
 ) -> u32
-    ensures { λ r. ⌜ answer r (now (d .exit), now (columns .exit), now (rows .exit))
+    ensures { λ r. ⌜ answer r (now (d .exit), (now (columns .exit), now (rows .exit)))
         ≡ quasiinverseAnswer p m n (now (a .entry)) (now (d .entry)) (now (columns .entry)) (now (rows .entry)) ⌝ }
 {
     table_number(matrix_calls::quasiinverse(p, m, n, a, d, columns, rows))

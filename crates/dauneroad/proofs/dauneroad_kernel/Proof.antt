@@ -2,6 +2,7 @@
 use mathlib.Core.Path.{ap}
 use borrow.Author.Needs.{needs}
 use Rattle.dauneroad.specs.Exports.{exported}
+use Rattle.dauneroad.proofs.Bounds.{small-kernel}
 use Rattle.dauneroad.proofs.dauneroad_kernel.Statement.{statement}
 use Rattle.dauneroad.proofs.dauneroad_kernel.Tie as tie
 
@@ -9,7 +10,7 @@ kernel-requires : tie.Need-kernel-requires
 kernel-requires c κs = search needs
 
 table-number-requires : tie.Need-table-number-requires
-table-number-requires c κs = small-kernel _ _
+table-number-requires c κs = small-kernel _ _ _ _ _ _ (c .before .before .kernel .ensures)
 
 same-length : tie.Need-same-length
 same-length c = search needs

@@ -2,6 +2,7 @@
 use mathlib.Core.Path.{ap}
 use borrow.Author.Needs.{needs}
 use Rattle.dauneroad.specs.Exports.{exported}
+use Rattle.dauneroad.proofs.Bounds.{small-quasiinverse}
 use Rattle.dauneroad.proofs.dauneroad_quasiinverse.Statement.{statement}
 use Rattle.dauneroad.proofs.dauneroad_quasiinverse.Tie as tie
 
@@ -9,7 +10,7 @@ quasiinverse-requires : tie.Need-quasiinverse-requires
 quasiinverse-requires c κs = search needs
 
 table-number-requires : tie.Need-table-number-requires
-table-number-requires c κs = small-quasiinverse _ _
+table-number-requires c κs = small-quasiinverse _ _ _ _ _ _ _ _ (c .before .before .before .before .before .before .quasiinverse .ensures)
 
 same-length : tie.Need-same-length
 same-length c = search needs

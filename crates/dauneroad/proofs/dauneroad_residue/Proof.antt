@@ -17,7 +17,7 @@ told : (c : tie.After-residue) (t : ResidueAnswer) → c .residue .result ≡ t
     ≡ residueAnswer (a .p) (a .number) (a .residue .now)
 told c t e =
     let s = c .before in
-    ap (λ r. answer (r .number) (numberOr (s .args .residue .now) (r .values)))
+    ap (λ r. answer (r .told .number) (numberOr (s .args .residue .now) (r .told .values)))
     (rw (e, toZ-ofZ w32 (s .args .number) (s .fits .number)) at (c .residue .ensures))
 
 residue-requires : tie.Need-residue-requires

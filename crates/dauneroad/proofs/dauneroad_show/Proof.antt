@@ -2,6 +2,7 @@
 use mathlib.Core.Path.{ap}
 use borrow.Author.Needs.{needs}
 use Rattle.dauneroad.specs.Exports.{exported}
+use Rattle.dauneroad.proofs.Bounds.{small-show}
 use Rattle.dauneroad.proofs.dauneroad_show.Statement.{statement}
 use Rattle.dauneroad.proofs.dauneroad_show.Tie as tie
 
@@ -9,7 +10,7 @@ show-requires : tie.Need-show-requires
 show-requires c κs = search needs
 
 count-number-requires : tie.Need-count-number-requires
-count-number-requires c κs = small-show _ _
+count-number-requires c κs = small-show _ _ _ _ (c .before .before .before .show .ensures)
 
 same-length : tie.Need-same-length
 same-length c = search needs

@@ -15,7 +15,7 @@ use Rattle.dauneroad.proofs.dauneroad_signed.Tie as tie
 told : (c : tie.After-signed) (t : SignedAnswer) → c .signed .result ≡ t
     → let a = c .before .args in
     answer (signedTold t .number) (valueOr (a .number .now) (signedTold t .values)) ≡ signedAnswer (a .p) (a .v) (a .number .now)
-told c t e = ap (λ r. answer (r .number) (valueOr (c .before .args .number .now) (r .values))) (rw e at (c .signed .ensures))
+told c t e = ap (λ r. answer (r .told .number) (valueOr (c .before .args .number .now) (r .told .values))) (rw e at (c .signed .ensures))
 
 signed-requires : tie.Need-signed-requires
 signed-requires c κs = search needs

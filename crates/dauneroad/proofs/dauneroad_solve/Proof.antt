@@ -2,6 +2,7 @@
 use mathlib.Core.Path.{ap}
 use borrow.Author.Needs.{needs}
 use Rattle.dauneroad.specs.Exports.{exported}
+use Rattle.dauneroad.proofs.Bounds.{small-solve}
 use Rattle.dauneroad.proofs.dauneroad_solve.Statement.{statement}
 use Rattle.dauneroad.proofs.dauneroad_solve.Tie as tie
 
@@ -9,7 +10,7 @@ solve-requires : tie.Need-solve-requires
 solve-requires c κs = search needs
 
 table-number-requires : tie.Need-table-number-requires
-table-number-requires c κs = small-solve _ _
+table-number-requires c κs = small-solve _ _ _ _ _ _ _ _ (c .before .before .before .before .solve .ensures)
 
 same-length : tie.Need-same-length
 same-length c = search needs

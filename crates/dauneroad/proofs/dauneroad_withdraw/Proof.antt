@@ -2,6 +2,7 @@
 use mathlib.Core.Path.{ap}
 use borrow.Author.Needs.{needs}
 use Rattle.dauneroad.specs.Exports.{exported}
+use Rattle.dauneroad.proofs.Bounds.{small-withdraw}
 use Rattle.dauneroad.proofs.dauneroad_withdraw.Statement.{statement}
 use Rattle.dauneroad.proofs.dauneroad_withdraw.Tie as tie
 
@@ -9,7 +10,7 @@ withdraw-requires : tie.Need-withdraw-requires
 withdraw-requires c κs = search needs
 
 count-number-requires : tie.Need-count-number-requires
-count-number-requires c κs = small-withdraw _ _
+count-number-requires c κs = small-withdraw _ _ _ (c .before .before .withdraw .ensures)
 
 same-length : tie.Need-same-length
 same-length c = search needs

@@ -2,6 +2,7 @@
 use mathlib.Core.Path.{ap}
 use borrow.Author.Needs.{needs}
 use Rattle.dauneroad.specs.Exports.{exported}
+use Rattle.dauneroad.proofs.Bounds.{small-write}
 use Rattle.dauneroad.proofs.dauneroad_write.Statement.{statement}
 use Rattle.dauneroad.proofs.dauneroad_write.Tie as tie
 
@@ -9,7 +10,7 @@ write-requires : tie.Need-write-requires
 write-requires c κs = search needs
 
 write-number-requires : tie.Need-write-number-requires
-write-number-requires c κs = small-write _ _
+write-number-requires c κs = small-write _ _ _ _ _ _ (c .before .before .write .ensures)
 
 same-length : tie.Need-same-length
 same-length c = search needs
