@@ -12,10 +12,10 @@ use borrow.Author.Tests.{lt-ltb, le-ltb}
 use Rattle.algebra.specs.Choice.{choose, pick}
 use Rattle.algebra.specs.Ring.{Ring, IsField}
 use Rattle.algebra.specs.Matrix.{Matrix, Sized, transpose}
-use Rattle.algebra.specs.Span.{IsCombination, RowDepends}
+use Rattle.algebra.specs.Span.{IsCombination, RowDepends, Independent}
 use Rattle.algebra.specs.Quasiinverse.{Marks, count, IsPivotInverse}
 use Rattle.algebra.specs.Chosen.{DecidesCombinations, chosenColumns, chosenRows, rank, Inverse}
-use Rattle.algebra.proofs.Alike.{Alike, alike-back, combination-alike}
+use Rattle.algebra.proofs.Alike.{Alike, alike-back, mixed-alike, combination-alike}
 use Rattle.algebra.proofs.Choice.{pick-elim}
 use Rattle.algebra.proofs.Marks.{is-true, is-false}
 use Rattle.algebra.proofs.Counts.{count-same}
@@ -24,6 +24,7 @@ use Rattle.algebra.proofs.Chosen.{row-depends, row-free, row-end}
 use Rattle.algebra.proofs.Exists.{PivotInverse, pivot-inverse}
 use Rattle.algebra.proofs.Unique.{inverse-on, inverse-unique}
 use Rattle.algebra.proofs.Rank.{same-span-same-rank}
+use Rattle.algebra.proofs.Independent.{all-counted, independent-chosen}
 use Rattle.algebra.proofs.Decide.{cut, cut-inside, cut-sized}
 
 module _ (R : Ring) (F : IsField R) (decide : DecidesCombinations R) where
@@ -95,6 +96,15 @@ module _ (R : Ring) (F : IsField R) (decide : DecidesCombinations R) where
       spanned m k X Y f y h =
           combination-alike R Y (cut R k n Y) (alike-back R (cut R k n Y) Y (cut-alike k n Y)) (X y) (cut R m n X y)
           (λ j l. sym (cut-inside R m n X y j h l)) (f y h)
+
+  -- independent rows are as many as their rank
+  pub independent-rank : (m n : ℕ) (X : Matrix R) → Independent R m n X → rank R decide m n X ≡ m
+  independent-rank m n X free =
+      let S = cut-inverse m n X in
+      rank-counted X (cut-alike m n X) (S .holds)
+      ∙ all-counted m (S .J)
+      (independent-chosen R (F .ring) (F .one-not-zero) (S .holds)
+      (λ u c. free u (λ j l. c j l ∙ mixed-alike R m n (cut R m n X) X (cut-alike m n X) u j l)))
 
   -- ---- D
 
