@@ -12,10 +12,10 @@ use borrow.Author.Tests.{lt-ltb, le-ltb}
 use Rattle.algebra.specs.Choice.{choose, pick}
 use Rattle.algebra.specs.Ring.{Ring, IsField}
 use Rattle.algebra.specs.Matrix.{Matrix, Sized, transpose}
-use Rattle.algebra.specs.Span.{IsCombination, RowDepends}
+use Rattle.algebra.specs.Span.{IsCombination, RowDepends, Independent}
 use Rattle.algebra.specs.Quasiinverse.{Marks, count, IsPivotInverse}
 use Rattle.algebra.specs.Chosen.{DecidesCombinations, chosenColumns, chosenRows, rank, Inverse}
-use Rattle.algebra.proofs.Alike.{Alike, alike-back, combination-alike}
+use Rattle.algebra.proofs.Alike.{Alike, alike-back, mixed-alike, combination-alike}
 use Rattle.algebra.proofs.Choice.{pick-elim}
 use Rattle.algebra.proofs.Marks.{is-true, is-false}
 use Rattle.algebra.proofs.Counts.{count-same}
@@ -24,6 +24,7 @@ use Rattle.algebra.proofs.Chosen.{row-depends, row-free, row-end}
 use Rattle.algebra.proofs.Exists.{PivotInverse, pivot-inverse}
 use Rattle.algebra.proofs.Unique.{inverse-on, inverse-unique}
 use Rattle.algebra.proofs.Rank.{same-span-same-rank}
+use Rattle.algebra.proofs.Independent.{all-counted, independent-chosen}
 use Rattle.algebra.proofs.Decide.{cut, cut-inside, cut-sized}
 
 module _ (R : Ring) (F : IsField R) (decide : DecidesCombinations R) where
@@ -70,31 +71,37 @@ module _ (R : Ring) (F : IsField R) (decide : DecidesCombinations R) where
   cut-inverse : (m n : ℕ) (X : Matrix R) → PivotInverse R m n (cut R m n X)
   cut-inverse m n X = pivot-inverse R F m n (cut R m n X) (cut-sized R m n X)
 
-  cut-alike : (m n : ℕ) (X : Matrix R) → Alike R m n (cut R m n X) X
-  cut-alike m n X = cut-inside R m n X
-
   -- "I and J have r members each, the rank"
   pub columns-counted : (m n : ℕ) (X : Matrix R) → count n (chosenColumns R decide m n X) ≡ rank R decide m n X
   columns-counted m n X =
       let Q = cut-inverse m n X .holds in
-      count-same n _ _ (λ c h. sym (columns-are-chosen X (cut-alike m n X) Q c))
+      count-same n _ _ (λ c h. sym (columns-are-chosen X (cut-inside R m n X) Q c))
       ∙ Q .equally-many
-      ∙ sym (rank-counted X (cut-alike m n X) Q)
+      ∙ sym (rank-counted X (cut-inside R m n X) Q)
 
   -- rows that are combinations of each other's have the same rank
   pub same-span-rank : (m k n : ℕ) (X Y : Matrix R) → ((y : ℕ) → y < m → IsCombination R k n Y (X y))
       → ((y : ℕ) → y < k → IsCombination R m n X (Y y)) → rank R decide m n X ≡ rank R decide k n Y
   same-span-rank m k n X Y f g =
-      rank-counted X (cut-alike m n X) (cut-inverse m n X .holds)
+      rank-counted X (cut-inside R m n X) (cut-inverse m n X .holds)
       ∙ same-span-same-rank R (F .ring) (F .one-not-zero) (cut-inverse m n X .holds) (cut-inverse k n Y .holds) (spanned m k X Y f)
       (spanned k m Y X g)
-      ∙ sym (rank-counted Y (cut-alike k n Y) (cut-inverse k n Y .holds))
+      ∙ sym (rank-counted Y (cut-inside R k n Y) (cut-inverse k n Y .holds))
     where
       spanned : (m k : ℕ) (X Y : Matrix R) → ((y : ℕ) → y < m → IsCombination R k n Y (X y))
           → (y : ℕ) → y < m → IsCombination R k n (cut R k n Y) (cut R m n X y)
       spanned m k X Y f y h =
-          combination-alike R Y (cut R k n Y) (alike-back R (cut R k n Y) Y (cut-alike k n Y)) (X y) (cut R m n X y)
+          combination-alike R Y (cut R k n Y) (alike-back R (cut R k n Y) Y (cut-inside R k n Y)) (X y) (cut R m n X y)
           (λ j l. sym (cut-inside R m n X y j h l)) (f y h)
+
+  -- independent rows are as many as their rank
+  pub independent-rank : (m n : ℕ) (X : Matrix R) → Independent R m n X → rank R decide m n X ≡ m
+  independent-rank m n X free =
+      let S = cut-inverse m n X in
+      rank-counted X (cut-inside R m n X) (S .holds)
+      ∙ all-counted m (S .J)
+      (independent-chosen R (F .ring) (F .one-not-zero) (S .holds)
+      (λ u c. free u (λ j l. c j l ∙ mixed-alike R m n (cut R m n X) X (cut-inside R m n X) u j l)))
 
   -- ---- D
 

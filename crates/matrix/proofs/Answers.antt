@@ -13,6 +13,7 @@ use Rattle.checks.specs.declared.Verdict.the-variants as verdict
 use Rattle.checks.specs.InOrder.{Check, Checks, _⨾_, Given, andThen, AllHold, FirstFailing}
 use Rattle.checks.specs.Sizes.{tableSizes, Judges}
 use Rattle.checks.proofs.InOrder.{none-left, holds-and, fails-later, given, fails-in-front, in-order-done, in-order-refused}
+use Rattle.words.specs.Words.{Below}
 use Rattle.matrix.specs.Calls.{
   tableRank,
   quasiinverseChecks,
@@ -23,7 +24,7 @@ use Rattle.matrix.specs.Calls.{
   solveChecks,
   solveCall,
 }
-use Rattle.matrix.specs.Parts.{Checked, InverseRoom, StoresInverse, StoresBasis, System}
+use Rattle.matrix.specs.Parts.{Checked, Tables, InverseRoom, StoresInverse, StoresBasis, System}
 
 infixr 40 _then_
 -- a check holds, and then the first of the others that fails has the kind k
@@ -53,6 +54,14 @@ module _ {p m n : ℕ} {v : Verdict} (told : Judges (tableSizes p m n) v) where
   pub sizes-failed : {k : Refusal} {rest : Checks Refusal} → v ≡ verdict.Refused k
       → FirstFailing (andThen (tableSizes p m n) (λ _. rest)) k
   sizes-failed e = sizes-first (subst (Judges (tableSizes p m n)) e told)
+
+-- a table that has passed 1 to 4, and one with D's memory beside it
+pub passes-all : {p m n : ℕ} {a : List ℕ} → Given (tableSizes p m n) → length a ≡ m * n → Below p a → Checked p m n a
+passes-all s l b = record { is-modulus = s .0; m-most = s .1 .0 .0; n-most = s .1 .0 .1; a-long = l; a-below = b }
+
+pub beside-inverse : {p m n : ℕ} {a d : List ℕ} → Checked p m n a → length d ≡ n * m → Tables p m n a d
+beside-inverse k l =
+    record { is-modulus = k .is-modulus; m-most = k .m-most; n-most = k .n-most; a-long = k .a-long; d-long = l }
 
 -- ---- quasiinverse
 

@@ -7,7 +7,7 @@ use Rattle.checks.specs.InOrder.{Given}
 use Rattle.checks.specs.Sizes.{tableSizes}
 use Rattle.checks.proofs.InOrder.{fails-here}
 use Rattle.matrix.specs.Parts.{Checked, InverseRoom}
-use Rattle.matrix.proofs.Answers.{_then_, past-sizes, sizes-passed, sizes-failed, quasiinverse-refused, quasiinverse-done}
+use Rattle.matrix.proofs.Answers.{_then_, past-sizes, passes-all, sizes-passed, sizes-failed, quasiinverse-refused, quasiinverse-done}
 use Rattle.matrix.proofs.Memory.{table-most}
 use Rattle.matrix_calls.proofs.quasiinverse.Statement.{statement}
 use Rattle.matrix_calls.proofs.quasiinverse.Tie as tie
@@ -89,14 +89,8 @@ begun c = c .before .before .before .before .before .before
 checked : (c : tie.Else5)
     → Checked (start (begun c) .args .p) (start (begun c) .args .m) (start (begun c) .args .n) (start (begun c) .args .a .now)
 checked c =
-    let s = sized (begun c) in
-    record {
-      is-modulus = s .0;
-      m-most = s .1 .0 .0;
-      n-most = s .1 .0 .1;
-      a-long = c .before .before .before .before .before .if1 .left;
-      a-below = guard-left (c .before .all-below .ensures) (c .if5 .left);
-    }
+    passes-all (sized (begun c)) (c .before .before .before .before .before .if1 .left)
+    (guard-left (c .before .all-below .ensures) (c .if5 .left))
 
 room : (c : tie.Else5)
     → InverseRoom (start (begun c) .args .m) (start (begun c) .args .n) (start (begun c) .args .d .now) (start (begun c) .args .columns .now)

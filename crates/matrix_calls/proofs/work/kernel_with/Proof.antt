@@ -1,5 +1,6 @@
 -- `matrix_calls::work::kernel_with` meets its contract: the kernel vectors of what invert leaves are the basis.
 use mathlib.Core.Path.{_∙_}
+use Rattle.matrix.proofs.Answers.{beside-inverse}
 use Rattle.matrix.proofs.Basis.{basis-filled, vectors-many}
 use Rattle.matrix_calls.proofs.work.kernel_with.Statement.{statement}
 use Rattle.matrix_calls.proofs.work.kernel_with.Tie as tie
@@ -20,15 +21,8 @@ invert-requires c κs =
 kernel-vectors-requires : tie.Need-kernel-vectors-requires
 kernel-vectors-requires c κs =
     let i = filled c in
-    let s = start i in
-    let k = s .pre .0 in (
-      record {
-        is-modulus = k .is-modulus;
-        m-most = k .m-most;
-        n-most = k .n-most;
-        a-long = k .a-long;
-        d-long = i .invert .kept .1 .1 .1 .1 .0 ∙ s .pre .1 .d-long;
-      },
+    let s = start i in (
+      beside-inverse (s .pre .0) (i .invert .kept .1 .1 .1 .1 .0 ∙ s .pre .1 .d-long),
       i .invert .kept .1 .1 .1 .1 .1 .0 ∙ s .pre .1 .columns-long,
       s .pre .2,
     )

@@ -8,6 +8,7 @@ use native.Mathlib.Omega.{arith}
 use lib.ListN.{length, length-append}
 use lib.Seq.{length-take-le}
 use Rattle.checks.specs.Largest.{largest}
+use Rattle.matrix.proofs.Answers.{beside-inverse}
 use Rattle.matrix.proofs.Memory.{table-most, table-again}
 use Rattle.matrix.proofs.Systems.{told-so}
 use Rattle.matrix_calls.proofs.work.solve_of.Statement.{statement}
@@ -112,15 +113,8 @@ solve-by-requires : tie.Need-solve-by-requires
 solve-by-requires c κs =
     let i = c .before .before in
     let d = i .before .before in
-    let s = start (made (ranked d)) in
-    let k = s .pre .0 in (
-      record {
-        is-modulus = k .is-modulus;
-        m-most = k .m-most;
-        n-most = k .n-most;
-        a-long = k .a-long;
-        d-long = sym (slice-aggregate-solve-by d);
-      },
+    let s = start (made (ranked d)) in (
+      beside-inverse (s .pre .0) (sym (slice-aggregate-solve-by d)),
       s .pre .1,
       sym (slice-aggregate-solve-by-2 (i .before)),
       sym (slice-aggregate-solve-by-3 i),
