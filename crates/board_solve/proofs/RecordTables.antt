@@ -15,7 +15,7 @@ use Rattle.field.specs.View.{line, table}
 use Rattle.words.specs.Words.{Below, Blank}
 use Rattle.field.proofs.Field.{residues-ring}
 use Rattle.field.proofs.Views.{table-entry}
-use Rattle.matrix_inverse.proofs.StepNegative.{taken-below, dropped-below}
+use Rattle.words.proofs.Parts.{taken-below, dropped-below}
 use Rattle.ledger.specs.Board.{rowLength, valueStart}
 use Rattle.board_solve.specs.Records.{valueAt}
 

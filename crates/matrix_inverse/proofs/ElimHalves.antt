@@ -14,10 +14,10 @@ use Rattle.matrix_mul.specs.Places.{place, Kept}
 use Rattle.matrix_inverse.specs.Eliminated.{Eliminable, Eliminated}
 use Rattle.matrix_inverse.specs.Steps.{split, Halves, Reduced, Joined}
 use Rattle.matrix_mul.proofs.Places.{front-table, kept-trans, kept-wider, kept-at}
-use Rattle.words.proofs.Parts.{replaced, part-rest}
+use Rattle.words.proofs.Parts.{replaced, part-rest, taken-below, dropped-below}
 use Rattle.matrix_inverse.proofs.ElimMarks.{behind, with-front, rows-length, behind-length, marked-either, marked-rows}
 use Rattle.matrix_inverse.proofs.ElimStep.{whole-quasiinverse}
-use Rattle.matrix_inverse.proofs.StepNegative.{row-inside, taken-below, dropped-below}
+use Rattle.matrix_inverse.proofs.StepNegative.{row-inside}
 
 -- the m rows of a table are m₁ upper rows and m₂ lower rows, at most 32 each
 pub record Splits (m m₁ m₂ : ℕ) : Type 0 where

@@ -2,11 +2,11 @@
 -- `negative_product` leaves.
 use mathlib.Core.Path.{_≡_, ap, _∙_}
 use mathlib.Core.List.{List, _++_}
-use Prim.Native.Nat.{ℕ, zero, suc, _+_, _*_, _-_, _≤_, _<_, min}
+use Prim.Native.Nat.{ℕ, zero, suc, _+_, _*_, _-_, _≤_, _<_}
 use native.Mathlib.Nat.{mul-le-mul-right}
 use native.Mathlib.Omega.{arith}
-use lib.ListN.{length, getD, take, drop, length-take, length-drop}
-use lib.Seq.{getD-take, getD-drop, length-take-le, length-front}
+use lib.ListN.{length, getD, take, drop}
+use lib.Seq.{getD-take, length-take-le, length-front}
 use Rattle.algebra.specs.Ring.{IsCommutativeRing}
 use Rattle.algebra.specs.Matrix.{Matrix, add, negative, product}
 use Rattle.algebra.proofs.Matrices.{zeros-add}
@@ -39,17 +39,6 @@ pub columns-block : {p : ℕ} (d : List ℕ) (at stride n k : ℕ) → length d 
     → Block p d (place at stride) n k
 columns-block d at stride n k long fits below =
     record { apart = omega arith; inside = λ i l. omega (arith, mul-le-mul-right stride l); below = below }
-
--- the front and the rest of a list whose numbers are below p
-pub taken-below : (p : ℕ) (xs : List ℕ) (k : ℕ) → Below p xs → Below p (take k xs)
-taken-below p xs k below i h =
-    let l : i < min k (length xs) = rw (length-take k xs) at h in
-    rw (getD-take k xs i 0 (omega arith)) (below i (omega arith))
-
-pub dropped-below : (p : ℕ) (xs : List ℕ) (k : ℕ) → Below p xs → Below p (drop k xs)
-dropped-below p xs k below i h =
-    let l : i < length xs - k = rw (length-drop k xs) at h in
-    rw (getD-drop k xs i 0) (below (k + i) (omega arith))
 
 -- what is asked of Z
 module _ {p m k n : ℕ} {x y : List ℕ} {Y : Place} {z : List ℕ} (f : Factors p (shape m k n) x (place 0 k) y Y z (place 0 n))

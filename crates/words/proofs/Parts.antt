@@ -2,10 +2,10 @@
 -- what stands in a part.
 use mathlib.Core.Path.{_≡_, sym, ap, _∙_}
 use mathlib.Core.List.{List, _++_}
-use Prim.Native.Nat.{ℕ, _+_, _-_, _≤_, _<_}
+use Prim.Native.Nat.{ℕ, _+_, _-_, _≤_, _<_, min}
 use native.Mathlib.Decide.{decLt}
 use native.Mathlib.Omega.{arith}
-use lib.ListN.{length, getD, take, drop, length-append, length-drop, List·getD-append}
+use lib.ListN.{length, getD, take, drop, length-append, length-take, length-drop, List·getD-append}
 use lib.Seq.{length-take-le, take-all, getD-append-add, getD-take, getD-drop}
 use Rattle.words.specs.Words.{Below}
 
@@ -92,3 +92,14 @@ part-at xs a k j h = getD-take k (drop a xs) j 0 h ∙ getD-drop a xs j 0
 -- `&xs[a..]` comes as the part up to the end
 pub part-rest : (xs : List ℕ) (a : ℕ) → take (length xs - a) (drop a xs) ≡ drop a xs
 part-rest xs a = take-all (length xs - a) (drop a xs) (simp length-drop (omega arith))
+
+-- the front and the rest of a list whose numbers are below p
+pub taken-below : (p : ℕ) (xs : List ℕ) (k : ℕ) → Below p xs → Below p (take k xs)
+taken-below p xs k below i h =
+    let l : i < min k (length xs) = rw (length-take k xs) at h in
+    rw (getD-take k xs i 0 (omega arith)) (below i (omega arith))
+
+pub dropped-below : (p : ℕ) (xs : List ℕ) (k : ℕ) → Below p xs → Below p (drop k xs)
+dropped-below p xs k below i h =
+    let l : i < length xs - k = rw (length-drop k xs) at h in
+    rw (getD-drop k xs i 0) (below (k + i) (omega arith))

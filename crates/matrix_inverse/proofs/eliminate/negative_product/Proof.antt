@@ -6,7 +6,8 @@ use native.Mathlib.Omega.{arith}
 use lib.ListN.{length}
 use lib.Seq.{length-take-le}
 use borrow.Author.Needs.{needs}
-use Rattle.matrix_inverse.proofs.StepNegative.{size-inside, cleared-long, cleared-factors, taken-below, negative-product-done}
+use Rattle.matrix_inverse.proofs.StepNegative.{size-inside, cleared-long, cleared-factors, negative-product-done}
+use Rattle.words.proofs.Parts.{taken-below}
 use Rattle.matrix_inverse.proofs.eliminate.negative_product.Statement.{statement}
 use Rattle.matrix_inverse.proofs.eliminate.negative_product.Tie as tie
 
