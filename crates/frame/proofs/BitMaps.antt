@@ -9,10 +9,10 @@ use native.Mathlib.Decide.{decLt}
 use native.Mathlib.Omega.{arith}
 use lib.ListN.{length, getD, take, drop, replicate, List·getD-append}
 use lib.Seq.{length-take-le, getD-append-add, getD-take}
+use Rattle.checks.specs.Largest.{largest}
 use Rattle.codec.specs.Placed.{placed}
 use Rattle.codec.proofs.Placed.{placed-front}
 use Rattle.frame.specs.Format.{mapLength}
-use Rattle.checks.specs.Largest.{largest}
 use Rattle.frame.specs.Bitmap.{bitAt, standing, recordBits, ClearFrom, Unpadded, mapFrom, mapBits}
 use Rattle.frame.proofs.Bits.{count, count-record-bits, count-small, count-runs, count-clear, bits-agree}
 

@@ -10,12 +10,12 @@ use lib.ListN.{length, getD, take, drop, length-append, length-drop, take-append
 use lib.Seq.{drop-at, drop-drop}
 use Rattle.checks.proofs.InOrder.{holds-and, in-order-done, in-order-elim}
 use Rattle.words.specs.Words.{Below}
-use Rattle.frame.specs.Format.{mapLength, longest, stands, mapBytes, valueBytes, frameOf}
 use Rattle.codec.specs.BigEndian.{width, bytesOf}
+use Rattle.codec.proofs.BigEndian.{bytes-length, number-of-bytes, bytes-of-number, below-drop}
+use Rattle.frame.specs.Format.{mapLength, longest, stands, mapBytes, valueBytes, frameOf}
 use Rattle.frame.specs.Bitmap.{standing, recordBits, Unpadded}
 use Rattle.frame.specs.Reading.{accepted, frameLength, frameNumbers, frameMultipliers, frameValue, readFrame}
 use Rattle.frame.proofs.Bytes.{one-value, value-bytes-length, numbers-length, numbers-of-values, values-of-numbers}
-use Rattle.codec.proofs.BigEndian.{bytes-length, number-of-bytes, bytes-of-number, below-drop}
 use Rattle.frame.proofs.RoundMap.{map-length, bits-of-map, map-unpadded, map-of-bits, record-bits-length}
 use Rattle.frame.proofs.RoundNumbers.{
   kept,

@@ -11,11 +11,11 @@ use lib.ListN.{length, getD}
 use Rattle.checks.specs.InOrder.{Given, AllHold}
 use Rattle.checks.proofs.InOrder.{none-left, holds-and}
 use Rattle.words.specs.Words.{Below}
+use Rattle.codec.proofs.BigEndian.{below-head, below-tail, below-cons}
 use Rattle.frame.specs.Format.{stands, packed, valueBytes}
 use Rattle.frame.specs.Bitmap.{standing}
 use Rattle.frame.specs.Reading.{spread, numberChecks}
 use Rattle.frame.proofs.Bytes.{values-none, values-more}
-use Rattle.codec.proofs.BigEndian.{below-head, below-tail, below-cons}
 
 -- ---- the multipliers that are written
 
