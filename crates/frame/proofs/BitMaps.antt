@@ -6,29 +6,30 @@ use mathlib.Core.List.{List, _++_}
 use Prim.Native.Nat.{ℕ, zero, suc, _+_, _*_, _-_, _/_, _≤_, _<_}
 use native.Mathlib.Nat.{add-zero, zero-add, zero-div}
 use native.Mathlib.Decide.{decLt}
-use native.Mathlib.Numerals.{add-one}
 use native.Mathlib.Omega.{arith}
-use lib.ListN.{length, getD, set, take, replicate, List·getD-append}
-use lib.Seq.{length-take-le, take-suc, append-snoc, set-at, getD-append-add, getD-take}
-use Rattle.frame.specs.Format.{mapLength}
+use lib.ListN.{length, getD, take, drop, replicate, List·getD-append}
+use lib.Seq.{length-take-le, getD-append-add, getD-take}
 use Rattle.checks.specs.Largest.{largest}
+use Rattle.codec.specs.Placed.{placed}
+use Rattle.codec.proofs.Placed.{placed-front}
+use Rattle.frame.specs.Format.{mapLength}
 use Rattle.frame.specs.Bitmap.{bitAt, standing, recordBits, ClearFrom, Unpadded, mapFrom, mapBits}
 use Rattle.frame.proofs.Bits.{count, count-record-bits, count-small, count-runs, count-clear, bits-agree}
 
 -- ---- building the map
 
-pub map-none : (bytes : List ℕ) → replicate 8 0 ≡ mapFrom 0 bytes
-unfolding mapFrom
-map-none bytes = refl
+same : (m n : ℕ) → m ≡ n → replicate {A = ℕ} m 0 ≡ replicate n 0
+same m n e = ap (λ (k : ℕ). replicate {A = ℕ} k 0) e
 
--- one byte more
-pub map-more : (bytes : List ℕ) (b : ℕ) → b < 8 → b < length bytes → set (mapFrom b bytes) b (getD bytes b 0) ≡ mapFrom (b + 1) bytes
+drop-zeros : (k n : ℕ) → drop {A = ℕ} k (replicate n 0) ≡ replicate (n - k) 0
+drop-zeros zero n = same n (n - 0) (omega arith)
+drop-zeros (suc k) zero = same 0 (0 - suc k) (omega arith)
+drop-zeros (suc k) (suc n) = drop-zeros k n ∙ same (n - k) (suc n - suc k) (omega arith)
+
+-- the front of the bytes, put at the front of eight zeros
+pub map-put : (len : ℕ) (bytes : List ℕ) → len ≤ length bytes → placed 0 (take len bytes) (replicate 8 0) ≡ mapFrom len bytes
 unfolding mapFrom
-map-more bytes b h l =
-    let left : 8 - b ≡ suc (8 - (b + 1)) = omega arith in
-    let e : length (take b bytes) ≡ b = length-take-le b bytes (omega arith) in
-    rw (left, set-at (take b bytes) 0 (replicate (8 - (b + 1)) 0) (getD bytes b 0) b e, add-one, take-suc bytes b 0 l)
-    (sym (append-snoc (take b bytes) (getD bytes b 0) (replicate (8 - suc b) 0)))
+map-put len bytes h = placed-front (take len bytes) (replicate 8 0) ∙ rw (length-take-le len bytes h, drop-zeros len 8)
 
 -- ---- what stands in it
 

@@ -60,18 +60,21 @@ count-runs bytes j (suc a) b =
 -- ---- the bits of a byte
 
 -- a binary digit that is tested counts for itself
-digit-counts : (d : ℕ) → d < 2 → choose (eqb d 1) 1 0 ≡ d
+pub digit-counts : (d : ℕ) → d < 2 → choose (eqb d 1) 1 0 ≡ d
 digit-counts zero h = refl
 digit-counts (suc zero) h = refl
 digit-counts (suc (suc d)) h = omega arith
 
--- bit t of byte i is the byte's binary digit t
-pub bit-of-byte : (bytes : List ℕ) (i t : ℕ) → t < 8 → choose (bitAt bytes (8 * i + t)) 1 0 ≡ getD bytes i 0 / 2 ^ t % 2
+-- bit t of byte i is the byte's binary digit t, and counts for it
+pub bit-digit : (bytes : List ℕ) (i t : ℕ) → t < 8 → bitAt bytes (8 * i + t) ≡ eqb (getD bytes i 0 / 2 ^ t % 2) 1
 unfolding bitAt
-bit-of-byte bytes i t h =
+bit-digit bytes i t h =
     let place : (8 * i + t) / 8 ≡ i = omega arith in
     let digit : (8 * i + t) % 8 ≡ t = omega arith in
-    rw (place, digit) (digit-counts (getD bytes i 0 / 2 ^ t % 2) (mod-lt _ (omega arith)))
+    rw (place, digit)
+
+pub bit-of-byte : (bytes : List ℕ) (i t : ℕ) → t < 8 → choose (bitAt bytes (8 * i + t)) 1 0 ≡ getD bytes i 0 / 2 ^ t % 2
+bit-of-byte bytes i t h = rw (bit-digit bytes i t h) (digit-counts (getD bytes i 0 / 2 ^ t % 2) (mod-lt _ (omega arith)))
 
 -- the bits of byte i from bit t on are counted with what stands above them
 count-digits : (bytes : List ℕ) (i t k : ℕ) → t + k ≤ 8 → count bytes (8 * i + t) k + ones (getD bytes i 0 / 2 ^ (t + k)) ≡ ones (getD bytes i 0 / 2 ^ t)

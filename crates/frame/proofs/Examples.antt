@@ -4,12 +4,12 @@ use mathlib.Core.Path.{_≡_, refl, sym, subst}
 use mathlib.Core.List.{[], _∷_, List·Memᴰ, List·Memᴰ·eq-of-singleton}
 use Prim.Native.Nat.{_≤_}
 use native.Mathlib.Omega.{arith}
+use Rattle.codec.specs.BigEndian.{width, bytesOf}
+use Rattle.codec.proofs.BigEndian.{below-cons}
 use Rattle.field.specs.Written.{tabulate}
 use Rattle.frame.specs.Format.{mapLength, stands, mapByte, mapBytes, packed, valueBytes, frameOf}
-use Rattle.codec.specs.BigEndian.{width, bytesOf}
 use Rattle.frame.specs.Reading.{accepted, readFrame}
 use Rattle.frame.specs.Examples.{FrameExample, frameExamples}
-use Rattle.codec.proofs.BigEndian.{below-cons}
 use Rattle.frame.proofs.Round.{written-reads-back, Writes}
 
 -- the bytes of the example read as its multipliers and its value

@@ -13,8 +13,8 @@ use Rattle.checks.specs.Outcome.{outcome, untouched}
 use Rattle.checks.specs.InOrder.{AllHold, FirstFailing, EveryKind}
 use Rattle.checks.specs.Largest.{largest}
 use Rattle.checks.proofs.InOrder.{holds-and, fails-here, fails-later, in-order-done, in-order-refused, in-order-elim, kind-of-list}
-use Rattle.frame.specs.Format.{mapLength}
 use Rattle.codec.specs.BigEndian.{width}
+use Rattle.frame.specs.Format.{mapLength}
 use Rattle.frame.specs.Bitmap.{standing, recordBits, ClearFrom, Unpadded, mapFrom, mapBits}
 use Rattle.frame.specs.Reading.{
   numbersIn,

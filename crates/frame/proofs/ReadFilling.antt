@@ -10,11 +10,10 @@ use native.Mathlib.Omega.{arith}
 use lib.ListN.{length, set, take, length-set}
 use lib.Seq.{take-suc-set, take-all, append-snoc}
 use Rattle.algebra.specs.Choice.{choose}
-use Rattle.codec.specs.BigEndian.{width}
+use Rattle.codec.specs.BigEndian.{width, numberAt}
 use Rattle.frame.specs.Bitmap.{bitAt, bitsFrom, standing, recordBits}
 use Rattle.frame.specs.Reading.{spread}
 use Rattle.frame.specs.Stages.{multipliersFrom}
-use Rattle.codec.specs.BigEndian.{numberAt}
 use Rattle.frame.proofs.Bits.{bits-more, count, count-more, count-record-bits}
 use Rattle.frame.proofs.Bytes.{numbers-more}
 

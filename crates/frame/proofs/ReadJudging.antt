@@ -10,10 +10,9 @@ use Rattle.checks.specs.declared.Refusal.{Refusal}
 use Rattle.checks.specs.declared.Refusal.the-variants.{Number, ZeroMultiplier}
 use Rattle.checks.specs.InOrder.{AllHold, FirstFailing}
 use Rattle.checks.proofs.InOrder.{none-left, holds-and, fails-here, fails-later}
-use Rattle.codec.specs.BigEndian.{width}
+use Rattle.codec.specs.BigEndian.{width, numberAt}
 use Rattle.frame.specs.Reading.{numbersIn}
 use Rattle.frame.specs.Stages.{valueAfter, checksFrom}
-use Rattle.codec.specs.BigEndian.{numberAt}
 use Rattle.frame.proofs.Bytes.{numbers-none, numbers-more}
 
 -- the numbers before the place are good, so that what is left, up to the end, decides

@@ -10,12 +10,12 @@ use lib.ListN.{length, getD, take, drop, length-append, length-drop, take-append
 use lib.Seq.{drop-at, drop-drop}
 use Rattle.checks.proofs.InOrder.{holds-and, in-order-done, in-order-elim}
 use Rattle.words.specs.Words.{Below}
-use Rattle.frame.specs.Format.{mapLength, longest, stands, mapBytes, valueBytes, frameOf}
 use Rattle.codec.specs.BigEndian.{width, bytesOf}
+use Rattle.codec.proofs.BigEndian.{bytes-length, number-of-bytes, bytes-of-number, below-drop}
+use Rattle.frame.specs.Format.{mapLength, longest, stands, mapBytes, valueBytes, frameOf}
 use Rattle.frame.specs.Bitmap.{standing, recordBits, Unpadded}
 use Rattle.frame.specs.Reading.{accepted, frameLength, frameNumbers, frameMultipliers, frameValue, readFrame}
 use Rattle.frame.proofs.Bytes.{one-value, value-bytes-length, numbers-length, numbers-of-values, values-of-numbers}
-use Rattle.codec.proofs.BigEndian.{bytes-length, number-of-bytes, bytes-of-number, below-drop}
 use Rattle.frame.proofs.RoundMap.{map-length, bits-of-map, map-unpadded, map-of-bits, record-bits-length}
 use Rattle.frame.proofs.RoundNumbers.{
   kept,
@@ -31,9 +31,9 @@ use Rattle.frame.proofs.RoundNumbers.{
   spread-length,
   spread-below,
   spread-stands,
-  Passed,
-  numbers-passed,
-  numbers-pass,
+  GoodNumbers,
+  good-of-given,
+  good-hold,
 }
 
 -- ---- a frame of one value, in three parts
@@ -98,7 +98,7 @@ unfolding readFrame frameMultipliers
 written-reads-back p n xs v range long below value =
     let numbers = written-numbers n xs v long (λ i h. number-fits p (getD xs i 0) range (below i h)) in
     let last = written-value n xs v long (number-fits p v range value) in
-    let good = numbers-pass p (kept xs) v (record { positive = kept-positive xs; below = kept-below p xs below; value-below = value }) in
+    let good = good-hold p (kept xs) v (record { positive = kept-positive xs; below = kept-below p xs below; value-below = value }) in
     in-order-done _ _ _
     (holds-and (omega (arith, frame-length n xs v))
     (λ _. holds-and (written-unpadded n xs v long) (λ _. holds-and (written-length n xs v long) (λ _. rw (numbers, last) good))))
@@ -116,7 +116,7 @@ record Sound (p n : ℕ) (bytes xs : List ℕ) (v : ℕ) : Type 0 where
   map-fits : mapLength n ≤ length bytes
   unpadded : Unpadded n bytes
   right-length : length bytes ≡ frameLength n bytes
-  passed : Passed p (frameNumbers n bytes) (frameValue n bytes)
+  passed : GoodNumbers p (frameNumbers n bytes) (frameValue n bytes)
   multipliers : frameMultipliers n bytes ≡ xs
   value : frameValue n bytes ≡ v
 
@@ -129,7 +129,7 @@ accepted-sound p n bytes xs v =
       map-fits = hs .0;
       unpadded = hs .1 .0;
       right-length = hs .1 .1 .0;
-      passed = numbers-passed p (frameNumbers n bytes) (frameValue n bytes) (hs .1 .1 .1);
+      passed = good-of-given p (frameNumbers n bytes) (frameValue n bytes) (hs .1 .1 .1);
       multipliers = cc;
       value = cc;
     })

@@ -2,7 +2,7 @@
 -- bits. A byte is first seen as a number packed from any eight bits; then the bytes are laid out by j/8 and j mod 8.
 use mathlib.Core.Path.{_≡_, refl, sym, ap, _∙_}
 use mathlib.Core.Bool.{Bool, true, false}
-use mathlib.Core.List.{List, [], _∷_, _++_}
+use mathlib.Core.List.{List, _++_}
 use Prim.Native.Nat.{ℕ, zero, suc, _+_, _*_, _/_, _%_, _^_, _<_, _≤_}
 use native.Mathlib.Nat.{pow-zero, pow-suc, mul-comm, div-one, div-div-eq-div-mul, not-suc-le-zero}
 use native.Mathlib.Decide.{decLt}
@@ -16,6 +16,7 @@ use Rattle.field.specs.Written.{tabulate}
 use Rattle.field.proofs.Written.{length-tabulate, getD-tabulate, is-tabulate}
 use Rattle.frame.specs.Format.{mapLength, mapByte, mapBytes}
 use Rattle.frame.specs.Bitmap.{bitAt, bitsFrom, recordBits, Unpadded}
+use Rattle.frame.proofs.Bits.{digit-counts, bits-none, bits-more, bit-digit}
 
 -- ---- a number packed from bits
 
@@ -40,11 +41,6 @@ bit-small false = omega arith
 bit-back : (b : Bool) → eqb (choose b 1 0) 1 ≡ b
 bit-back true = refl
 bit-back false = refl
-
-bit-value : (x : ℕ) → x < 2 → choose (eqb x 1) 1 0 ≡ x
-bit-value zero h = refl
-bit-value (suc zero) h = refl
-bit-value (suc (suc x)) h = absurd (omega arith)
 
 pub pack-same : (f g : ℕ → Bool) (k : ℕ) → ((i : ℕ) → i < k → f i ≡ g i) → pack f k ≡ pack g k
 pack-same f g zero h = pack-none f ∙ sym (pack-none g)
@@ -72,7 +68,7 @@ pack-of-bits x zero h = rw pack-none (omega (arith, pow-zero 2))
 pack-of-bits x (suc k) h =
     let next : pack (λ i. eqb (x / 2 ^ suc i % 2) 1) k ≡ pack (λ i. eqb (x / 2 / 2 ^ i % 2) 1) k =
     pack-same _ _ k (λ i l. rw (pow-suc, mul-comm (2 ^ i) 2, ← (div-div-eq-div-mul x 2 (2 ^ i)))) in
-    rw (pack-more, next, pack-of-bits (x / 2) k (omega (arith, pow-suc 2 k)), pow-zero, div-one, bit-value (x % 2) (omega arith))
+    rw (pack-more, next, pack-of-bits (x / 2) k (omega (arith, pow-suc 2 k)), pow-zero, div-one, digit-counts (x % 2) (omega arith))
     (omega arith)
 
 -- ---- the bytes of the map
@@ -105,14 +101,6 @@ map-bit n bits rest j h =
     (bit-back (getD bits j false))
 
 -- ---- the bits that are read
-
-bits-none : (bytes : List ℕ) (j : ℕ) → bitsFrom bytes j 0 ≡ []
-unfolding bitsFrom
-bits-none bytes j = refl
-
-bits-more : (bytes : List ℕ) (j k : ℕ) → bitsFrom bytes j (suc k) ≡ bitAt bytes j ∷ bitsFrom bytes (suc j) k
-unfolding bitsFrom
-bits-more bytes j k = refl
 
 bits-length : (bytes : List ℕ) (j k : ℕ) → length (bitsFrom bytes j k) ≡ k
 bits-length bytes j zero = rw bits-none
@@ -156,14 +144,6 @@ unpadded-bit n bytes u j h = by-place (decLt j n)
     by-place (no f) =
         List·getD-eq-default (recordBits n bytes) false (omega (arith, record-bits-length n bytes)) ∙ sym (u j h (omega arith))
 
--- the bit of a byte
-bit-of-byte : (bytes : List ℕ) (b i : ℕ) → i < 8 → bitAt bytes (8 * b + i) ≡ eqb (getD bytes b 0 / 2 ^ i % 2) 1
-unfolding bitAt
-bit-of-byte bytes b i h =
-    let byte : (8 * b + i) / 8 ≡ b = omega arith in
-    let bit : (8 * b + i) % 8 ≡ i = omega arith in
-    rw (byte, bit)
-
 -- an unpadded map is the map of the bits that are read from it
 pub map-of-bits :
     (n : ℕ) (bytes : List ℕ) → Below 256 bytes → mapLength n ≤ length bytes → Unpadded n bytes
@@ -177,5 +157,5 @@ map-of-bits n bytes small long u =
     getD-take (mapLength n) bytes b 0 h
     ∙ sym
     (map-byte bits b
-    ∙ pack-same _ _ 8 (λ i l. unpadded-bit n bytes u (8 * b + i) (omega arith) ∙ bit-of-byte bytes b i l)
+    ∙ pack-same _ _ 8 (λ i l. unpadded-bit n bytes u (8 * b + i) (omega arith) ∙ bit-digit bytes b i l)
     ∙ pack-of-bits (getD bytes b 0) 8 (small b (omega arith)))))

@@ -11,11 +11,11 @@ use lib.ListN.{length, getD}
 use Rattle.checks.specs.InOrder.{Given, AllHold}
 use Rattle.checks.proofs.InOrder.{none-left, holds-and}
 use Rattle.words.specs.Words.{Below}
+use Rattle.codec.proofs.BigEndian.{below-head, below-tail, below-cons}
 use Rattle.frame.specs.Format.{stands, packed, valueBytes}
 use Rattle.frame.specs.Bitmap.{standing}
 use Rattle.frame.specs.Reading.{spread, numberChecks}
 use Rattle.frame.proofs.Bytes.{values-none, values-more}
-use Rattle.codec.proofs.BigEndian.{below-head, below-tail, below-cons}
 
 -- ---- the multipliers that are written
 
@@ -118,16 +118,16 @@ spread-stands (false ∷ bits) ns e h =
 -- ---- what is accepted
 
 -- numbers that pass their checks are from 1 to p - 1, and the value is below p
-pub record Passed (p : ℕ) (ns : List ℕ) (v : ℕ) : Type 0 where
+pub record GoodNumbers (p : ℕ) (ns : List ℕ) (v : ℕ) : Type 0 where
   pub positive : Positive ns
   pub below : Below p ns
   pub value-below : v < p
 
-pub numbers-passed : (p : ℕ) (ns : List ℕ) (v : ℕ) → Given (numberChecks p ns v) → Passed p ns v
-numbers-passed p [] v hs =
+pub good-of-given : (p : ℕ) (ns : List ℕ) (v : ℕ) → Given (numberChecks p ns v) → GoodNumbers p ns v
+good-of-given p [] v hs =
     record { positive = λ i l. absurd (not-suc-le-zero l); below = λ i l. absurd (not-suc-le-zero l); value-below = hs .0 }
-numbers-passed p (x ∷ ns) v hs =
-    let rest = numbers-passed p ns v (hs .1 .1) in
+good-of-given p (x ∷ ns) v hs =
+    let rest = good-of-given p ns v (hs .1 .1) in
     record {
       positive = positive-cons x ns (hs .0) (rest .positive);
       below = below-cons p x ns (hs .1 .0) (rest .below);
@@ -138,14 +138,14 @@ numbers-passed p (x ∷ ns) v hs =
     positive-cons x xs h t zero l = h
     positive-cons x xs h t (suc i) l = t i (omega arith)
 
-pub numbers-pass : (p : ℕ) (ns : List ℕ) (v : ℕ) → Passed p ns v → AllHold (numberChecks p ns v)
-numbers-pass p [] v t = holds-and (t .value-below) (λ _. none-left)
-numbers-pass p (x ∷ ns) v t =
+pub good-hold : (p : ℕ) (ns : List ℕ) (v : ℕ) → GoodNumbers p ns v → AllHold (numberChecks p ns v)
+good-hold p [] v t = holds-and (t .value-below) (λ _. none-left)
+good-hold p (x ∷ ns) v t =
     holds-and (t .positive 0 (omega arith))
     (λ _.
     holds-and (below-head p x ns (t .below))
     (λ _.
-    numbers-pass p ns v
+    good-hold p ns v
     (record {
       positive = λ i k. t .positive (suc i) (omega arith);
       below = below-tail p x ns (t .below);

@@ -5,15 +5,15 @@ use mathlib.Core.List.{List, [], _∷_, _++_}
 use Prim.Native.Nat.{ℕ, zero, suc, _+_, _*_, _≤_}
 use native.Mathlib.Omega.{arith}
 use lib.ListN.{length, take, length-append}
+use Rattle.codec.specs.BigEndian.{width, bytesOf}
+use Rattle.codec.specs.Placed.{placed}
+use Rattle.codec.proofs.BigEndian.{bytes-length}
+use Rattle.codec.proofs.Placed.{placed-length, placed-next}
 use Rattle.field.specs.Written.{tabulate}
 use Rattle.frame.specs.Format.{mapLength, longest, stands, mapByte, mapBytes, packed, frameOf}
 use Rattle.frame.specs.Bitmap.{standing, mapOf, mapBits}
-use Rattle.codec.specs.BigEndian.{width, bytesOf}
-use Rattle.codec.specs.Placed.{placed}
 use Rattle.frame.proofs.Bytes.{one-value}
-use Rattle.codec.proofs.BigEndian.{bytes-length}
 use Rattle.frame.proofs.RoundMap.{map-length}
-use Rattle.codec.proofs.Placed.{placed-length, placed-next}
 use Rattle.frame.proofs.WriteNumbers.{packed-length, packed-short}
 use Rattle.frame.proofs.WriteMap.{standing-of}
 

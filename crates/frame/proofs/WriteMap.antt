@@ -16,9 +16,9 @@ use lib.ListN.{length, getD, set, take, length-set, length-take, List·getD-eq-d
 use lib.Seq.{ext-getD, getD-set-same, getD-set-other}
 use mir.Val.{Fits}
 use mir.Syntax.{w8}
+use Rattle.checks.specs.Largest.{largest}
 use Rattle.field.specs.Written.{tabulate}
 use Rattle.field.proofs.Written.{length-tabulate, getD-tabulate, is-tabulate}
-use Rattle.checks.specs.Largest.{largest}
 use Rattle.frame.specs.Format.{stands, mapByte, mapBytes, mapLength}
 use Rattle.frame.specs.Bitmap.{bitAt, standing, recordBits, ClearFrom, mapOf, mapBits}
 use Rattle.frame.proofs.RoundMap.{pack, pack-more, pack-same, pack-below, map-byte, map-bit, record-bits-length, record-bit}

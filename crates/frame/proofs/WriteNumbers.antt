@@ -11,13 +11,13 @@ use lib.Dec.{eqb}
 use lib.ListN.{length, getD, take, length-append, length-take}
 use lib.Seq.{take-suc, take-length}
 use Rattle.algebra.specs.Choice.{choose}
-use Rattle.frame.specs.Format.{packed}
 use Rattle.codec.specs.BigEndian.{width, bytesOf}
 use Rattle.codec.specs.Placed.{placed}
-use Rattle.frame.proofs.Bytes.{value-bytes-length}
 use Rattle.codec.proofs.BigEndian.{bytes-length}
-use Rattle.frame.proofs.RoundNumbers.{kept, packed-kept, kept-length}
 use Rattle.codec.proofs.Placed.{placed-length, placed-none, placed-next}
+use Rattle.frame.specs.Format.{packed}
+use Rattle.frame.proofs.Bytes.{value-bytes-length}
+use Rattle.frame.proofs.RoundNumbers.{kept, packed-kept, kept-length}
 
 packed-append : (xs ys : List ℕ) → packed (xs ++ ys) ≡ packed xs ++ packed ys
 unfolding packed

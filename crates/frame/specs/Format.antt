@@ -5,8 +5,8 @@ use Prim.Native.Nat.{ℕ, zero, suc, _+_, _*_, _/_}
 use lib.ListN.{getD}
 use lib.Dec.{eqb}
 use Rattle.algebra.specs.Choice.{choose}
-use Rattle.field.specs.Written.{tabulate}
 use Rattle.codec.specs.BigEndian.{width, bytesOf}
+use Rattle.field.specs.Written.{tabulate}
 
 -- the bytes of the bit map of n records: (n + 7)/8, rounded down
 unfoldable pub mapLength : ℕ → ℕ

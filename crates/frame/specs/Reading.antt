@@ -11,8 +11,8 @@ use Rattle.checks.specs.declared.Refusal.the-variants.{Number, FrameLength, Pad
 use Rattle.checks.specs.Refusal.{refusalNumber}
 use Rattle.checks.specs.InOrder.{Checks, passed, _else_, _⨾_, inOrder}
 use Rattle.checks.specs.Decide.{long?}
-use Rattle.frame.specs.Format.{mapLength}
 use Rattle.codec.specs.BigEndian.{width, numberFrom}
+use Rattle.frame.specs.Format.{mapLength}
 use Rattle.frame.specs.Bitmap.{recordBits, standing}
 use Rattle.frame.specs.Decide.{unpadded?}
 

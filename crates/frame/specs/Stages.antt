@@ -6,9 +6,9 @@ use Prim.Native.Nat.{ℕ, _+_, _*_}
 use lib.ListN.{drop}
 use Rattle.checks.specs.declared.Refusal.{Refusal}
 use Rattle.checks.specs.InOrder.{Checks, AllHold, FirstFailing}
+use Rattle.codec.specs.BigEndian.{width, numberFrom}
 use Rattle.frame.specs.declared.ReadAnswer.{ReadAnswer}
 use Rattle.frame.specs.declared.ReadAnswer.the-variants.{Value, Refused}
-use Rattle.codec.specs.BigEndian.{width, numberFrom}
 use Rattle.frame.specs.Bitmap.{bitsFrom, standing}
 use Rattle.frame.specs.Reading.{numbersIn, spread, numberChecks}
 

@@ -17,11 +17,7 @@ pub fn from_bytes(bytes: &[u8], len: usize) -> [u8; 8]
     ensures { λ r. ⌜ r ≡ mapFrom len (now (bytes .entry)) ⌝ }
 {
     let mut map = [0u8; 8];
-    let mut b = 0;
-    while b < len {
-        map[b] = bytes[b];
-        b += 1;
-    }
+    codec::put_bytes(&mut map, 0, &bytes[..len]);
     map
 }
 

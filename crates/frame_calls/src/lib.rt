@@ -1,9 +1,9 @@
 // Frames: the calls read, write and seal. Each checks 1, the modulus; 2, the size; 3, the lengths; then what 01 says of the
 // frame or of the numbers.
 ghost use mathlib.Core.Path.{_≡_};
+ghost use Rattle.checks.specs.Outcome.{outcome};
 ghost use Rattle.frame.specs.Told.{readTold, writeTold, sealTold};
 ghost use Rattle.frame.specs.Calls.{readCall, writeCall, sealCall};
-ghost use Rattle.checks.specs.Outcome.{outcome};
 
 mod sealer;
 

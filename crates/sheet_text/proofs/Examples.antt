@@ -2,6 +2,7 @@
 use mathlib.Core.Path.{_≡_, refl}
 use mathlib.Core.List.{[], _∷_, _++_}
 use lib.IntN.{pos, negsuc}
+use Rattle.codec.specs.Decimal.{digitsWithin, decimal, minus, signedDecimal}
 use Rattle.sheet_text.specs.Lines.{
   newWord,
   repeatWord,
@@ -20,7 +21,6 @@ use Rattle.sheet_text.specs.Lines.{
   recordText,
   recordLine,
 }
-use Rattle.codec.specs.Decimal.{digitsWithin, decimal, minus, signedDecimal}
 
 pub example :
     newLine 1 ++ newLine 2 ++ repeatLine 2 ++ conflictLine 2 ++ newLine 3

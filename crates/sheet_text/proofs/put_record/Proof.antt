@@ -4,8 +4,8 @@ use native.Mathlib.Omega.{arith}
 use borrow.Author.Tests.{eq-eqb, ne-eqb}
 use mir.Syntax.{w32}
 use mir.ValLaws.{toZ-ofZ}
-use Rattle.sheet_text.specs.Lines.{recordText, unknownWord}
 use Rattle.codec.proofs.Signs.{signed-at-most}
+use Rattle.sheet_text.specs.Lines.{recordText, unknownWord}
 use Rattle.sheet_text.proofs.put_record.Statement.{statement}
 use Rattle.sheet_text.proofs.put_record.Tie as tie
 

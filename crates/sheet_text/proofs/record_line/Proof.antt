@@ -6,11 +6,11 @@ use native.Mathlib.Omega.{arith}
 use lib.ListN.{length}
 use mir.Syntax.{w32}
 use mir.ValLaws.{toZ-ofZ}
-use Rattle.sheet_text.specs.Lines.{recordLine, space, lineFeed}
 use Rattle.codec.proofs.Decimals.{digits-at-most}
+use Rattle.codec.proofs.Placed.{put-then}
+use Rattle.sheet_text.specs.Lines.{recordLine, space, lineFeed}
 use Rattle.sheet_text.proofs.Records.{record-at-most}
 use Rattle.sheet_text.proofs.Written.{put-line}
-use Rattle.codec.proofs.Placed.{put-then}
 use Rattle.sheet_text.proofs.record_line.Statement.{statement}
 use Rattle.sheet_text.proofs.record_line.Tie as tie
 

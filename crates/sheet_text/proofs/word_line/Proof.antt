@@ -3,10 +3,10 @@ use borrow.Author.Needs.{needs}
 use native.Mathlib.Omega.{arith}
 use Prim.Native.Nat.{_≤_}
 use lib.ListN.{length}
-use Rattle.sheet_text.specs.Lines.{wordLine, lineFeed}
 use Rattle.codec.proofs.Decimals.{digits-at-most}
-use Rattle.sheet_text.proofs.Written.{put-line}
 use Rattle.codec.proofs.Placed.{put-then}
+use Rattle.sheet_text.specs.Lines.{wordLine, lineFeed}
+use Rattle.sheet_text.proofs.Written.{put-line}
 use Rattle.sheet_text.proofs.word_line.Statement.{statement}
 use Rattle.sheet_text.proofs.word_line.Tie as tie
 

@@ -6,8 +6,8 @@ use borrow.Author.Needs.{needs}
 use mir.Syntax.{w32}
 use mir.Val.{SFits}
 use mir.ValLaws.{toZ-ofZ}
-use Rattle.checks.specs.Prime.{IsModulus}
 use Rattle.algebra.proofs.Answers.{guard-left, guard-taken}
+use Rattle.checks.specs.Prime.{IsModulus}
 use Rattle.checks.proofs.InOrder.{none-left, holds-and, fails-here, fails-later}
 use Rattle.signed.proofs.Readings.{low-end-below, reading-from-low}
 use Rattle.signed.proofs.Calls.{signed-refused, signed-done}

@@ -5,8 +5,8 @@ use Prim.Native.Nat.{_≤_}
 use native.Mathlib.Omega.{arith}
 use borrow.Author.Needs.{needs}
 use Rattle.algebra.proofs.Answers.{guard-left, guard-taken}
-use Rattle.frame.specs.Format.{mapLength}
 use Rattle.codec.specs.BigEndian.{width}
+use Rattle.frame.specs.Format.{mapLength}
 use Rattle.frame.specs.Stages.{Judged}
 use Rattle.frame.proofs.BitMaps.{standing-small, standing-first}
 use Rattle.frame.proofs.ReadChecks.{
