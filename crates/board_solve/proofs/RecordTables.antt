@@ -1,13 +1,13 @@
 -- What the code of `records` sums. Row j of D lies in `d` from j × k on and is lent as a part; its products with column c of R
 -- add up to the entry (j, c) of D R, and those with the values in the board to the entry j of D v.
-use mathlib.Core.Path.{_≡_, sym, ap, ap₂, _∙_}
+use mathlib.Core.Path.{_≡_, sym, ap, _∙_}
 use mathlib.Core.List.{List}
 use Prim.Native.Nat.{ℕ, _+_, _*_, _-_, _≤_, _<_}
 use native.Mathlib.Nat.{mul-le-mul}
 use native.Mathlib.Omega.{arith}
 use lib.ListN.{length, getD, take, drop, length-drop}
 use lib.Seq.{length-take-le, getD-take, getD-drop}
-use Rattle.algebra.specs.Matrix.{sum, product, apply}
+use Rattle.algebra.specs.Matrix.{sum, product, apply, mixed}
 use Rattle.algebra.proofs.Sums.{sum-same}
 use Rattle.algebra.proofs.Step.{product-row}
 use Rattle.field.specs.Residue.{Residue, reduce, residues, _⊗_}
@@ -22,13 +22,6 @@ use Rattle.board_solve.specs.Records.{valueAt}
 -- row i of a table of at most 64 rows of w numbers, w at most 64, lies in 4096 numbers
 pub row-inside : (i w : ℕ) → i < 64 → w ≤ 64 → i * w + w ≤ 4096
 row-inside i w h l = omega (arith, mul-le-mul h l)
-
--- column c of R, as the code reads it
-column-entry : (p n k : ℕ) (rows : List ℕ) (t c : ℕ) → t < k → c < n → line p rows (0 + c) n t ≡ table p rows 0 n k n t c
-unfolding line
-column-entry p n k rows t c h l =
-    let e : 0 + c + t * n ≡ 0 + t * n + c = omega arith in
-    ap (λ q. reduce p (getD rows q 0)) e ∙ sym (table-entry p rows 0 n k n t c h l)
 
 -- row j of D, as the code lends it
 abbrev pub rowPart : (k j : ℕ) → List ℕ → List ℕ
@@ -56,16 +49,16 @@ module _ (k j : ℕ) (d : List ℕ) (inside : j * k + k ≤ length d) where
     unfolding line
     row-entry t l = ap (reduce p) (part-at t l) ∙ sym (table-entry p d 0 k n k j t h l)
 
-    -- the entry (j, c) of D R
-    pub row-times-rows : (rows : List ℕ) (c : ℕ) → c < n
-        → sum (residues p) (length (rowPart k j d)) (λ t. line p (rowPart k j d) 0 1 t ⊗ line p rows (0 + c) n t)
+    -- times column c of R it is the entry (j, c) of D R
+    pub row-times-rows : (rows : List ℕ) (c : ℕ)
+        → mixed (residues p) (length (rowPart k j d)) (line p (rowPart k j d) 0 1) (table p rows 0 n (length (rowPart k j d)) n) c
         ≡ product (residues p) k (table p d 0 k n k) (table p rows 0 n k n) j c
-    unfolding product
-    row-times-rows rows c b =
-        ap (λ m. sum (residues p) m (λ t. line p (rowPart k j d) 0 1 t ⊗ line p rows (0 + c) n t)) part-length
-        ∙ sum-same (residues p) k (λ t. line p (rowPart k j d) 0 1 t ⊗ line p rows (0 + c) n t)
+    unfolding product mixed
+    row-times-rows rows c =
+        ap (λ m. sum (residues p) m (λ t. line p (rowPart k j d) 0 1 t ⊗ table p rows 0 n m n t c)) part-length
+        ∙ sum-same (residues p) k (λ t. line p (rowPart k j d) 0 1 t ⊗ table p rows 0 n k n t c)
         (λ t. table p d 0 k n k j t ⊗ table p rows 0 n k n t c)
-        (λ t l. ap₂ (λ (a b : Residue p). a ⊗ b) (row-entry t l) (column-entry p n k rows t c l b))
+        (λ t l. ap (λ (a : Residue p). a ⊗ table p rows 0 n k n t c) (row-entry t l))
 
     -- a row of zeros gives zeros
     pub zero-row-times : 0 < p → Blank (rowPart k j d) → (rows : List ℕ) (c : ℕ)

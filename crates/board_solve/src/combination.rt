@@ -3,7 +3,7 @@ ghost use Rattle.board_solve.specs.Combination.{Mixable, Mixed, Findable
 use board_words::layout;
 
 // Writes the row `by` times the table, whose rows have `width` numbers, to the front of zeros.
-fn mix_rows(p: u32, by: &[u32], table: &[u32], width: usize, out: &mut [u32])
+pub fn mix_rows(p: u32, by: &[u32], table: &[u32], width: usize, out: &mut [u32])
     requires { ⌜ Mixable p (now by) (now table) width (now out) ⌝ }
     ensures { λ _. ⌜ Mixed p (now (by .entry)) (now (table .entry)) width (now (out .exit)) ⌝ }
 {

@@ -1,17 +1,13 @@
 // Showing the records of a board: record j is settled exactly if row j of D R is the unit row of j, and then it is row j of D
 // times the values.
 ghost use mathlib.Core.Path.{_≡_};
-ghost use Prim.Native.Nat.{_<_, _≤_};
 ghost use lib.ListN.{length};
-ghost use Rattle.checks.specs.Prime.{IsModulus};
-ghost use Rattle.words.specs.Words.{Below};
-ghost use Rattle.field.specs.Written.{tabulate};
-ghost use Rattle.signed.specs.Reading.{reading};
-ghost use Rattle.ledger.specs.Board.{boardLength, modulusWord, sizeWord, entriesOf};
-ghost use Rattle.ledger.specs.Steps.{shownMark, shownNumber, tabulateℤ};
-ghost use Rattle.board_words.specs.Inverse.{BoardInverse};
 ghost use Rattle.algebra.specs.Answers.{Tells};
-ghost use Rattle.board_solve.specs.Records.{IsUnitRow, UnitAt, valueAt};
+ghost use Rattle.words.specs.Words.{Below};
+ghost use Rattle.signed.specs.Reading.{reading};
+ghost use Rattle.ledger.specs.Board.{boardLength};
+ghost use Rattle.board_solve.specs.Records.{IsUnitRow, UnitAt, valueAt, RowOfD, Showable, ShowsRecords};
+use super::combination;
 use board_words::layout;
 
 // Whether e is the unit row of j.
@@ -34,7 +30,7 @@ fn is_unit(e: &[u32], j: usize) -> bool
 
 // Whether row j of D R is the unit row of j; it is zeros where row j of D is.
 fn settled(p: u32, n: usize, k: usize, j: usize, rows: &[u32], d: &[u32]) -> bool
-    requires { ⌜ (1 < p) × (p ≤ 2147483647) × (n ≤ 64) × (k ≤ 64) × (j < n) × (length (now rows) ≡ 4096) × (length (now d) ≡ 4096) × Below p (now rows) × Below p (now d) ⌝ }
+    requires { ⌜ RowOfD p n k j (now d) × (length (now rows) ≡ 4096) × Below p (now rows) ⌝ }
     ensures { λ r. ⌜ Tells r (UnitAt p n k j (now (rows .entry)) (now (d .entry))) ⌝ }
 {
     let at = j * k;
@@ -44,13 +40,13 @@ fn settled(p: u32, n: usize, k: usize, j: usize, rows: &[u32], d: &[u32]) -> boo
         return false;
     }
     let mut e = words::row_room();
-    matrix_mul::rows::combine(p, row, rows, 0, n, &mut e[..n]);
+    combination::mix_rows(p, row, rows, n, &mut e);
     is_unit(&e[..n], j)
 }
 
 // The signed reading of row j of D times the values, which are read in place.
 fn record_at(p: u32, n: usize, k: usize, j: usize, board: &[u32], d: &[u32]) -> i32
-    requires { ⌜ (1 < p) × (p ≤ 2147483647) × (n ≤ 64) × (k ≤ n) × (j < n) × (length (now board) ≡ boardLength n) × (length (now d) ≡ 4096) ⌝ }
+    requires { ⌜ RowOfD p n k j (now d) × (length (now board) ≡ boardLength n) ⌝ }
     ensures { λ r. ⌜ r ≡ reading p (valueAt p n k j (now (board .entry)) (now (d .entry)) .value) ⌝ }
 {
     let at = j * k;
@@ -67,8 +63,8 @@ fn record_at(p: u32, n: usize, k: usize, j: usize, board: &[u32], d: &[u32]) -> 
 
 // Marks each settled record and gives its signed reading; 0 and 0 for the others.
 pub fn show_records(board: &[u32], rows: &[u32], d: &[u32], marks: &mut [u32], numbers: &mut [i32])
-    requires { ⌜ BoardInverse (now board) (now rows) (now d) × (length (now marks) ≡ sizeWord (now board)) × (length (now numbers) ≡ sizeWord (now board)) ⌝ }
-    ensures { λ _. ⌜ ((ok : IsModulus (modulusWord (now (board .entry)))) → (now (marks .exit) ≡ tabulate (sizeWord (now (board .entry))) (shownMark (modulusWord (now (board .entry))) ok (sizeWord (now (board .entry))) (entriesOf (now (board .entry))))) × (now (numbers .exit) ≡ tabulateℤ (sizeWord (now (board .entry))) (shownNumber (modulusWord (now (board .entry))) ok (sizeWord (now (board .entry))) (entriesOf (now (board .entry)))))) ⌝ }
+    requires { ⌜ Showable (now board) (now rows) (now d) (now marks) (now numbers) ⌝ }
+    ensures { λ _. ⌜ ShowsRecords (now (board .entry)) (now (marks .exit)) (now (numbers .exit)) ⌝ }
 {
     let p = board[layout::MODULUS];
     let n = board[layout::SIZE] as usize;

@@ -1,27 +1,29 @@
 // A heat: its board is opened, all frames are taken, and the records are shown.
 ghost use mathlib.Core.Path.{_≡_};
-ghost use Prim.Native.Nat.{_+_, _*_, _≤_};
+ghost use Prim.Native.Nat.{_≤_};
 ghost use lib.ListN.{length};
+ghost use Rattle.checks.specs.Largest.{largest};
+ghost use Rattle.ledger.specs.Board.{headerLength, boardLength, largestBoard};
 use super::frames;
 use super::lent;
 use super::lines;
 use super::records;
 use board_calls::OpenAnswer;
+use board_words::layout;
 
-// How many words are lent for n records: those of a board, and where n is above 64, and there is none, three.
+// How many words are lent for n records: those of a board, and where n is above 64, and there is none, those of a header.
 fn board_length(n: u32) -> usize
-    ensures { λ r. ⌜ (3 ≤ r) × (r ≤ 4163) × (n ≤ 64 → r ≡ 3 + n * (n + 1)) ⌝ }
+    ensures { λ r. ⌜ (headerLength ≤ r) × (r ≤ largestBoard) × (n ≤ largest → r ≡ boardLength n) ⌝ }
 {
-    if 64 < n {
-        return 3;
+    if checks::LARGEST < n {
+        return layout::HEADER;
     }
-    let size = n as usize;
-    3 + size * (size + 1)
+    layout::board_length(n as usize)
 }
 
 // Opens the board in the lent words, takes the frames and shows the records; a refused open is one line.
 fn open_in(p: u32, n: u32, board: &mut [u32])
-    requires { ⌜ 3 ≤ length (now board) ⌝ }
+    requires { ⌜ headerLength ≤ length (now board) ⌝ }
 {
     match board_calls::open(p, n, board) {
         OpenAnswer::Opened => {

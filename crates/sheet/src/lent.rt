@@ -1,6 +1,8 @@
 // The memory that the program lends. Each function gives only the length, so that no goal holds the zeros.
 ghost use mathlib.Core.Path.{_≡_};
 ghost use lib.ListN.{length};
+ghost use Rattle.ledger.specs.Board.{largestBoard};
+use board_words::layout::LARGEST_BOARD;
 
 // The header's bytes: p in four, n in one.
 pub fn header() -> [u8; 5]
@@ -16,11 +18,11 @@ pub fn frame_length() -> [u8; 2]
     [0; 2]
 }
 
-// The words of the largest board, 3 + 64 × 65.
-pub fn board() -> [u32; 4163]
-    ensures { λ r. ⌜ 4163 ≡ length r ⌝ }
+// The words of the largest board.
+pub fn board() -> [u32; LARGEST_BOARD]
+    ensures { λ r. ⌜ largestBoard ≡ length r ⌝ }
 {
-    [0; 4163]
+    [0; LARGEST_BOARD]
 }
 
 // A word for each of 64 records: the mix, the marks.

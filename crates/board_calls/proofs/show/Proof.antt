@@ -56,7 +56,7 @@ slice-aggregate-show-records-2 c = search needs
 show-records-requires : tie.Need-show-records-requires
 show-records-requires c κs =
     let e = c .before .before .before .before in
-    (held (e .before .before .before), e .before .if2 .left, e .if3 .left)
+    record { inverse = held (e .before .before .before); marks-long = e .before .if2 .left; numbers-long = e .if3 .left }
 
 shared-slice-read-count : tie.Need-shared-slice-read-count
 shared-slice-read-count c = omega (arith, held (c .before .before .before .before .before .before .before .before .before .before .before .before) .board .three)

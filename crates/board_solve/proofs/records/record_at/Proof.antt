@@ -1,7 +1,7 @@
 -- `board_solve::records::record_at` meets its contract: the dot product is row j of D times the values, and its reading with the low
 -- end is 01's signed reading.
 use mathlib.Core.Path.{_≡_, ap, _∙_}
-use Prim.Native.Nat.{_+_, _*_, _≤_, _<_}
+use Prim.Native.Nat.{_<_}
 use native.Mathlib.Omega.{arith}
 use lib.ListN.{length}
 use mir.Syntax.{w32}
@@ -13,25 +13,23 @@ use Rattle.signed.specs.Reading.{readFrom, reading}
 use Rattle.signed.proofs.Readings.{low-end-below, reading-from-low}
 use Rattle.ledger.proofs.LayoutPlaces.{value-step, value-inside}
 use Rattle.board_solve.specs.Records.{valueAt}
-use Rattle.board_solve.proofs.RecordTables.{row-inside, rowPart, part-length, row-times-values}
+use Rattle.board_solve.proofs.RecordTables.{rowPart, part-length, row-times-values}
+use Rattle.board_solve.proofs.RecordRows.{row-in-d, in-d}
 use Rattle.board_solve.proofs.records.record_at.Statement.{statement}
 use Rattle.board_solve.proofs.records.record_at.Tie as tie
 
--- row j of D lies in d
-in-d : (c : tie.Start) → c .args .j * c .args .k + c .args .k ≤ 4096
-in-d c = row-inside (c .args .j) (c .args .k) (omega arith) (omega arith)
-
+-- row j of D, as it is lent
 part-in-d : (c : tie.Start) → length (rowPart (c .args .k) (c .args .j) (c .args .d .now)) ≡ c .args .k
-part-in-d c = part-length (c .args .k) (c .args .j) (c .args .d .now) (omega (arith, in-d c))
+part-in-d c = part-length (c .args .k) (c .args .j) (c .args .d .now) (in-d _ _ _ _ _ (c .pre .0))
 
 mul-at : tie.Need-mul-at
-mul-at c = omega (arith, in-d (c .before .before))
+mul-at c = omega (arith, row-in-d _ _ _ _ _ (c .before .before .pre .0), c .before .before .pre .0 .long)
 
 add-end : tie.Need-add-end
-add-end c = omega (arith, in-d (c .before .before))
+add-end c = omega (arith, row-in-d _ _ _ _ _ (c .before .before .pre .0), c .before .before .pre .0 .long)
 
 mul-dot : tie.Need-mul-dot
-mul-dot c = omega (arith, in-d (c .before .before))
+mul-dot c = omega (arith, row-in-d _ _ _ _ _ (c .before .before .pre .0), c .before .before .pre .0 .long)
 
 sub-dot : tie.Need-sub-dot
 sub-dot c = omega arith
@@ -40,7 +38,7 @@ part-dot-start : tie.Need-part-dot-start
 part-dot-start c = omega arith
 
 part-dot-end : tie.Need-part-dot-end
-part-dot-end c = omega (arith, in-d (c .before .before))
+part-dot-end c = omega (arith, row-in-d _ _ _ _ _ (c .before .before .pre .0), c .before .before .pre .0 .long)
 
 value-start-requires : tie.Need-value-start-requires
 value-start-requires c κs = (omega arith, omega arith)
@@ -58,7 +56,7 @@ dot-requires c κs =
       omega (arith, long),
       λ t h.
           let inside : t < a .n = omega (arith, long) in
-          rw (v .value-start .ensures, c .row-length .ensures, ← value-step (a .n) t, s .pre .5) (value-inside (a .n) t inside),
+          rw (v .value-start .ensures, c .row-length .ensures, ← value-step (a .n) t, s .pre .1) (value-inside (a .n) t inside),
     )
 
 -- the dot product is row j of D times the values
@@ -69,7 +67,7 @@ value-of : (c : tie.After-dot) → c .dot .result ≡ value (c .before .before .
 value-of c =
     let s = c .before .before .before .before .before .before in
     let a = s .args in
-    row-times-values (a .k) (a .j) (a .d .now) (omega (arith, in-d s)) (a .p) (a .n) (omega arith) (a .board .now) (c .dot .result)
+    row-times-values (a .k) (a .j) (a .d .now) (in-d _ _ _ _ _ (s .pre .0)) (a .p) (a .n) (omega arith) (a .board .now) (c .dot .result)
     (rw (c .before .before .value-start .ensures, c .before .row-length .ensures) at (c .dot .ensures))
 
 low-end-requires : tie.Need-low-end-requires

@@ -5,7 +5,8 @@ use Prim.Native.Nat.{_-_, _≤_}
 use native.Mathlib.Omega.{arith}
 use mir.Syntax.{w32}
 use mir.Val.{SFits}
-use Rattle.ledger.specs.Board.{IsBoard, sizeWord, entriesOf}
+use Rattle.ledger.specs.Board.{IsBoard, modulusWord, sizeWord, countWord, entriesOf}
+use Rattle.board_solve.specs.Records.{RowOfD}
 use Rattle.board_solve.proofs.RecordShown.{ShownBelow, shown-none, shown-all, turn-shown, turn-hidden}
 use Rattle.board_solve.proofs.records.show_records.Statement.{statement}
 use Rattle.board_solve.proofs.records.show_records.Tie as tie
@@ -18,7 +19,7 @@ abbrev μ-loop : tie.MeasureT-loop
 
 -- the board of a call
 board : (s : tie.Start Inv-loop μ-loop) → IsBoard (s .args .board .now)
-board s = s .pre .0 .board
+board s = s .pre .inverse .board
 
 shared-slice-read-p : tie.Need-shared-slice-read-p Inv-loop μ-loop
 shared-slice-read-p c = omega (arith, board (c .before .before .before .before .before) .three)
@@ -38,23 +39,30 @@ cast-k c =
 
 loop-holds : tie.Need-loop-holds Inv-loop μ-loop
 loop-holds c =
-    let s = c .before .before .before .before .before .before .before in (omega arith, shown-none _ _ _ _ _ (s .pre .1) (s .pre .2))
+    let s = c .before .before .before .before .before .before .before in (omega arith, shown-none _ _ _ _ _ (s .pre .marks-long) (s .pre .numbers-long))
+
+-- row j of D
+row-of-d : (c : tie.In-loop Inv-loop μ-loop) →
+    let a = c .before .before .before .before .before .before .before .before .before .args in
+    let ws = a .board .now in
+    RowOfD (modulusWord ws) (sizeWord ws) (countWord ws) (c .before .loop .j) (a .d .now)
+row-of-d c =
+    let s = c .before .before .before .before .before .before .before .before .before in
+    let b = board s in
+    record {
+      proper = b .prime .prime .two-or-more;
+      in-range = b .prime .in-range;
+      small = b .size .1;
+      few = b .count;
+      inside = c .loop-test .taken;
+      long = s .pre .inverse .work .d-long;
+      below = s .pre .inverse .work .d-below;
+    }
 
 settled-requires : tie.Need-settled-requires Inv-loop μ-loop
 settled-requires c κs =
-    let s = c .before .before .before .before .before .before .before .before .before in
-    let b = board s in
-    let H = s .pre .0 in (
-      b .prime .prime .two-or-more,
-      b .prime .in-range,
-      b .size .1,
-      omega (arith, b .size, b .count),
-      c .loop-test .taken,
-      H .work .rows-long,
-      H .work .d-long,
-      H .work .rows-below,
-      H .work .d-below,
-    )
+    let w = c .before .before .before .before .before .before .before .before .before .pre .inverse .work in
+    (row-of-d c, w .rows-long, w .rows-below)
 
 mul-marks : tie.Need-mul-marks Inv-loop μ-loop
 mul-marks c = omega arith
@@ -65,8 +73,7 @@ slice-write-marks c = omega arith
 record-at-requires : tie.Need-record-at-requires Inv-loop μ-loop
 record-at-requires c κs =
     let s = c .before .before .before .before .before .before .before .before .before .before .before in
-    let b = board s in
-    (b .prime .prime .two-or-more, b .prime .in-range, b .size .1, b .count, c .before .before .loop-test .taken, b .long, s .pre .0 .work .d-long)
+    (row-of-d (c .before .before), board s .long)
 
 mul-t16 : tie.Need-mul-t16 Inv-loop μ-loop
 mul-t16 c = omega arith
@@ -104,22 +111,22 @@ loop-again c =
           (λ w.
           let fits : SFits w32 (w .1 .result) = record { sfits = w .1 .ok } in
           rw (w .2, w .3)
-          (turn-shown (a .board .now) (a .rows .now) (a .d .now) (s .pre .0) (l .j) (l .marks) (l .numbers) inside (l .inv .1)
+          (turn-shown (a .board .now) (a .rows .now) (a .d .now) (s .pre .inverse) (l .j) (l .marks) (l .numbers) inside (l .inv .1)
           (w .1 .result) fits (t .settled .ensures .0 (w .0 .taken)) (w .1 .ensures)))
           (λ w.
           rw (w .1, w .2)
-          (turn-hidden (a .board .now) (a .rows .now) (a .d .now) (s .pre .0) (l .j) (l .marks) (l .numbers) inside (l .inv .1)
+          (turn-hidden (a .board .now) (a .rows .now) (a .d .now) (s .pre .inverse) (l .j) (l .marks) (l .numbers) inside (l .inv .1)
           (t .settled .ensures .1 (w .0 .left))))
           (c .if1 .came),
     )
 
 same-length : tie.Need-same-length Inv-loop μ-loop
 same-length c =
-    let s = c .before .before .before .before .before .before .before .before .before in c .before .loop .inv .1 .marks-long ∙ sym (s .pre .1)
+    let s = c .before .before .before .before .before .before .before .before .before in c .before .loop .inv .1 .marks-long ∙ sym (s .pre .marks-long)
 
 same-length-2 : tie.Need-same-length-2 Inv-loop μ-loop
 same-length-2 c =
-    let s = c .before .before .before .before .before .before .before .before .before in c .before .loop .inv .1 .numbers-long ∙ sym (s .pre .2)
+    let s = c .before .before .before .before .before .before .before .before .before in c .before .loop .inv .1 .numbers-long ∙ sym (s .pre .numbers-long)
 
 returns : tie.Need-returns Inv-loop μ-loop
 returns c =
