@@ -10,7 +10,8 @@ use Rattle.matrix.specs.Examples.{tableExamples}
 use Rattle.matrix.proofs.Checker.{_and_, everyBelow}
 use Rattle.matrix.proofs.CheckedTables.{isPrime, prime-checked}
 use Rattle.matrix.proofs.Examples.{starred-tables-hold}
-use Rattle.frame.specs.Format.{width, mapLength, bytesOf, stands, mapByte, mapBytes, packed, valueBytes, frameOf}
+use Rattle.frame.specs.Format.{mapLength, stands, mapByte, mapBytes, packed, valueBytes, frameOf}
+use Rattle.codec.specs.BigEndian.{width, bytesOf}
 use Rattle.frame.specs.Examples.{frameExamples}
 use Rattle.frame.proofs.Examples.{starred-frames-read}
 use Rattle.starred.specs.Starred.{BoardExample, boardExamples, Starred, table, frame, board, starred, BoardHolds, Holds}

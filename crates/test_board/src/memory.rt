@@ -2,26 +2,28 @@
 ghost use mathlib.Core.Path.{_≡_};
 ghost use Prim.Native.Nat.{_≤_};
 ghost use lib.ListN.{length};
+ghost use Rattle.checks.specs.Largest.{largest};
+ghost use Rattle.ledger.specs.Board.{largestBoard};
+use board_words::layout::LARGEST_BOARD;
 
 // What stands in words and in numbers that are as they were: modulo 7 no residue and no record.
 pub const WORD: u32 = 9;
 
 pub const NUMBER: i32 = -9;
 
-// Room for the board of 64 records, 3 + 64 × 65 words.
-pub fn board() -> [u32; 4163]
-    ensures { λ r. ⌜ 4163 ≡ length r ⌝ }
+// Room for the board of 64 records.
+pub fn board() -> [u32; LARGEST_BOARD]
+    ensures { λ r. ⌜ largestBoard ≡ length r ⌝ }
 {
-    [WORD; 4163]
+    [WORD; LARGEST_BOARD]
 }
 
 // The number of words of the board of n records.
 pub fn board_length(n: u32) -> usize
-    requires { ⌜ n ≤ 64 ⌝ }
-    ensures { λ r. ⌜ r ≤ 4163 ⌝ }
+    requires { ⌜ n ≤ largest ⌝ }
+    ensures { λ r. ⌜ r ≤ largestBoard ⌝ }
 {
-    let size = n as usize;
-    3 + size * (size + 1)
+    board_words::layout::board_length(n as usize)
 }
 
 // Room for 64 signed numbers and two more.

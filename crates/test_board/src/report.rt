@@ -74,7 +74,7 @@ pub fn take_place(number: u32) -> usize {
 // A space and z in decimal, with a leading minus where it is below 0.
 fn print_signed(z: i32) {
     let mut text = [0u8; 16];
-    let end = sheet_text::put_signed(&mut text, 0, z);
+    let end = codec::put_signed(&mut text, 0, z);
     output::print_text(b" ");
     output::print_text(&text[..end]);
 }

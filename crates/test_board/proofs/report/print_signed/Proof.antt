@@ -9,8 +9,8 @@ use lib.Seq.{length-take-le}
 use mir.Syntax.{w32}
 use mir.Val.{SFits, toZ, ofZ}
 use mir.ValLaws.{toZ-ofZ}
-use Rattle.sheet_text.specs.Lines.{signedDecimal}
-use Rattle.sheet_text.proofs.Signs.{signed-at-most}
+use Rattle.codec.specs.Decimal.{signedDecimal}
+use Rattle.codec.proofs.Signs.{signed-at-most}
 use Rattle.test_board.proofs.report.print_signed.Statement.{statement}
 use Rattle.test_board.proofs.report.print_signed.Tie as tie
 
