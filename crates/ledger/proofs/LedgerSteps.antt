@@ -15,31 +15,10 @@ use Rattle.checks.specs.Outcome.{Outcome, outcome, untouched}
 use Rattle.checks.specs.Prime.{IsModulus}
 use Rattle.checks.proofs.InOrder.{in-order-elim, kind-of-list}
 use Rattle.frame.specs.Format.{mapLength}
-use Rattle.frame.specs.Reading.{
-  Found,
-  accepted,
-  rejected,
-  judgeValue,
-  judge,
-  readNumbers,
-  readFrame,
-  frameLength,
-  unpadded?,
-  frameNumbers,
-}
+use Rattle.frame.specs.Reading.{Found, accepted, rejected, judgeValue, judge, readNumbers, readFrame, frameLength, unpadded?, frameNumbers}
 use Rattle.ledger.specs.Ledger.{entry, Ledger, ledger, InSpan}
 use Rattle.ledger.specs.Decide.{inSpan?}
-use Rattle.ledger.specs.Steps.{
-  newTold,
-  repeatTold,
-  mixWords,
-  takeInSpan,
-  takeAccepted,
-  takeFound,
-  ledgerTake,
-  ledgerWithdraw,
-  ledgerShow,
-}
+use Rattle.ledger.specs.Steps.{newTold, repeatTold, mixWords, takeInSpan, takeAccepted, takeFound, ledgerTake, ledgerWithdraw, ledgerShow}
 
 -- a kind that a step of the ledger refuses by: any but 11, which is for words that hold no ledger
 abbrev pub StepKind : Refusal → Type 0

@@ -25,7 +25,8 @@ use Rattle.ledger.specs.History.{Call, Reply, reply, After, after, ledge
 use Rattle.ledger.specs.Heard.{newIn, news}
 use Rattle.ledger.specs.Settle.{AllSettled, Settling, unitRow, unitTake}
 use Rattle.ledger.specs.Proper.{Proper}
-use Rattle.ledger.proofs.Proper.{Numbers, length-more, append-proper}
+use Rattle.ledger.proofs.EntryMore.{length-more}
+use Rattle.ledger.proofs.Proper.{Numbers, append-proper}
 use Rattle.ledger.proofs.RankRows.{combination-alike}
 use Rattle.ledger.proofs.RankFull.{agreeing-rows, full-agree, free-unit}
 use Rattle.ledger.proofs.LedgerLaws.{take-accepted, take-new, standing-met}
