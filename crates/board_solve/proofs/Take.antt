@@ -26,7 +26,8 @@ use Rattle.ledger.specs.Calls.{laidOut}
 use Rattle.ledger.specs.Steps.{newTold, repeatTold, mixWords}
 use Rattle.ledger.proofs.LayoutPlaces.{value-step, value-inside, row-inside}
 use Rattle.ledger.proofs.Parse.{words-count, board-proper, board-layout, board-wide}
-use Rattle.ledger.proofs.Proper.{append-proper, length-more}
+use Rattle.ledger.proofs.EntryMore.{length-more}
+use Rattle.ledger.proofs.Proper.{append-proper}
 use Rattle.ledger.proofs.LayoutChanges.{appended-layout}
 use Rattle.ledger.proofs.LedgerLaws.{take-new, take-repeat, take-conflict}
 use Rattle.board_words.specs.Inverse.{BoardInverse}

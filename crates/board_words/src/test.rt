@@ -9,6 +9,7 @@ use super::layout::COUNT;
 use super::layout::HEADER;
 use super::layout::MODULUS;
 use super::layout::SIZE;
+use checks::Verdict;
 
 // Whether the words begin as a board does: the clauses up to k ≤ n.
 fn has_header(board: &[u32]) -> bool
@@ -17,15 +18,9 @@ fn has_header(board: &[u32]) -> bool
     if board.len() < HEADER {
         return false;
     }
-    if !checks::is_modulus(board[MODULUS]) {
+    let Verdict::Passed = checks::frame_sizes(board[MODULUS], board[SIZE]) else {
         return false;
-    }
-    if board[SIZE] < 1 {
-        return false;
-    }
-    if checks::LARGEST < board[SIZE] {
-        return false;
-    }
+    };
     let n = board[SIZE] as usize;
     if board.len() != layout::board_length(n) {
         return false;

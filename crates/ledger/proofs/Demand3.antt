@@ -24,15 +24,8 @@ use Rattle.ledger.specs.Heard.{NoWithdrawal}
 use Rattle.ledger.specs.Proper.{Proper}
 use Rattle.ledger.proofs.Proper.{empty-proper, step-proper}
 use Rattle.ledger.proofs.Parse.{board-layout}
-use Rattle.ledger.proofs.WordsCalls.{
-  take-on-board,
-  take-off-board,
-  withdraw-on-board,
-  withdraw-off-board,
-  take-at-layout,
-  withdraw-at-layout,
-  show-at-layout,
-}
+use Rattle.ledger.proofs.WordsCalls.{take-on-board, take-off-board, withdraw-on-board, withdraw-off-board, take-at-layout, withdraw-at-layout}
+use Rattle.ledger.proofs.WordsCalls.{show-at-layout}
 use Rattle.ledger.proofs.LedgerSteps.{took, withdrew}
 use Rattle.ledger.proofs.LedgerRuns.{run-append, only-appends, run-not-eleven, took-refused, withdrew-refused}
 

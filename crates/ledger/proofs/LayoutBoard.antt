@@ -2,42 +2,25 @@
 -- the rows are those of `LayoutRows`; zeros follow.
 use mathlib.Core.Path.{_≡_, refl, sym, ap, _∙_}
 use mathlib.Core.List.{List, _++_}
-use Prim.Native.Nat.{ℕ, zero, suc, _+_, _*_, _-_, _≤_, _<_}
+use Prim.Native.Nat.{ℕ, _+_, _*_, _-_, _≤_, _<_}
 use native.Mathlib.Nat.{add-assoc, mul-le-mul-right}
 use native.Mathlib.Decide.{decLt}
 use native.Mathlib.Omega.{arith}
 use lib.ListN.{length, getD, drop, replicate, length-append, length-replicate, List·getD-append}
 use lib.Seq.{getD-drop, getD-append-add}
+use Rattle.words.proofs.Zeros.{zeros-at}
 use Rattle.checks.specs.Prime.{IsModulus}
 use Rattle.field.specs.Residue.{reduce, residues}
 use Rattle.field.specs.View.{table}
 use Rattle.field.proofs.Views.{table-entry}
 use Rattle.checks.specs.Largest.{FrameSize}
 use Rattle.ledger.specs.Ledger.{Entry, noEntry, multiplierRows}
-use Rattle.ledger.specs.Board.{
-  headerLength,
-  rowLength,
-  rowStart,
-  valueStart,
-  boardLength,
-  modulusWord,
-  sizeWord,
-  countWord,
-  rowWords,
-  layout,
-  entriesOf,
-  IsBoard,
-}
+use Rattle.ledger.specs.Board.{headerLength, rowLength, rowStart, valueStart, boardLength, modulusWord, sizeWord, countWord, rowWords, layout}
+use Rattle.ledger.specs.Board.{entriesOf, IsBoard}
 use Rattle.ledger.specs.Proper.{Proper}
 use Rattle.ledger.proofs.LayoutPlaces.{row-place, row-holds}
 use Rattle.ledger.proofs.LayoutRows.{Wide, entryWords, entry-multiplier, entry-value, rows-length, rows-at, entries-back}
 use Rattle.ledger.proofs.LayoutTables.{independent-agree}
-
--- a list of zeros reads 0 everywhere
-pub getD-zeros : (m i : ℕ) → _≡_ {A = ℕ} (getD (replicate m 0) i 0) 0
-getD-zeros zero i = refl
-getD-zeros (suc m) zero = refl
-getD-zeros (suc m) (suc i) = getD-zeros m i
 
 -- how many zeros stand behind k rows
 abbrev pub zerosBehind : (n k : ℕ) → ℕ
@@ -102,7 +85,7 @@ module _ (p n : ℕ) (es : List Entry) where
         ap (λ k. getD (layout p n es) k 0) place
         ∙ layout-behind (length (rowWords es) + past)
         ∙ getD-append-add (rowWords es) (replicate (zerosBehind n (length es)) 0) past 0
-        ∙ getD-zeros (zerosBehind n (length es)) past
+        ∙ zeros-at (zerosBehind n (length es)) past
 
     pub layout-length : length es ≤ n → length (layout p n es) ≡ boardLength n
     unfolding layout boardLength rowStart

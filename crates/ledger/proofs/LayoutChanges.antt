@@ -5,14 +5,14 @@ use mathlib.Core.Logic.{_≢_}
 use mathlib.Core.List.{List, [], _∷_, _++_}
 use Prim.Native.Nat.{ℕ, zero, suc, _+_, _-_, _≤_, _<_}
 use native.Mathlib.Nat.{le-trans, not-suc-le-zero}
-use native.Mathlib.Numerals.{add-one}
 use native.Mathlib.Decide.{decLe, decLt, ℕ-discrete}
 use native.Mathlib.Omega.{arith}
-use lib.ListN.{length, getD, take, length-append, List·getD-append}
-use lib.Seq.{length-take-le, getD-take, getD-append-seam, ext-getD}
+use lib.ListN.{length, getD, take}
+use lib.Seq.{length-take-le, getD-take, ext-getD}
 use Rattle.ledger.specs.Ledger.{Entry, entry, noEntry}
 use Rattle.ledger.specs.Board.{headerLength, countPlace, rowStart, valueStart, layout}
 use Rattle.ledger.specs.Changes.{Fresh, Appended, Dropped}
+use Rattle.ledger.proofs.EntryMore.{length-more, entry-before, entry-last, each-more}
 use Rattle.ledger.proofs.LayoutPlaces.{row-first, row-next, row-later, row-place, value-behind, value-last}
 use Rattle.ledger.proofs.LayoutRows.{Wide, entryWords}
 use Rattle.ledger.proofs.LayoutBoard.{layout-modulus, layout-size, layout-count, layout-at, layout-multiplier, layout-value, layout-zero, layout-length}
@@ -69,26 +69,6 @@ fresh-layout p n ws f = fresh-same p n ws (layout p n []) f (layout-fresh p n)
 
 -- ---- one entry more
 
-module _ (es : List Entry) (xs : List ℕ) (v : ℕ) where
-  -- the old entries stay, and the new one stands behind them
-  append-old : (i : ℕ) → i < length es → getD (es ++ (entry xs v ∷ [])) i noEntry ≡ getD es i noEntry
-  append-old i h = List·getD-append es (entry xs v ∷ []) noEntry i h
-
-  append-new : getD (es ++ (entry xs v ∷ [])) (length es) noEntry ≡ entry xs v
-  append-new = getD-append-seam es (entry xs v) [] noEntry
-
-  append-count : length (es ++ (entry xs v ∷ [])) ≡ suc (length es)
-  append-count = length-append es (entry xs v ∷ []) ∙ add-one (length es)
-
-  append-wide : (n : ℕ) → Wide n es → length xs ≡ n → Wide n (es ++ (entry xs v ∷ []))
-  append-wide n wide l i h = by-place (decLt i (length es))
-    where
-      by-place : Dec (i < length es) → length (getD (es ++ (entry xs v ∷ [])) i noEntry .multipliers) ≡ n
-      by-place (yes k) = ap (λ e. length (e .multipliers)) (append-old i k) ∙ wide i k
-      by-place (no k) =
-          let last : i ≡ length es = omega (arith, append-count) in
-          rw (last, append-new) l
-
 -- the words of the layout with one entry more
 pub layout-append : (p n : ℕ) (es : List Entry) (xs : List ℕ) (v : ℕ) → Wide n es → length es < n → length xs ≡ n
     → Appended n (length es) xs v (layout p n es) (layout p n (es ++ (entry xs v ∷ [])))
@@ -98,9 +78,9 @@ layout-append p n es xs v wide room l =
       count = layout-count p n more ∙ count;
       multiplier = λ j h.
           layout-multiplier p n more wide-more (length es) j (omega (arith, count)) h
-          ∙ ap (λ e. getD (e .multipliers) j 0) (append-new es xs v);
-      value = layout-value p n more wide-more (length es) (omega (arith, count)) ∙ ap (λ e. e .value) (append-new es xs v);
-      front = agree-front p n more es wide-more wide (length es) (omega (arith, count)) (omega arith) (append-old es xs v);
+          ∙ ap (λ e. getD (e .multipliers) j 0) (entry-last es (entry xs v));
+      value = layout-value p n more wide-more (length es) (omega (arith, count)) ∙ ap (λ e. e .value) (entry-last es (entry xs v));
+      front = agree-front p n more es wide-more wide (length es) (omega (arith, count)) (omega arith) (entry-before es (entry xs v));
       behind = λ q h.
           layout-zero p n more wide-more q (rw count h) ∙ sym (layout-zero p n es wide q (omega (arith, row-next n (length es))));
     }
@@ -109,10 +89,10 @@ layout-append p n es xs v wide room l =
     more = es ++ (entry xs v ∷ [])
 
     wide-more : Wide n more
-    wide-more = append-wide es xs v n wide l
+    wide-more = each-more es (entry xs v) (λ e. length (e .multipliers) ≡ n) wide l
 
     count : length more ≡ suc (length es)
-    count = append-count es xs v
+    count = length-more es (entry xs v)
 
 -- what is appended determines the words
 module _ (n k : ℕ) (xs : List ℕ) (v : ℕ) (before cs ds : List ℕ)

@@ -26,33 +26,10 @@ use Rattle.field.proofs.Field.{residues-field}
 use Rattle.field.proofs.Written.{length-tabulate, getD-tabulate, is-tabulate}
 use Rattle.signed.specs.Reading.{reading}
 use Rattle.frame.specs.Reading.{accepted, rejected, readFrame}
-use Rattle.ledger.specs.Ledger.{
-  Entry,
-  entry,
-  ledger,
-  Assignment,
-  InSpan,
-  GivesValue,
-  MeetsAll,
-  Settled,
-  Agreed,
-  multiplierRows,
-  valueColumn,
-}
+use Rattle.ledger.specs.Ledger.{Entry, entry, ledger, Assignment, InSpan, GivesValue, MeetsAll, Settled, Agreed, multiplierRows, valueColumn}
 use Rattle.ledger.specs.Decide.{inSpan?, agreed?}
-use Rattle.ledger.specs.Steps.{
-  newTold,
-  repeatTold,
-  mixWords,
-  takeInSpan,
-  takeAccepted,
-  takeFound,
-  ledgerTake,
-  tabulateℤ,
-  shownMark,
-  shownNumber,
-  ledgerShow,
-}
+use Rattle.ledger.specs.Steps.{newTold, repeatTold, mixWords, takeInSpan, takeAccepted, takeFound, ledgerTake, tabulateℤ, shownMark}
+use Rattle.ledger.specs.Steps.{shownNumber, ledgerShow}
 use Rattle.ledger.specs.Settle.{Gives}
 use Rattle.ledger.specs.Proper.{Proper}
 use Rattle.ledger.proofs.RankRows as rows

@@ -2,18 +2,7 @@
 -- added behind those that stand, and that no reply tells 11.
 use mathlib.Core.Path.{_≡_, refl, sym, ap, _∙_, subst}
 use mathlib.Core.Logic.{⊎-elim}
-use mathlib.Core.List.{
-  List,
-  [],
-  _∷_,
-  _++_,
-  append-nil,
-  append-assoc,
-  List·Memᴰ,
-  List·Memᴰ·not-nil,
-  List·Memᴰ·append-cases,
-  List·Memᴰ·eq-of-singleton,
-}
+use mathlib.Core.List.{List, [], _∷_, _++_, append-nil, append-assoc, List·Memᴰ, List·Memᴰ·not-nil, List·Memᴰ·append-cases, List·Memᴰ·eq-of-singleton}
 use Prim.Native.Nat.{ℕ}
 use native.Mathlib.Omega.{arith}
 use lib.IntN.{ℤ}
@@ -26,21 +15,8 @@ use Rattle.ledger.specs.History.{Call, Reply, After, after, ledgerStep, 
 use Rattle.ledger.specs.Heard.{NoWithdrawal}
 use Rattle.ledger.specs.Proper.{Proper}
 use Rattle.ledger.proofs.Proper.{step-proper}
-use Rattle.ledger.proofs.LedgerSteps.{
-  Took,
-  new,
-  repeat,
-  refusal,
-  took,
-  Withdrew,
-  dropped,
-  overlong,
-  withdrew,
-  Showed,
-  answered,
-  unshown,
-  showed,
-}
+use Rattle.ledger.proofs.LedgerSteps.{Took, new, repeat, refusal, took, Withdrew, dropped, overlong, withdrew, Showed, answered, unshown}
+use Rattle.ledger.proofs.LedgerSteps.{showed}
 
 -- a list of calls after another
 pub run-append : {S : Type 0} (step : S → Call → After S) (s : S) (cs ds : List Call)

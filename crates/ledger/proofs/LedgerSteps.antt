@@ -17,17 +17,7 @@ use Rattle.frame.specs.Reading.{Found, accepted, rejected, readFrame}
 use Rattle.frame.proofs.ReadChecks.{reading-elim}
 use Rattle.ledger.specs.Ledger.{entry, Ledger, ledger, InSpan}
 use Rattle.ledger.specs.Decide.{inSpan?}
-use Rattle.ledger.specs.Steps.{
-  newTold,
-  repeatTold,
-  mixWords,
-  takeInSpan,
-  takeAccepted,
-  takeFound,
-  ledgerTake,
-  ledgerWithdraw,
-  ledgerShow,
-}
+use Rattle.ledger.specs.Steps.{newTold, repeatTold, mixWords, takeInSpan, takeAccepted, takeFound, ledgerTake, ledgerWithdraw, ledgerShow}
 
 -- a kind that a step of the ledger refuses by: any but 11, which is for words that hold no ledger
 abbrev pub StepKind : Refusal → Type 0

@@ -1,3 +1,4 @@
+pub mod EntryMore
 pub mod LayoutPlaces
 pub mod LayoutRows
 pub mod LayoutTables

@@ -25,7 +25,8 @@ use Rattle.ledger.specs.History.{Call, Reply, reply, After, after, ledge
 use Rattle.ledger.specs.Heard.{newIn, news}
 use Rattle.ledger.specs.Settle.{AllSettled, Settling, unitRow, unitTake}
 use Rattle.ledger.specs.Proper.{Proper}
-use Rattle.ledger.proofs.Proper.{length-more, append-proper}
+use Rattle.ledger.proofs.EntryMore.{length-more}
+use Rattle.ledger.proofs.Proper.{append-proper}
 use Rattle.frame.proofs.Round.{Numbers}
 use Rattle.ledger.proofs.RankRows.{combination-alike}
 use Rattle.ledger.proofs.RankFull.{agreeing-rows, full-agree, free-unit}

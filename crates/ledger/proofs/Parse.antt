@@ -14,20 +14,8 @@ use Rattle.field.specs.View.{table}
 use Rattle.field.proofs.Views.{table-entry}
 use Rattle.checks.specs.Largest.{FrameSize}
 use Rattle.ledger.specs.Ledger.{Entry, entry, noEntry, multiplierRows, valueColumn}
-use Rattle.ledger.specs.Board.{
-  headerLength,
-  rowLength,
-  rowStart,
-  valueStart,
-  modulusWord,
-  sizeWord,
-  countWord,
-  multiplierTable,
-  rowWords,
-  layout,
-  entriesOf,
-  IsBoard,
-}
+use Rattle.ledger.specs.Board.{headerLength, rowLength, rowStart, valueStart, modulusWord, sizeWord, countWord, multiplierTable, rowWords}
+use Rattle.ledger.specs.Board.{layout, entriesOf, IsBoard}
 use Rattle.ledger.specs.Proper.{Proper}
 use Rattle.ledger.proofs.LayoutPlaces.{row-behind, row-later, row-ends, row-inside, row-holds}
 use Rattle.ledger.proofs.LayoutRows.{Wide, entries-count, entries-at, entries-rows}

@@ -2,15 +2,13 @@
 -- them, and its row is no combination of the others, so that the longer rows are independent and at most n; a withdrawal
 -- leaves a front of the rows.
 use mathlib.Core.Path.{_≡_, _∙_}
-use mathlib.Core.Logic.{⊎-elim}
 use mathlib.Core.List.{List, [], _∷_, _++_}
 use Prim.Native.Nat.{ℕ, suc, _-_, _≤_, _<_}
-use native.Mathlib.Nat.{sub-le, not-suc-le-zero, le-of-suc-le-suc, eq-or-lt-of-le}
-use native.Mathlib.Numerals.{add-one}
+use native.Mathlib.Nat.{sub-le, not-suc-le-zero}
 use native.Mathlib.Decide.{decLe, ℕ-discrete}
 use native.Mathlib.Omega.{arith}
-use lib.ListN.{length, getD, take, length-append, List·getD-append}
-use lib.Seq.{getD-append-seam, length-take-le, getD-take}
+use lib.ListN.{length, getD, take}
+use lib.Seq.{length-take-le, getD-take}
 use Rattle.algebra.specs.Matrix.{Matrix}
 use Rattle.algebra.specs.Span.{Independent}
 use Rattle.checks.specs.Prime.{IsModulus}
@@ -23,36 +21,11 @@ use Rattle.ledger.specs.Ledger.{Entry, entry, noEntry, Ledger, ledger, I
 use Rattle.checks.specs.Outcome.{Outcome}
 use Rattle.ledger.specs.History.{Call, ledgerStep}
 use Rattle.ledger.specs.Proper.{Proper}
+use Rattle.ledger.proofs.EntryMore.{length-more, entry-before, entry-last, each-more}
 use Rattle.ledger.proofs.LedgerSteps.{Took, new, repeat, refusal, took, Withdrew, dropped, overlong, withdrew}
 use Rattle.ledger.proofs.LayoutTables.{independent-agree}
-use Rattle.ledger.proofs.RankRows.{
-  Alike,
-  combination-alike,
-  alike-back,
-  front-independent,
-  append-independent,
-  independent-most,
-}
+use Rattle.ledger.proofs.RankRows.{Alike, combination-alike, alike-back, front-independent, append-independent, independent-most}
 
--- ---- an entry more
-
-module _ (es : List Entry) (e : Entry) where
-  pub length-more : length (es ++ (e ∷ [])) ≡ suc (length es)
-  length-more = length-append es (e ∷ []) ∙ add-one (length es)
-
-  pub entry-before : (i : ℕ) → i < length es → getD (es ++ (e ∷ [])) i noEntry ≡ getD es i noEntry
-  entry-before i h = List·getD-append es (e ∷ []) noEntry i h
-
-  pub entry-last : getD (es ++ (e ∷ [])) (length es) noEntry ≡ e
-  entry-last = getD-append-seam es e [] noEntry
-
-  -- what holds of the entries and of the last one holds of all
-  each-more : (Q : Entry → Type 0) → ((i : ℕ) → i < length es → Q (getD es i noEntry)) → Q e
-      → (i : ℕ) → i < length (es ++ (e ∷ [])) → Q (getD (es ++ (e ∷ [])) i noEntry)
-  each-more Q h q i l = ⊎-elim last (λ b. rw (entry-before i b) (h i b)) (eq-or-lt-of-le (le-of-suc-le-suc (rw length-more at l)))
-    where
-      last : i ≡ length es → Q (getD (es ++ (e ∷ [])) i noEntry)
-      last d = rw (d, entry-last) q
 
 -- the empty ledger is proper
 pub empty-proper : (p n : ℕ) → Proper p n []

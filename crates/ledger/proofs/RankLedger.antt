@@ -3,30 +3,9 @@
 -- combination of the ledger's rows, so that both span the same.
 use mathlib.Core.Path.{_≡_, refl, sym, ap, _∙_, subst, subst₂, fun-ext}
 use mathlib.Core.Logic.{_⊎_, inl, inr, ⊎-elim, ∥∥₁-elim}
-use mathlib.Core.List.{
-  List,
-  [],
-  _∷_,
-  _++_,
-  Perm,
-  List·Permᴰ,
-  List·Permᴰ·nil,
-  List·Permᴰ·cons,
-  List·Permᴰ·swap,
-  List·Permᴰ·trans,
-  Permᴰ·symm,
-  List·Memᴰ,
-  List·Memᴰ·head,
-  List·Memᴰ·tail,
-  List·Memᴰ·not-nil,
-  List·Memᴰ·cases-cons,
-  List·Memᴰ·append-cases,
-  List·Memᴰ·eq-of-singleton,
-  Memᴰ·cast,
-  Memᴰ·append-left,
-  Memᴰ·append-right,
-  Memᴰ·of-map,
-}
+use mathlib.Core.List.{List, [], _∷_, _++_, Perm, List·Permᴰ, List·Permᴰ·nil, List·Permᴰ·cons, List·Permᴰ·swap, List·Permᴰ·trans, Permᴰ·symm}
+use mathlib.Core.List.{List·Memᴰ, List·Memᴰ·head, List·Memᴰ·tail, List·Memᴰ·not-nil, List·Memᴰ·cases-cons, List·Memᴰ·append-cases}
+use mathlib.Core.List.{List·Memᴰ·eq-of-singleton, Memᴰ·cast, Memᴰ·append-left, Memᴰ·append-right, Memᴰ·of-map}
 use Prim.Native.Nat.{ℕ, zero, suc, _≤_, _<_}
 use native.Mathlib.Nat.{ℕ-set, not-suc-le-zero, le-of-suc-le-suc}
 use native.Mathlib.Omega.{arith}
@@ -53,16 +32,9 @@ use Rattle.ledger.specs.Steps.{ledgerTake}
 use Rattle.ledger.specs.History.{Call, Reply, reply, ledgerStep, run, ledgerRun}
 use Rattle.ledger.specs.Heard.{NoWithdrawal, multipliersOf, heardIn, heard, ledgerRows, residueRows, rowMarks, rowsRank}
 use Rattle.ledger.specs.Proper.{Proper}
-use Rattle.ledger.proofs.Proper.{empty-proper, length-more, entry-last}
-use Rattle.ledger.proofs.RankRows.{
-  alike-back,
-  cut-alike,
-  combination-alike,
-  own-combination,
-  combination-more,
-  all-chosen,
-  chosen-rows,
-}
+use Rattle.ledger.proofs.EntryMore.{length-more, entry-last}
+use Rattle.ledger.proofs.Proper.{empty-proper}
+use Rattle.ledger.proofs.RankRows.{alike-back, cut-alike, combination-alike, own-combination, combination-more, all-chosen, chosen-rows}
 use Rattle.ledger.proofs.LedgerSteps.{Took, new, repeat, refusal, took}
 use Rattle.ledger.proofs.LedgerRuns.{only-appends, run-proper}
 

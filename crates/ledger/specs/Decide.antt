@@ -17,16 +17,7 @@ use Rattle.field.proofs.Field.{residues-field, residue-equal?}
 use Rattle.checks.specs.Decide.{frameSize?}
 use Rattle.checks.specs.Largest.{FrameSize}
 use Rattle.ledger.specs.Ledger.{Entry, InSpan, GivesValue, Agreed, multiplierRows, valueColumn}
-use Rattle.ledger.specs.Board.{
-  IsBoard,
-  headerLength,
-  boardLength,
-  modulusWord,
-  sizeWord,
-  countWord,
-  rowsEnd,
-  multiplierTable,
-}
+use Rattle.ledger.specs.Board.{IsBoard, headerLength, boardLength, modulusWord, sizeWord, countWord, rowsEnd, multiplierTable}
 
 -- ---- the ledger's questions
 

@@ -1,49 +1,62 @@
 -- `board_words::test::has_header` meets its contract: each return refutes the clause that its test is about, and past all tests the
 -- last one decides.
-use mathlib.Core.Path.{_∙_, sym}
+use mathlib.Core.Path.{_∙_, sym, subst}
 use native.Mathlib.Omega.{arith}
 use borrow.Author.Needs.{needs}
-use Rattle.checks.proofs.Guards.{no-modulus, is-modulus}
-use Rattle.ledger.specs.Board.{sizeWord, countWord}
 use Rattle.algebra.proofs.Answers.{tells-no, tells-leb}
+use Rattle.checks.specs.InOrder.{AllHold, FirstFailing}
+use Rattle.checks.specs.Sizes.{frameSizes, Judges}
+use Rattle.checks.proofs.InOrder.{given}
+use Rattle.ledger.specs.Board.{modulusWord, sizeWord, countWord}
+use Rattle.board_words.proofs.TestSizes.{no-sizes}
 use Rattle.board_words.proofs.test.has_header.Statement.{statement}
 use Rattle.board_words.proofs.test.has_header.Tie as tie
+
+-- past the test of the modulus and the size
+sizes : (c : tie.After-enum-told) →
+    let ws = c .before .before .before .before .before .before .before .args .board .now in
+    AllHold (frameSizes (modulusWord ws) (sizeWord ws))
+sizes c =
+    let ws = c .before .before .before .before .before .before .before .args .board .now in
+    subst (Judges (frameSizes (modulusWord ws) (sizeWord ws))) (c .enum-told .given .1) (c .before .before .frame-sizes .ensures)
 
 returns : tie.Need-returns
 returns c = tells-no (λ h. omega (arith, h .three))
 
-shared-slice-read-is-modulus : tie.Need-shared-slice-read-is-modulus
-shared-slice-read-is-modulus c = search needs
+shared-slice-read-frame-sizes : tie.Need-shared-slice-read-frame-sizes
+shared-slice-read-frame-sizes c = search needs
 
-is-modulus-requires : tie.Need-is-modulus-requires
-is-modulus-requires c κs = search needs
+shared-slice-read-frame-sizes-2 : tie.Need-shared-slice-read-frame-sizes-2
+shared-slice-read-frame-sizes-2 c = search needs
+
+frame-sizes-requires : tie.Need-frame-sizes-requires
+frame-sizes-requires c κs = search needs
+
+enum-told : tie.Need-enum-told
+enum-told c = search needs
+
+enum-told-2 : tie.Need-enum-told-2
+enum-told-2 c = search needs
 
 returns-2 : tie.Need-returns-2
-returns-2 c = tells-no (λ h. no-modulus _ _ (c .before .is-modulus .ensures) (c .if2 .taken) (h .prime))
-
-shared-slice-read-if3 : tie.Need-shared-slice-read-if3
-shared-slice-read-if3 c = search needs
-
-returns-3 : tie.Need-returns-3
-returns-3 c = tells-no (λ h. omega (arith, h .size .0))
-
-shared-slice-read-if4 : tie.Need-shared-slice-read-if4
-shared-slice-read-if4 c = search needs
-
-returns-4 : tie.Need-returns-4
-returns-4 c = tells-no (λ h. omega (arith, h .size .1))
+returns-2 c =
+    let f = c .before .before in
+    let ws = f .before .before .before .before .before .args .board .now in
+    let failed : FirstFailing (frameSizes (modulusWord ws) (sizeWord ws)) _ =
+    subst (Judges (frameSizes (modulusWord ws) (sizeWord ws))) (c .enum-told2 .given .1) (f .frame-sizes .ensures) in
+    tells-no (λ h. no-sizes failed (h .prime) (h .size))
 
 shared-slice-read-n : tie.Need-shared-slice-read-n
 shared-slice-read-n c = search needs
 
 cast-n : tie.Need-cast-n
-cast-n c = search needs
+cast-n c = omega (arith, given (sizes (c .before)) .1 .0 .1)
 
 board-length-requires : tie.Need-board-length-requires
-board-length-requires c κs = c .before .if4 .left
+board-length-requires c κs = given (sizes (c .before)) .1 .0 .1
 
-returns-5 : tie.Need-returns-5
-returns-5 c = tells-no (λ h. c .if5 .taken (h .long ∙ sym (c .before .board-length .ensures)))
+returns-3 : tie.Need-returns-3
+returns-3 c = tells-no (λ h. c .if2 .taken (h .long ∙ sym (c .before .board-length .ensures)))
 
 shared-slice-read-result : tie.Need-shared-slice-read-result
 shared-slice-read-result c = search needs
@@ -51,20 +64,14 @@ shared-slice-read-result c = search needs
 shared-slice-read-result-2 : tie.Need-shared-slice-read-result-2
 shared-slice-read-result-2 c = search needs
 
-returns-6 : tie.Need-returns-6
-returns-6 c =
-    let s = c .before .before .before .before .before .before .before .before .before .before .before .before .before .before in
-    let ws = s .args .board .now in
-    let e2 = c .before .before .before .before .before .before .before .before .before in
+returns-4 : tie.Need-returns-4
+returns-4 c =
+    let e = c .before .before in
+    let past = e .before .before .before in
+    let ws = past .before .before .before .before .before .before .before .args .board .now in
+    let hs = given (sizes past) in
     tells-leb (countWord ws) (sizeWord ws)
-    (λ h.
-    record {
-      three = omega arith;
-      prime = is-modulus _ _ (e2 .before .is-modulus .ensures) (e2 .if2 .left);
-      size = (omega arith, omega arith);
-      long = c .before .before .if5 .left ∙ c .before .before .before .board-length .ensures;
-      count = h;
-    })
+    (λ h. record { three = omega arith; prime = hs .0; size = hs .1 .0; long = e .if2 .left ∙ e .before .board-length .ensures; count = h })
     (λ h. h .count)
 
 pub has-header-spec : {M : Type 1} → statement M
@@ -72,17 +79,16 @@ has-header-spec =
     tie.close
     (tie.spec
     returns
-    shared-slice-read-is-modulus
-    is-modulus-requires
+    shared-slice-read-frame-sizes
+    shared-slice-read-frame-sizes-2
+    frame-sizes-requires
+    enum-told
+    enum-told-2
     returns-2
-    shared-slice-read-if3
-    returns-3
-    shared-slice-read-if4
-    returns-4
     shared-slice-read-n
     cast-n
     board-length-requires
-    returns-5
+    returns-3
     shared-slice-read-result
     shared-slice-read-result-2
-    returns-6)
+    returns-4)
