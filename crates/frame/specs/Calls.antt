@@ -15,7 +15,7 @@ use Rattle.checks.specs.Sizes.{frameSizes}
 use Rattle.words.specs.Decide.{below?}
 use Rattle.codec.specs.Placed.{placed}
 use Rattle.frame.specs.Format.{longest, frameOf}
-use Rattle.frame.specs.Reading.{Found, accepted, rejected, readFrame}
+use Rattle.frame.specs.Reading.{frameMultipliers, frameValue, frameChecks, Found, accepted, rejected}
 use Rattle.frame.specs.Sealing.{sealed}
 use Rattle.frame.specs.Decide.{records?}
 
@@ -24,15 +24,16 @@ unfoldable pub readOutcome : List ℕ → Found → Outcome (List ℕ)
 readOutcome lent (accepted xs v) = outcome (gives (pos v)) xs
 readOutcome lent (rejected k) = untouched lent k
 
--- reading a frame of n records modulo p, with the multipliers lent: past the lengths, the frame's own checks
-abbrev pub readRest : (n : ℕ) (multipliers : List ℕ) → Checks Refusal
-readRest n lent = long? lent n else Length ⨾ passed
+-- reading a frame of n records modulo p, with the multipliers lent: past their length, the frame's own checks
+abbrev pub readRest : (p n : ℕ) (bytes multipliers : List ℕ) → Checks Refusal
+readRest p n bytes lent = long? lent n else Length ⨾ frameChecks p n bytes
 
-abbrev pub readChecks : (p n : ℕ) (multipliers : List ℕ) → Checks Refusal
-readChecks p n lent = andThen (frameSizes p n) (λ _. readRest n lent)
+abbrev pub readChecks : (p n : ℕ) (bytes multipliers : List ℕ) → Checks Refusal
+readChecks p n bytes lent = andThen (frameSizes p n) (λ _. readRest p n bytes lent)
 
 unfoldable pub readCall : (p n : ℕ) (bytes multipliers : List ℕ) → Outcome (List ℕ)
-readCall p n bytes lent = inOrder (readChecks p n lent) (λ _. readOutcome lent (readFrame p n bytes)) (untouched lent)
+readCall p n bytes lent =
+    inOrder (readChecks p n bytes lent) (λ _. outcome (gives (pos (frameValue n bytes))) (frameMultipliers n bytes)) (untouched lent)
 
 -- writing the frame of n multipliers and a value to the front of the lent bytes; bytes after it keep their contents
 abbrev pub writeRest : (p n : ℕ) (multipliers : List ℕ) (value : ℕ) (bytes : List ℕ) → Checks Refusal

@@ -4,7 +4,7 @@ use native.Mathlib.Omega.{arith}
 use borrow.Author.Needs.{needs}
 use Rattle.checks.specs.InOrder.{AllHold}
 use Rattle.checks.specs.Sizes.{frameSizes, Judges}
-use Rattle.checks.proofs.InOrder.{none-left, holds-and, fails-here, given}
+use Rattle.checks.proofs.InOrder.{fails-here, given}
 use Rattle.frame.proofs.Calls.{read-no-sizes, read-refused, read-done}
 use Rattle.frame_calls.proofs.read.Statement.{statement}
 use Rattle.frame_calls.proofs.read.Tie as tie
@@ -46,7 +46,7 @@ returns-3 c =
     let r = c .before .before in
     let l = r .before .before in
     r .read-frame .ensures
-    ∙ read-done _ _ _ _ (sized (l .before)) (holds-and (l .if1 .left) (λ _. none-left))
+    ∙ read-done _ _ _ _ (sized (l .before)) (l .if1 .left)
 
 pub read-spec : {M : Type 1} → statement M
 read-spec =
