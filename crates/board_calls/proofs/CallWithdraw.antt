@@ -1,9 +1,9 @@
 -- What withdraw answers: refusal 11 and 10, or the words with the last rows dropped, which are the layout of the entries that stay.
-use mathlib.Core.Path.{_≡_, refl, sym, ap, _∙_, subst₂}
+use mathlib.Core.Path.{_≡_, sym, ap, _∙_, subst₂}
 use mathlib.Core.List.{List}
 use Prim.Native.Nat.{ℕ, _-_, _≤_, _<_}
 use native.Mathlib.Omega.{arith}
-use lib.ListN.{length, take}
+use lib.ListN.{take}
 use Rattle.checks.specs.declared.Refusal.the-variants.{Withdrawal}
 use Rattle.checks.specs.Told.{results}
 use Rattle.checks.specs.Outcome.{outcome, untouched}

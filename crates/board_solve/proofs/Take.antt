@@ -10,7 +10,6 @@ use lib.ListN.{length, getD, take, drop, replicate, length-drop, length-replicat
 use lib.Seq.{length-take-le, take-add, getD-take, getD-drop, ext-getD}
 use Rattle.algebra.specs.Matrix.{sum}
 use Rattle.algebra.proofs.Sums.{sum-same}
-use Rattle.checks.specs.Prime.{IsModulus}
 use Rattle.checks.specs.Outcome.{outcome}
 use Rattle.checks.specs.Told.{Told, refused}
 use Rattle.checks.specs.declared.Refusal.the-variants.{Conflict}

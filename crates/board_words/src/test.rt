@@ -3,7 +3,6 @@
 ghost use Rattle.words.specs.Words.{Zeros};
 ghost use Rattle.algebra.specs.Answers.{Tells};
 ghost use Rattle.board_words.specs.Tested.{Header, Filled, Rows, Laid, Inverted, BoardTold};
-ghost use Rattle.words.specs.Words.{AllMarked};
 use super::layout;
 use super::layout::COUNT;
 use super::layout::HEADER;

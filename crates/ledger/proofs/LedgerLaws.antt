@@ -21,7 +21,7 @@ use Rattle.checks.specs.Told.{refused, results}
 use Rattle.checks.specs.Outcome.{Outcome, outcome, untouched}
 use Rattle.checks.proofs.InOrder.{none-left, holds-and, fails-here, in-order-done, in-order-refused}
 use Rattle.field.specs.Residue.{Residue, reduce, residues, _⊗_}
-use Rattle.field.specs.Written.{tabulate, numbers}
+use Rattle.field.specs.Written.{tabulate}
 use Rattle.field.proofs.Field.{residues-field}
 use Rattle.field.proofs.Written.{length-tabulate, getD-tabulate, is-tabulate}
 use Rattle.signed.specs.Reading.{reading}

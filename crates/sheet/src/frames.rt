@@ -2,23 +2,25 @@
 ghost use mathlib.Core.Path.{_≡_};
 ghost use Prim.Native.Nat.{_≤_};
 ghost use lib.ListN.{length};
+ghost use Rattle.ledger.specs.Board.{headerLength};
 use super::lent;
 use super::lines;
+use board_words::layout;
 use checks::Refusal;
 use libc::STDIN_FILENO;
 use sheet_text::FrameInput;
 
-// A whole frame: the board takes it, and word 2 of the board is the count afterwards.
+// A whole frame: the board takes it, and its count word is the count afterwards.
 fn take(board: &mut [u32], frame: &[u8], mix: &mut [u32])
-    requires { ⌜ 3 ≤ length (now board) ⌝ }
+    requires { ⌜ headerLength ≤ length (now board) ⌝ }
 {
     let answer = board_calls::take(board, frame, mix);
-    lines::answer(answer, board[2]);
+    lines::answer(answer, board[layout::COUNT]);
 }
 
 // Reads a frame's bytes into the lent ones, which are as many as its length says, and takes it. Answers whether it was whole.
 fn take_body(board: &mut [u32], frame: &mut [u8], mix: &mut [u32]) -> bool
-    requires { ⌜ 3 ≤ length (now board) ⌝ }
+    requires { ⌜ headerLength ≤ length (now board) ⌝ }
 {
     let came = io::read_full(STDIN_FILENO, frame);
     let FrameInput::Frame(_) = sheet_text::frame_body(frame.len(), came) else {
@@ -31,7 +33,7 @@ fn take_body(board: &mut [u32], frame: &mut [u8], mix: &mut [u32]) -> bool
 
 // Reads and takes the next frame. Answers whether there was one, and whole.
 fn take_next(board: &mut [u32], bytes: &mut [u8], mix: &mut [u32]) -> bool
-    requires { ⌜ (3 ≤ length (now board)) × (65536 ≡ length (now bytes)) ⌝ }
+    requires { ⌜ (headerLength ≤ length (now board)) × (65536 ≡ length (now bytes)) ⌝ }
 {
     let mut pair = lent::frame_length();
     let came = io::read_full(STDIN_FILENO, &mut pair);
@@ -48,7 +50,7 @@ fn take_next(board: &mut [u32], bytes: &mut [u8], mix: &mut [u32]) -> bool
 // Takes the frames one after the other. A proved loop has to end, and nothing says that the input does, so it counts down, from
 // a number of frames that no line sends: at a thousand million frames a second that takes five hundred years.
 fn take_each(board: &mut [u32], bytes: &mut [u8], mix: &mut [u32])
-    requires { ⌜ (3 ≤ length (now board)) × (65536 ≡ length (now bytes)) ⌝ }
+    requires { ⌜ (headerLength ≤ length (now board)) × (65536 ≡ length (now bytes)) ⌝ }
 {
     let mut left = u64::MAX;
     while 0 < left && take_next(board, bytes, mix) {
@@ -58,7 +60,7 @@ fn take_each(board: &mut [u32], bytes: &mut [u8], mix: &mut [u32])
 
 // All frames, onto the board of n records. A length has two bytes, so that every frame has room.
 pub fn take_all(n: usize, board: &mut [u32])
-    requires { ⌜ (n ≤ 64) × (3 ≤ length (now board)) ⌝ }
+    requires { ⌜ (n ≤ 64) × (headerLength ≤ length (now board)) ⌝ }
 {
     let mut bytes = io::large_buffer();
     let mut mix = lent::words();

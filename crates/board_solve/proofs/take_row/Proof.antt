@@ -1,7 +1,6 @@
 -- `board_solve::take_row` meets its contract: what `find` tells decides, and each of the three ways out leaves what the ledger's
 -- step leaves.
 use mathlib.Core.Path.{_≡_, sym, _∙_, subst}
-use Prim.Native.Nat.{_≤_, _<_}
 use native.Mathlib.Omega.{arith}
 use lib.ListN.{take}
 use lib.Seq.{length-take-le}

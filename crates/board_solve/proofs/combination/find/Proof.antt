@@ -1,11 +1,10 @@
 -- `board_solve::combination::find` meets its contract: c is f D and g is c R, and g is f exactly if f is a combination.
 use mathlib.Core.Path.{_≡_, sym, _∙_}
-use Prim.Native.Nat.{_≤_}
 use native.Mathlib.Omega.{arith}
 use lib.ListN.{length, take}
 use lib.Seq.{length-take-le}
 use borrow.Author.Needs.{needs}
-use Rattle.ledger.specs.Board.{sizeWord, countWord}
+use Rattle.ledger.specs.Board.{countWord}
 use Rattle.board_solve.proofs.MixRows.{mixed-below}
 use Rattle.board_solve.proofs.Standing.{held-sizes}
 use Rattle.board_solve.proofs.Combinations.{found}
