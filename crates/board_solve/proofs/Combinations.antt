@@ -19,7 +19,7 @@ use Rattle.field.proofs.Field.{residues-ring}
 use Rattle.field.proofs.Residues.{reduce-of-value, reduce-injective, below-of-value}
 use Rattle.ledger.specs.Board.{modulusWord, sizeWord, countWord, entriesOf}
 use Rattle.ledger.specs.Ledger.{multiplierRows}
-use Rattle.ledger.proofs.LayoutTables.{mixed-agree}
+use Rattle.algebra.proofs.Alike.{mixed-alike}
 use Rattle.ledger.proofs.Parse.{words-count}
 use Rattle.board_words.specs.Inverse.{BoardInverse}
 use Rattle.board_solve.specs.Combination.{residuesOf, Mixed, RowFor, Combination}
@@ -93,7 +93,7 @@ module _ (ws rows d f c g : List ℕ) (H : BoardInverse ws rows d) (row : RowFor
       → mixed (residues p) (length (entriesOf ws)) u (multiplierRows p (entriesOf ws)) j ≡ mixed (residues p) k u (table p rows 0 n k n) j
   entry-mixed u j l =
       ap (λ m. mixed (residues p) m u (multiplierRows p (entriesOf ws)) j) (words-count ws)
-      ∙ mixed-agree (residues p) k n (multiplierRows p (entriesOf ws)) (table p rows 0 n k n) (rows-same ws rows d H) u j l
+      ∙ mixed-alike (residues p) k n (multiplierRows p (entriesOf ws)) (table p rows 0 n k n) (rows-same ws rows d H) u j l
 
   -- so the test whether g is f tells whether f is a combination of them
   pub found : {t : Bool} → Tells t (f ≡ take n g) → Combination ws f c t

@@ -1,5 +1,5 @@
 -- What read, write and seal come to: refused by the first check that fails, of the sizes or of what comes after them, or done.
-use mathlib.Core.Path.{_≡_, refl, sym}
+use mathlib.Core.Path.{_≡_, refl, sym, _∙_}
 use mathlib.Core.List.{List, [], _∷_}
 use Prim.Native.Nat.{ℕ}
 use lib.IntN.{ℤ, pos}

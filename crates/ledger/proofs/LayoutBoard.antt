@@ -20,7 +20,7 @@ use Rattle.ledger.specs.Board.{entriesOf, IsBoard}
 use Rattle.ledger.specs.Proper.{Proper}
 use Rattle.ledger.proofs.LayoutPlaces.{row-place, row-holds}
 use Rattle.ledger.proofs.LayoutRows.{Wide, entryWords, entry-multiplier, entry-value, rows-length, rows-at, entries-back}
-use Rattle.ledger.proofs.LayoutTables.{independent-agree}
+use Rattle.algebra.proofs.Alike.{independent-alike}
 
 -- how many zeros stand behind k rows
 abbrev pub zerosBehind : (n k : ℕ) → ℕ
@@ -140,7 +140,7 @@ layout-board p n es ok size P =
       count = P .fits;
       below = layout-below p n es P;
       independent =
-          independent-agree (residues p) (length es) n (multiplierRows p es)
+          independent-alike (residues p) (length es) n (multiplierRows p es)
           (table p (layout p n es) headerLength (rowLength n) (length es) n)
           (layout-table p n es (P .wide)) (P .independent);
       zeros = λ q h l. layout-zero p n es (P .wide) q h;

@@ -1,7 +1,6 @@
 pub mod EntryMore
 pub mod LayoutPlaces
 pub mod LayoutRows
-pub mod LayoutTables
 pub mod LayoutBoard
 pub mod LayoutChanges
 pub mod Parse

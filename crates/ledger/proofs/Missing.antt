@@ -28,7 +28,7 @@ use Rattle.ledger.specs.Proper.{Proper}
 use Rattle.ledger.proofs.EntryMore.{length-more}
 use Rattle.ledger.proofs.Proper.{append-proper}
 use Rattle.frame.proofs.Round.{Numbers}
-use Rattle.ledger.proofs.RankRows.{combination-alike}
+use Rattle.algebra.proofs.Alike.{combination-alike}
 use Rattle.ledger.proofs.RankFull.{agreeing-rows, full-agree, free-unit}
 use Rattle.ledger.proofs.LedgerLaws.{take-accepted, take-new, standing-met}
 use Rattle.ledger.proofs.LedgerSteps.{Took, new, repeat, refusal, took, Withdrew, dropped, overlong, withdrew}

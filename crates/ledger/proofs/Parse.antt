@@ -19,7 +19,7 @@ use Rattle.ledger.specs.Board.{layout, entriesOf, IsBoard}
 use Rattle.ledger.specs.Proper.{Proper}
 use Rattle.ledger.proofs.LayoutPlaces.{row-behind, row-later, row-ends, row-inside, row-holds}
 use Rattle.ledger.proofs.LayoutRows.{Wide, entries-count, entries-at, entries-rows}
-use Rattle.ledger.proofs.LayoutTables.{independent-agree}
+use Rattle.algebra.proofs.Alike.{independent-alike}
 use Rattle.ledger.proofs.LayoutBoard.{zerosBehind, layout-board}
 
 -- ---- the entries of any words
@@ -159,7 +159,7 @@ module _ (ws : List ℕ) (b : IsBoard ws) where
             rw (words-value ws i inside) (board-below i (sizeWord ws) inside (row-holds (sizeWord ws)));
         independent =
             rw (words-count ws)
-            (independent-agree (residues (modulusWord ws)) (countWord ws) (sizeWord ws)
+            (independent-alike (residues (modulusWord ws)) (countWord ws) (sizeWord ws)
             (multiplierTable ws)
             (multiplierRows (modulusWord ws) (entriesOf ws))
             (λ i j h l. sym (rows-table ws (modulusWord ws) i j h l)) (b .independent));

@@ -23,9 +23,9 @@ use Rattle.ledger.specs.History.{Call, ledgerStep}
 use Rattle.ledger.specs.Proper.{Proper}
 use Rattle.ledger.proofs.EntryMore.{length-more, entry-before, entry-last, each-more}
 use Rattle.ledger.proofs.LedgerSteps.{Took, new, repeat, refusal, took, Withdrew, dropped, overlong, withdrew}
-use Rattle.ledger.proofs.LayoutTables.{independent-agree}
-use Rattle.ledger.proofs.RankRows.{Alike, combination-alike, alike-back, front-independent, append-independent, independent-most}
-
+use Rattle.algebra.proofs.Alike.{independent-alike}
+use Rattle.ledger.proofs.RankRows.{front-independent, append-independent, independent-most}
+use Rattle.algebra.proofs.Alike.{Alike, combination-alike, alike-back}
 
 -- the empty ledger is proper
 pub empty-proper : (p n : ℕ) → Proper p n []
@@ -55,7 +55,7 @@ module _ (p n : ℕ) (es : List Entry) (proper : Proper p n es) where
     longer : Independent (residues p) (suc (length es)) n rows
     longer =
         append-independent (residues p) (residues-field p (ok .prime)) (length es) n rows
-        (independent-agree (residues p) (length es) n (multiplierRows p es) rows before (proper .independent))
+        (independent-alike (residues p) (length es) n (multiplierRows p es) rows before (proper .independent))
         (λ c. new
         (combination-alike (residues p) rows (multiplierRows p es) (alike-back (residues p) (multiplierRows p es) rows before)
         (rows (length es)) (λ j. reduce p (getD xs j 0)) last c))
@@ -86,7 +86,7 @@ module _ (p n : ℕ) (es : List Entry) (proper : Proper p n es) where
         value-below = λ i b. rw (same i b) (proper .value-below i (within i b));
         independent =
             rw long
-            (independent-agree (residues p) k n (multiplierRows p es) (multiplierRows p (take k es)) alike
+            (independent-alike (residues p) k n (multiplierRows p es) (multiplierRows p (take k es)) alike
             (front-independent (residues p) (residues-ring p positive) k (length es) n (multiplierRows p es) h (proper .independent)));
       }
     where

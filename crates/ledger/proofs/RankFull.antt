@@ -21,8 +21,9 @@ use Rattle.algebra.proofs.Settled.{agree-if, agree-only-if}
 use Rattle.algebra.proofs.Exists.{PivotInverse, pivot-inverse}
 use Rattle.algebra.proofs.Decide.{cut, cut-sized}
 use Rattle.algebra.proofs.Independent.{count-next, count-most, all-marked, all-counted}
-use Rattle.ledger.proofs.LayoutTables.{mixed-agree}
-use Rattle.ledger.proofs.RankRows.{apply-alike, cut-alike, all-chosen}
+use Rattle.algebra.proofs.Alike.{mixed-alike}
+use Rattle.ledger.proofs.RankRows.{apply-alike, all-chosen}
+use Rattle.algebra.proofs.Decide.{cut-inside}
 
 -- a set with fewer than n members below n lacks one of them
 pub unmarked : (n : ℕ) (I : Marks) → count n I < n → (c : ℕ) × (c < n) × (I c ≡ false)
@@ -47,10 +48,10 @@ module _ (R : Ring) (F : IsField R) (k n : ℕ) (X : Matrix R) where
   S = pivot-inverse R F k n C (cut-sized R k n X)
 
   to-cut : (x w : Vector R) → Solves R k n X x w → Solves R k n C x w
-  to-cut x w s i h = apply-alike R C X (cut-alike R k n X) x i h ∙ s i h
+  to-cut x w s i h = apply-alike R C X (cut-inside R k n X) x i h ∙ s i h
 
   from-cut : (x w : Vector R) → Solves R k n C x w → Solves R k n X x w
-  from-cut x w s i h = sym (apply-alike R C X (cut-alike R k n X) x i h) ∙ s i h
+  from-cut x w s i h = sym (apply-alike R C X (cut-inside R k n X) x i h) ∙ s i h
 
   -- solutions that agree at every column: n rows at least
   pub agreeing-rows : (z w : Vector R) → Solves R k n X z w
@@ -90,7 +91,7 @@ module _ (R : Ring) (F : IsField R) (k n : ℕ) (X : Matrix R) where
           (sym (kernel-vector-own R L (S .holds) c c e ∙ sums.unit-same R c)
           ∙ sym (sums.unit-sum R L n x c l)
           ∙ sums.sum-same R n (λ j. R .times (unit R c j) (x j)) (λ j. R .times (mixed R k u C j) (x j))
-          (λ j b. ap (λ a. R .times a (x j)) (h j b ∙ sym (mixed-agree R k n C X (cut-alike R k n X) u j b)))
+          (λ j b. ap (λ a. R .times a (x j)) (h j b ∙ sym (mixed-alike R k n C X (cut-inside R k n X) u j b)))
           ∙ applied.mixed-apply R L n k u C x
           ∙ sums.sum-zeros R L k (λ s. R .times (u s) (apply R n C x s))
           (λ s b. ap (R .times (u s)) (kernel-vector-in R L (S .holds .absorbs) c l s b) ∙ rings.times-zero R L (u s)))

@@ -14,12 +14,8 @@ use borrow.Author.Tests.{ne-eqb}
 use Rattle.algebra.specs.Ring.{IsCommutativeRing, IsField}
 use Rattle.algebra.specs.Matrix.{Matrix}
 use Rattle.algebra.specs.Span.{IsCombination, Independent}
-use Rattle.algebra.specs.Quasiinverse.{Marks, count, IsPivotInverse}
-use Rattle.algebra.proofs.Counts.{count-same}
-use Rattle.algebra.proofs.Rank.{same-span-same-rank}
-use Rattle.algebra.proofs.Exists.{PivotInverse, pivot-inverse}
-use Rattle.algebra.proofs.Decide.{cut, cut-inside, cut-sized}
-use Rattle.algebra.proofs.Independent.{all-counted}
+use Rattle.algebra.proofs.Alike.{combination-alike}
+use Rattle.algebra.proofs.Marked.{same-span-rank, independent-rank}
 use Rattle.checks.specs.Told.{refused}
 use Rattle.checks.specs.Refusal.{IsRefusal}
 use Rattle.checks.specs.Outcome.{Outcome}
@@ -30,11 +26,12 @@ use Rattle.field.proofs.Field.{residues-field}
 use Rattle.ledger.specs.Ledger.{Entry, entry, noEntry, Ledger, ledger, InSpan, multiplierRows}
 use Rattle.ledger.specs.Steps.{ledgerTake}
 use Rattle.ledger.specs.History.{Call, Reply, reply, ledgerStep, run, ledgerRun}
-use Rattle.ledger.specs.Heard.{NoWithdrawal, multipliersOf, heardIn, heard, ledgerRows, residueRows, rowMarks, rowsRank}
+use Rattle.ledger.specs.Heard.{NoWithdrawal, multipliersOf, heardIn, heard, ledgerRows, residueRows, rowsRank}
 use Rattle.ledger.specs.Proper.{Proper}
 use Rattle.ledger.proofs.EntryMore.{length-more, entry-last}
 use Rattle.ledger.proofs.Proper.{empty-proper}
-use Rattle.ledger.proofs.RankRows.{alike-back, cut-alike, combination-alike, own-combination, combination-more, all-chosen, chosen-rows}
+use Rattle.ledger.specs.Decide.{combined?}
+use Rattle.ledger.proofs.RankRows.{own-combination, combination-more}
 use Rattle.ledger.proofs.LedgerSteps.{Took, new, repeat, refusal, took}
 use Rattle.ledger.proofs.LedgerRuns.{only-appends, run-proper}
 
@@ -75,38 +72,13 @@ module _ (p : ℕ) (ok : IsModulus p) (n : ℕ) where
   abbrev L : IsCommutativeRing (residues p)
   L = F .ring
 
-  -- the rows of numbers, cut to size
-  abbrev rowsCut : List (List ℕ) → Matrix (residues p)
-  rowsCut xss = cut (residues p) (length xss) n (residueRows p xss)
-
-  -- the set J of any quasiinverse of the rows has as many members as the rank
-  pub rank-counted : (xss : List (List ℕ)) {D : Matrix (residues p)} {I J : Marks}
-      → IsPivotInverse (residues p) (length xss) n (rowsCut xss) D I J → rowsRank p ok n xss ≡ count (length xss) J
-  unfolding rowsRank rowMarks
-  rank-counted xss {J = J} Q =
-      count-same (length xss) (rowMarks p ok n xss) J (λ y h. sym (chosen-rows (residues p) F (residueRows p xss) Q y h))
-
-  quasi : (xss : List (List ℕ)) → PivotInverse (residues p) (length xss) n (rowsCut xss)
-  quasi xss = pivot-inverse (residues p) F (length xss) n (rowsCut xss) (cut-sized (residues p) (length xss) n (residueRows p xss))
-
-  -- rows of one list, each a combination of the rows of the other, when both are cut to size
-  rows-spanned : (xss yss : List (List ℕ)) → ((xs : List ℕ) → List·Memᴰ xs xss → Spanned p n yss xs)
-      → (y : ℕ) → y < length xss → IsCombination (residues p) (length yss) n (rowsCut yss) (rowsCut xss y)
-  unfolding residueRows
-  rows-spanned xss yss h y l =
-      combination-alike (residues p) (residueRows p yss) (rowsCut yss)
-      (alike-back (residues p) (rowsCut yss) (residueRows p yss) (cut-alike (residues p) (length yss) n (residueRows p yss)))
-      (residueRows p xss y) (rowsCut xss y) (λ j b. sym (cut-inside (residues p) (length xss) n (residueRows p xss) y j l b))
-      (h (getD xss y []) (getD-member [] xss y l))
-
   -- rows that span the same have the same rank
   pub same-rank : (xss yss : List (List ℕ)) → ((xs : List ℕ) → List·Memᴰ xs xss → Spanned p n yss xs)
       → ((xs : List ℕ) → List·Memᴰ xs yss → Spanned p n xss xs) → rowsRank p ok n xss ≡ rowsRank p ok n yss
+  unfolding rowsRank residueRows
   same-rank xss yss f g =
-      rank-counted xss (quasi xss .holds)
-      ∙ same-span-same-rank (residues p) L (F .one-not-zero) (quasi xss .holds) (quasi yss .holds)
-      (rows-spanned xss yss f) (rows-spanned yss xss g)
-      ∙ sym (rank-counted yss (quasi yss .holds))
+      same-span-rank (residues p) F (combined? p ok) (length xss) (length yss) n (residueRows p xss) (residueRows p yss)
+      (λ y l. f (getD xss y []) (getD-member [] xss y l)) (λ y l. g (getD yss y []) (getD-member [] yss y l))
 
   -- a row is spanned by rows among which it stands
   member-spanned : (yss : List (List ℕ)) (xs : List ℕ) → List·Memᴰ xs yss → Spanned p n yss xs
@@ -129,21 +101,12 @@ module _ (p : ℕ) (ok : IsModulus p) (n : ℕ) where
   span-spanned es xs =
       subst₂ (λ k X. IsCombination (residues p) k n X (λ j. reduce p (getD xs j 0))) (sym (ledger-length es)) (sym (ledger-rows es))
 
-  -- "The count of frames held is the rank of the ledger's rows": for any quasiinverse of the rows, J has them all
-  pub count-is-rank : (es : List Entry) → Proper p n es → {D : Matrix (residues p)} {I J : Marks}
-      → IsPivotInverse (residues p) (length es) n (cut (residues p) (length es) n (multiplierRows p es)) D I J
-      → count (length es) J ≡ length es
-  count-is-rank es proper {J = J} Q =
-      all-counted (length es) J (all-chosen (residues p) F (length es) n (multiplierRows p es) (proper .independent) Q)
-
-  -- the same of the rank as 01 defines it
+  -- "The count of frames held is the rank of the ledger's rows"
   pub ledger-rank : (es : List Entry) → Proper p n es → rowsRank p ok n (ledgerRows es) ≡ length es
+  unfolding rowsRank
   ledger-rank es proper =
-      rank-counted (ledgerRows es) (quasi (ledgerRows es) .holds)
-      ∙ all-counted (length (ledgerRows es)) (quasi (ledgerRows es) .J)
-      (all-chosen (residues p) F (length (ledgerRows es)) n (residueRows p (ledgerRows es))
+      independent-rank (residues p) F (combined? p ok) (length (ledgerRows es)) n (residueRows p (ledgerRows es))
       (subst₂ (λ k X. Independent (residues p) k n X) (sym (ledger-length es)) (sym (ledger-rows es)) (proper .independent))
-      (quasi (ledgerRows es) .holds))
       ∙ ledger-length es
 
   -- ---- what was heard

@@ -1,6 +1,6 @@
 -- What a ledger needs to know of rows over a ring or a field: which rows and numbers count, that a front of independent rows
 -- is independent and so are rows with one more that is no combination of them, that independent rows of n numbers are at most
--- n, combine in one way only, and let every system be pivot-inverse.
+-- n, combine in one way only, and let every system be solved.
 use mathlib.Core.Path.{_≡_, sym, ap, ap₂, _∙_}
 use mathlib.Core.Bool.{true, false}
 use mathlib.Core.Logic.{⊎-elim}
@@ -14,41 +14,24 @@ use Rattle.algebra.specs.Ring.{Ring, IsCommutativeRing, IsField}
 use Rattle.algebra.specs.Matrix.{Vector, Matrix, unit, product, apply, mixed, transpose}
 use Rattle.algebra.specs.Span.{Combines, IsCombination, Independent, Solves}
 use Rattle.algebra.specs.Quasiinverse.{Marks, IsPivotInverse}
+use Rattle.algebra.proofs.Alike.{Alike, alike-back, mixed-alike, combination-alike}
 use Rattle.algebra.proofs.Rings as rings
 use Rattle.algebra.proofs.Sums as sums
 use Rattle.algebra.proofs.Applied as applied
 use Rattle.algebra.proofs.Transpose.{mixed-transpose}
 use Rattle.algebra.proofs.Exists.{PivotInverse, pivot-inverse}
-use Rattle.algebra.proofs.Decide.{cut, cut-inside, cut-sized, combination?}
-use Rattle.algebra.proofs.Choice.{pick-elim}
-use Rattle.algebra.proofs.Marks.{is-true, is-false}
-use Rattle.algebra.proofs.Chosen.{row-depends, row-free}
+use Rattle.algebra.proofs.Decide.{cut, cut-inside, cut-sized}
 use Rattle.algebra.proofs.Independent.{independent-chosen, independent-inverse, all-counted, count-most}
-use Rattle.ledger.proofs.LayoutTables.{mixed-agree, independent-agree}
+use Rattle.algebra.proofs.Alike.{independent-alike}
 
 -- ---- which rows and numbers count
 
 module _ (R : Ring) where
-  -- two tables with the same k rows of n numbers
-  abbrev pub Alike : (k n : ℕ) → Matrix R → Matrix R → Type 0
-  Alike k n X Y = (i j : ℕ) → i < k → j < n → X i j ≡ Y i j
-
-  pub apply-alike : {k n : ℕ} (X Y : Matrix R) → Alike k n X Y → (x : Vector R) (i : ℕ) → i < k → apply R n X x i ≡ apply R n Y x i
+  pub apply-alike : {k n : ℕ} (X Y : Matrix R) → Alike R k n X Y → (x : Vector R) (i : ℕ) → i < k → apply R n X x i ≡ apply R n Y x i
   unfolding apply
   apply-alike {n = n} X Y same x i h =
       sums.sum-same R n (λ t. R .times (X i t) (x t)) (λ t. R .times (Y i t) (x t))
       (λ t l. ap (λ a. R .times a (x t)) (same i t h l))
-
-  pub alike-back : {k n : ℕ} (X Y : Matrix R) → Alike k n X Y → Alike k n Y X
-  alike-back X Y same i j h l = sym (same i j h l)
-
-  pub combination-alike : {k n : ℕ} (X Y : Matrix R) → Alike k n X Y
-      → (v w : Vector R) → ((j : ℕ) → j < n → v j ≡ w j) → IsCombination R k n X v → IsCombination R k n Y w
-  combination-alike {k} {n} X Y same v w e (u, c) = (u, λ j l. sym (e j l) ∙ c j l ∙ mixed-agree R k n X Y same u j l)
-
-  -- a table is alike when it is cut
-  pub cut-alike : (k n : ℕ) (X : Matrix R) → Alike k n (cut R k n X) X
-  cut-alike k n X i j h l = cut-inside R k n X i j h l
 
   -- one row more
   pub mixed-next : (k : ℕ) (u : Vector R) (X : Matrix R) (j : ℕ)
@@ -167,7 +150,7 @@ module _ (R : Ring) (F : IsField R) where
       → IsPivotInverse R k n (cut R k n X) D I J → (y : ℕ) → y < k → J y ≡ true
   all-chosen k n X free Q =
       independent-chosen R L (F .one-not-zero) Q
-      (independent-agree R k n X (cut R k n X) (alike-back R (cut R k n X) X (cut-alike R k n X)) free)
+      (independent-alike R k n X (cut R k n X) (alike-back R (cut R k n X) X (cut-inside R k n X)) free)
 
   -- independent rows of n numbers are at most n
   pub independent-most : (k n : ℕ) (X : Matrix R) → Independent R k n X → k ≤ n
@@ -180,7 +163,7 @@ module _ (R : Ring) (F : IsField R) where
   independent-solves k n X free w = (
     apply R k D w,
     λ i h.
-        sym (apply-alike R C X (cut-alike R k n X) (apply R k D w) i h)
+        sym (apply-alike R C X (cut-inside R k n X) (apply R k D w) i h)
         ∙ sym (applied.apply-product R L k n C D w i)
         ∙ apply-alike R (product R n C D) (unit R) (λ y j b l. independent-inverse R L Q (all-chosen k n X free Q) y j b l) w i h
         ∙ applied.unit-apply R L k w i h,
@@ -197,24 +180,3 @@ module _ (R : Ring) (F : IsField R) where
 
       Q : IsPivotInverse R k n C D (S .I) (S .J)
       Q = S .holds
-
-  -- the rows of J are those that are no combination of the rows before them
-  pub chosen-rows : {k n : ℕ} (X : Matrix R) {D : Matrix R} {I J : Marks} → IsPivotInverse R k n (cut R k n X) D I J
-      → (y : ℕ) → y < k → J y ≡ pick (combination? R F y n X (X y)) false true
-  chosen-rows {k} {n} X {J = J} Q y h =
-      pick-elim (λ b. J y ≡ b) (combination? R F y n X (X y)) false true
-      (λ d.
-      is-false (J y)
-      (λ e.
-      row-free R L (F .one-not-zero) Q y e
-      (combination-alike R X C (alike-back R C X before) (X y) (C y) (λ j l. sym (own j l)) d)))
-      (λ f. is-true (J y) (λ e. f (combination-alike R C X before (C y) (X y) own (row-depends R L Q y h e))))
-    where
-      C : Matrix R
-      C = cut R k n X
-
-      before : Alike R y n C X
-      before i j b l = cut-inside R k n X i j (lt-of-lt-of-le b (le-of-lt h)) l
-
-      own : (j : ℕ) → j < n → C y j ≡ X y j
-      own j l = cut-inside R k n X y j h l

@@ -2,14 +2,13 @@
 -- those answered new; and the rank of rows of numbers. 01: "The ledger's rank is the size of the set J of its multiplier rows;
 -- in a history without withdrawals that is also the rank of the multipliers of all frames answered new or repeat, in whatever
 -- order they came."
-use mathlib.Core.Bool.{true, false}
 use mathlib.Core.List.{List, [], _∷_, _++_, map}
 use Prim.Native.Nat.{ℕ, _+_}
 use lib.Dec.{eqb}
 use lib.ListN.{length, getD}
-use Rattle.algebra.specs.Choice.{choose, pick}
+use Rattle.algebra.specs.Choice.{choose}
 use Rattle.algebra.specs.Matrix.{Matrix}
-use Rattle.algebra.specs.Quasiinverse.{Marks, count}
+use Rattle.algebra.specs.Chosen.{rank}
 use Rattle.checks.specs.Prime.{IsModulus}
 use Rattle.field.specs.Residue.{reduce, residues}
 use Rattle.frame.specs.Reading.{Found, accepted, rejected, readFrame}
@@ -67,10 +66,6 @@ ledgerRows = map (λ e. e .multipliers)
 unfoldable pub residueRows : (p : ℕ) → List (List ℕ) → Matrix (residues p)
 residueRows p xss i j = reduce p (getD (getD xss i []) j 0)
 
--- the set J: the rows that are no combination of the rows before them
-unfoldable pub rowMarks : (p : ℕ) → IsModulus p → (n : ℕ) → List (List ℕ) → Marks
-rowMarks p ok n xss y = pick (combined? p ok y n (residueRows p xss) (residueRows p xss y)) false true
-
--- the rank: how many rows J has (for rows of numbers, as the ledger has them)
+-- the rank of the rows: the size of their set J, as of any table (algebra/specs/Chosen.antt)
 unfoldable pub rowsRank : (p : ℕ) → IsModulus p → (n : ℕ) → List (List ℕ) → ℕ
-rowsRank p ok n xss = count (length xss) (rowMarks p ok n xss)
+rowsRank p ok n xss = rank (residues p) (combined? p ok) (length xss) n (residueRows p xss)
