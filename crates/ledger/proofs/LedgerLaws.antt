@@ -28,10 +28,11 @@ use Rattle.signed.specs.Reading.{reading}
 use Rattle.frame.specs.Reading.{accepted, rejected, readFrame}
 use Rattle.ledger.specs.Ledger.{Entry, entry, ledger, Assignment, InSpan, GivesValue, MeetsAll, Settled, Agreed, multiplierRows, valueColumn}
 use Rattle.ledger.specs.Decide.{inSpan?, agreed?}
-use Rattle.ledger.specs.Steps.{newTold, repeatTold, mixWords, takeInSpan, takeAccepted, takeFound, ledgerTake, tabulateℤ, shownMark}
+use Rattle.ledger.specs.Steps.{newTold, repeatTold, mixWords, takeInSpan, takeAccepted, ledgerTake, tabulateℤ, shownMark}
 use Rattle.ledger.specs.Steps.{shownNumber, ledgerShow}
 use Rattle.ledger.specs.Settle.{Gives}
 use Rattle.ledger.specs.Proper.{Proper}
+use Rattle.ledger.proofs.LedgerSteps.{takeFound, take-found}
 use Rattle.ledger.proofs.RankRows as rows
 
 -- what is written depends on what stands below the bound
@@ -59,15 +60,17 @@ module _ (p : ℕ) (ok : IsModulus p) (n : ℕ) (es : List Entry) where
 
   pub take-rejected : (frame mix : List ℕ) (k : Refusal) → length mix ≡ n → readFrame p n frame ≡ rejected k
       → ledgerTake p ok n (ledger es) frame mix ≡ untouched (ledger es, mix) k
-  unfolding ledgerTake takeFound
+  unfolding takeFound
   take-rejected frame mix k h e =
-      in-order-done _ _ _ (holds-and h (λ _. none-left)) (λ _. ap (λ f. takeFound p ok n (ledger es) f mix) e)
+      take-found p ok n (ledger es) frame mix
+      ∙ in-order-done _ _ _ (holds-and h (λ _. none-left)) (λ _. ap (λ f. takeFound p ok n (ledger es) f mix) e)
 
   pub take-accepted : (frame mix xs : List ℕ) (v : ℕ) → length mix ≡ n → readFrame p n frame ≡ accepted xs v
       → ledgerTake p ok n (ledger es) frame mix ≡ takeAccepted p ok n (ledger es) xs v mix
-  unfolding ledgerTake takeFound
+  unfolding takeFound
   take-accepted frame mix xs v h e =
-      in-order-done _ _ _ (holds-and h (λ _. none-left)) (λ _. ap (λ f. takeFound p ok n (ledger es) f mix) e)
+      take-found p ok n (ledger es) frame mix
+      ∙ in-order-done _ _ _ (holds-and h (λ _. none-left)) (λ _. ap (λ f. takeFound p ok n (ledger es) f mix) e)
 
   -- no combination: new
   pub take-new : (xs : List ℕ) (v : ℕ) (mix : List ℕ) → (InSpan p n es xs → ⊥)

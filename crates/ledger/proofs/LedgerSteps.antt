@@ -1,6 +1,6 @@
 -- What a call can do to the ledger, case by case: a take appends, repeats or is refused, a withdrawal drops or is refused, a
 -- show answers or is refused. Callers go by these cases and open no decision.
-use mathlib.Core.Path.{_≡_, refl}
+use mathlib.Core.Path.{_≡_, refl, sym, ap, _∙_, subst}
 use mathlib.Core.List.{List, [], _∷_, _++_}
 use Prim.Native.Nat.{ℕ, suc, _-_, _≤_}
 use native.Mathlib.Omega.{arith}
@@ -12,12 +12,15 @@ use Rattle.checks.specs.Refusal.{refusalNumber}
 use Rattle.checks.specs.Told.{refused, results}
 use Rattle.checks.specs.Outcome.{Outcome, outcome, untouched}
 use Rattle.checks.specs.Prime.{IsModulus}
-use Rattle.checks.proofs.InOrder.{in-order-elim, kind-of-list}
-use Rattle.frame.specs.Reading.{Found, accepted, rejected, readFrame}
+use Rattle.checks.specs.declared.Refusal.the-variants.{Length}
+use Rattle.checks.specs.InOrder.{passed, _else_, _⨾_, inOrder}
+use Rattle.checks.specs.Decide.{long?}
+use Rattle.checks.proofs.InOrder.{in-order-elim, in-order-map, in-order-then, kind-of-list}
+use Rattle.frame.specs.Reading.{frameChecks, Found, accepted, rejected, readFrame}
 use Rattle.frame.proofs.ReadChecks.{reading-elim}
 use Rattle.ledger.specs.Ledger.{entry, Ledger, ledger, InSpan}
 use Rattle.ledger.specs.Decide.{inSpan?}
-use Rattle.ledger.specs.Steps.{newTold, repeatTold, mixWords, takeInSpan, takeAccepted, takeFound, ledgerTake, ledgerWithdraw, ledgerShow}
+use Rattle.ledger.specs.Steps.{newTold, repeatTold, mixWords, takeInSpan, takeAccepted, ledgerTake, ledgerWithdraw, ledgerShow}
 
 -- a kind that a step of the ledger refuses by: any but 11, which is for words that hold no ledger
 abbrev pub StepKind : Refusal → Type 0
@@ -33,6 +36,22 @@ Judged (rejected k) = StepKind k
 read-judged : (p n : ℕ) (bytes : List ℕ) → Judged (readFrame p n bytes)
 read-judged p n bytes = reading-elim Judged p n bytes (λ xs v. tt) (λ k r e. omega arith)
 
+-- what take comes to, from what reading found
+module _ (p : ℕ) (ok : IsModulus p) (n : ℕ) (l : Ledger) where
+  unfoldable pub takeFound : Found → List ℕ → Outcome (Ledger × List ℕ)
+  takeFound (accepted xs v) mix = takeAccepted p ok n l xs v mix
+  takeFound (rejected k) mix = untouched (l, mix) k
+
+  -- past the length of the mix
+  pub take-found : (frame mix : List ℕ)
+      → ledgerTake p ok n l frame mix
+      ≡ inOrder (long? mix n else Length ⨾ passed) (λ _. takeFound (readFrame p n frame) mix) (untouched (l, mix))
+  unfolding ledgerTake readFrame takeFound
+  take-found frame mix =
+      in-order-then (long? mix n else Length ⨾ passed) (frameChecks p n frame) _ (untouched (l, mix))
+      ∙ ap (λ x. inOrder (long? mix n else Length ⨾ passed) (λ _. x) (untouched (l, mix)))
+      (sym (in-order-map (λ f. takeFound f mix) (frameChecks p n frame) _ _))
+
 module _ (p : ℕ) (ok : IsModulus p) (n : ℕ) (l : Ledger) (frame mix : List ℕ) where
   pub data Took : Outcome (Ledger × List ℕ) → Type 0 where
     new : (xs : List ℕ) (v : ℕ) → readFrame p n frame ≡ accepted xs v → (InSpan p n (l .entries) xs → ⊥)
@@ -42,10 +61,11 @@ module _ (p : ℕ) (ok : IsModulus p) (n : ℕ) (l : Ledger) (frame mix : List �
     refusal : (k : Refusal) → StepKind k → (ws : List ℕ) → Took (outcome (refused k) (l, ws))
 
   pub took : Took (ledgerTake p ok n l frame mix)
-  unfolding ledgerTake takeFound takeAccepted takeInSpan
+  unfolding takeFound takeAccepted takeInSpan
   took =
-      in-order-elim _ _ Took (λ _. go (readFrame p n frame) refl (read-judged p n frame))
-      (λ k f. refusal k (kind-of-list StepKind (λ e. omega arith, λ _. tt) f) mix)
+      subst Took (sym (take-found p ok n l frame mix))
+      (in-order-elim _ _ Took (λ _. go (readFrame p n frame) refl (read-judged p n frame))
+      (λ k f. refusal k (kind-of-list StepKind (λ e. omega arith, λ _. tt) f) mix))
     where
       combined : (xs : List ℕ) (v : ℕ) → readFrame p n frame ≡ accepted xs v → (c : InSpan p n (l .entries) xs)
           → Took (takeInSpan p ok n l v (c .0))

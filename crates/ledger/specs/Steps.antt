@@ -16,7 +16,7 @@ use Rattle.checks.specs.Prime.{IsModulus}
 use Rattle.field.specs.Residue.{residues}
 use Rattle.field.specs.Written.{tabulate, numbers}
 use Rattle.signed.specs.Reading.{reading}
-use Rattle.frame.specs.Reading.{Found, accepted, rejected, readFrame}
+use Rattle.frame.specs.Reading.{frameMultipliers, frameValue, frameChecks}
 use Rattle.ledger.specs.Ledger.{Entry, entry, Ledger, ledger}
 use Rattle.ledger.specs.Decide.{inSpan?, agreed?, givesValue?, within?}
 
@@ -34,8 +34,8 @@ unfoldable pub mixWords : (p n : ℕ) → List Entry → Vector (residues p) →
 mixWords p n es u = numbers (length es) u ++ replicate (n - length es) 0
 
 -- 3 comes before anything of the frame
-abbrev pub takeChecks : (n : ℕ) (mix : List ℕ) → Checks Refusal
-takeChecks n mix = long? mix n else Length ⨾ passed
+abbrev pub takeChecks : (p n : ℕ) (frame mix : List ℕ) → Checks Refusal
+takeChecks p n frame mix = long? mix n else Length ⨾ frameChecks p n frame
 
 -- 9 of a frame whose multipliers the combination u gives
 abbrev pub valueChecks : (p : ℕ) → List Entry → Vector (residues p) → ℕ → Checks Refusal
@@ -54,12 +54,9 @@ module _ (p : ℕ) (ok : IsModulus p) (n : ℕ) (l : Ledger) where
       pickBy (inSpan? p ok n (l .entries) xs) (λ c. takeInSpan v (c .0))
       (outcome (newTold (suc (length (l .entries)))) (ledger (l .entries ++ (entry xs v ∷ [])), mix))
 
-  unfoldable pub takeFound : Found → List ℕ → Outcome (Ledger × List ℕ)
-  takeFound (accepted xs v) mix = takeAccepted xs v mix
-  takeFound (rejected k) mix = untouched (l, mix) k
-
   unfoldable pub ledgerTake : (frame mix : List ℕ) → Outcome (Ledger × List ℕ)
-  ledgerTake frame mix = inOrder (takeChecks n mix) (λ _. takeFound (readFrame p n frame) mix) (untouched (l, mix))
+  ledgerTake frame mix =
+      inOrder (takeChecks p n frame mix) (λ _. takeAccepted (frameMultipliers n frame) (frameValue n frame) mix) (untouched (l, mix))
 
 -- ---- withdraw: 10, then the last t entries are dropped
 
