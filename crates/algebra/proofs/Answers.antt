@@ -1,12 +1,10 @@
 -- What tests tell: the two answers, an answer carried to another question, and what a guard `if !test(..)` tells on either side.
-use mathlib.Core.Path.{_≡_, sym, _∙_}
+use mathlib.Core.Path.{_≡_}
 use mathlib.Core.Bool.{Bool, true, false, not, true≢false, false≢true}
 use Prim.Native.Nat.{ℕ, _≤_}
 use native.Mathlib.Omega.{arith}
 use lib.Dec.{leb}
 use borrow.Author.Tests.{not-true, not-false, leb-true, leb-false}
-use Rattle.algebra.specs.Choice.{pick}
-use Rattle.algebra.proofs.Choice.{pick-true, pick-false}
 use Rattle.algebra.specs.Answers.{Tells}
 
 -- the answer true where P holds, and false where it does not
@@ -20,12 +18,9 @@ tells-no f = (λ e. absurd (false≢true e), λ _. f)
 pub tells-same : {b : Bool} {P Q : Type 0} → (P → Q) → (Q → P) → Tells b P → Tells b Q
 tells-same f g (yes-p, no-p) = (λ e. f (yes-p e), λ e q. no-p e (g q))
 
--- a comparison, and a test that a decision picks
+-- a comparison
 pub tells-leb : {P : Type 0} (a b : ℕ) → (a ≤ b → P) → (P → a ≤ b) → Tells (leb a b) P
 tells-leb a b f g = (λ e. f (leb-true a b e), λ e h. omega (arith, leb-false a b e, g h))
-
-pub tells-pick : {P : Type 0} {t : Bool} (d : Dec P) → t ≡ pick d true false → Tells t P
-tells-pick d e = (λ h. pick-true d (sym e ∙ h), λ h. pick-false d (sym e ∙ h))
 
 -- past the guard what is asked holds, and where the guard returns it does not
 pub guard-left : {P : Type 0} {t : Bool} → Tells t P → not t ≡ false → P

@@ -1,10 +1,8 @@
 -- The laws of picking by a decision: by yes, by no, and for whatever both choices share. Decisions over all numbers
 -- below a bound are made here too.
-use mathlib.Core.Path.{_≡_, refl, sym, ap, subst}
-use mathlib.Core.Bool.{Bool, true, false}
+use mathlib.Core.Path.{_≡_, refl, sym, subst}
 use mathlib.Core.Logic.{_⊎_, ⊎-elim}
 use Prim.Native.Nat.{ℕ, zero, suc, _<_}
-use lib.Dec.{T}
 use native.Mathlib.Nat.{not-suc-le-zero, le-of-suc-le-suc, eq-or-lt-of-le, lt-suc-self, le-step}
 use Rattle.algebra.specs.Choice.{pick, pickBy}
 
@@ -24,12 +22,6 @@ unfolding pick
 pick-elim Q (yes h) a b f g = f h
 pick-elim Q (no h) a b f g = g h
 
--- by a yes that has at most one proof
-pub pick-by-yes : {P A : Type 0} (d : Dec P) (f : P → A) (b : A) → IsProp P → (h : P) → pickBy d f b ≡ f h
-unfolding pickBy
-pick-by-yes (yes g) f b prop h = ap f (prop g h)
-pick-by-yes (no g) f b prop h = absurd (g h)
-
 -- by a yes all of whose proofs give the same
 pub pick-by-same : {P A : Type 0} (d : Dec P) (f : P → A) (b : A) → ((g h : P) → f g ≡ f h) → (h : P) → pickBy d f b ≡ f h
 unfolding pickBy
@@ -48,25 +40,6 @@ unfolding pickBy
 pick-by-elim Q (yes h) f b y n = y h
 pick-by-elim Q (no h) f b y n = n h
 
--- a test that is picked says which way the decision went
-pub pick-true : {P : Type 0} (d : Dec P) → pick d true false ≡ true → P
-unfolding pick
-pick-true (yes h) e = h
-pick-true (no h) e = absurd (subst is-false e tt)
-  where
-    is-false : Bool → Type 0
-    is-false true = ⊥
-    is-false false = Unit {0}
-
-pub pick-false : {P : Type 0} (d : Dec P) → pick d true false ≡ false → P → ⊥
-unfolding pick
-pick-false (no h) e = h
-pick-false (yes h) e = absurd (subst is-true e tt)
-  where
-    is-true : Bool → Type 0
-    is-true true = Unit {0}
-    is-true false = ⊥
-
 -- what is decided of each number is decided of all numbers below a bound
 pub all-below? : (P : ℕ → Type 0) → ((k : ℕ) → Dec (P k)) → (n : ℕ) → Dec ((k : ℕ) → k < n → P k)
 all-below? P d zero = yes (λ k h. absurd (not-suc-le-zero h))
@@ -76,8 +49,3 @@ all-below? P d (suc n) = go (all-below? P d n) (d n)
     go (no f) q = no (λ g. f (λ k h. g k (le-step h)))
     go (yes f) (no g) = no (λ a. g (a n (lt-suc-self n)))
     go (yes f) (yes q) = yes (λ k h. ⊎-elim (λ e. subst P (sym e) q) (λ l. f k l) (eq-or-lt-of-le (le-of-suc-le-suc h)))
-
--- a test that passes exactly if P holds is the one that the decision of P makes
-pub test-is-pick : {P : Type 0} {t : Bool} (d : Dec P) → (P → T t) → (T t → P) → t ≡ pick d true false
-test-is-pick {t = true} d f g = sym (pick-yes d true false (g tt))
-test-is-pick {t = false} d f g = sym (pick-no d true false f)

@@ -10,7 +10,7 @@ use Rattle.checks.specs.Decide.{long?}
 use Rattle.checks.specs.Told.{done}
 use Rattle.checks.specs.Outcome.{outcome, untouched}
 use Rattle.checks.specs.Sizes.{frameSizes}
-use Rattle.checks.proofs.InOrder.{none-left, holds-and, fails-here, hold-and-then, fails-in-front, fails-then, in-order-done, in-order-refused}
+use Rattle.checks.proofs.InOrder.{none-left, fails-here, hold-and-then, fails-in-front, fails-then, in-order-done, in-order-refused, _and-then_}
 use Rattle.ledger.specs.Board.{boardLength}
 use Rattle.ledger.specs.Calls.{openChecks, openCall}
 use Rattle.ledger.specs.Changes.{Fresh}
@@ -34,7 +34,7 @@ module _ (p n : ℕ) (ws : List ℕ) where
     open-no-length h = by-check (fails-then (frameSizes p n) length-check sizes (λ _. fails-here h))
 
     all-hold : length ws ≡ boardLength n → AllHold (openChecks p n ws)
-    all-hold h = hold-and-then {more = length-check} sizes (λ _. holds-and h (λ _. none-left))
+    all-hold h = hold-and-then {more = length-check} sizes (λ _. h and-then none-left)
 
     pub open-done : length ws ≡ boardLength n → (cs : List ℕ) → Fresh p n cs → outcome done cs ≡ openCall p n ws
     unfolding openCall

@@ -8,7 +8,7 @@ use Rattle.checks.specs.declared.Refusal.the-variants.{Length}
 use Rattle.checks.specs.InOrder.{FirstFailing}
 use Rattle.checks.specs.Told.{results}
 use Rattle.checks.specs.Outcome.{outcome, untouched}
-use Rattle.checks.proofs.InOrder.{fails-here, fails-later, in-order-refused}
+use Rattle.checks.proofs.InOrder.{fails-here, in-order-refused, _then_}
 use Rattle.field.specs.Written.{tabulate}
 use Rattle.ledger.specs.Steps.{tabulateℤ, shownMark, shownNumber, showChecks, ledgerShow}
 use Rattle.ledger.specs.Board.{IsBoard, modulusWord, sizeWord, countWord, entriesOf}
@@ -28,7 +28,7 @@ module _ (ws : List ℕ) (b : IsBoard ws) (marks : List ℕ) (zs : List ℤ) whe
 
   module _ (l : length marks ≡ sizeWord ws) where
     pub show-no-numbers : (length zs ≡ sizeWord ws → ⊥) → untouched (marks, zs) Length ≡ showCall ws marks zs
-    show-no-numbers h = by-check (fails-later l (λ _. fails-here h))
+    show-no-numbers h = by-check (l then fails-here h)
 
     -- the marks ms and the numbers ns are the ledger's
     pub show-done : length zs ≡ sizeWord ws → (ms : List ℕ) (ns : List ℤ)

@@ -7,7 +7,7 @@ use lib.ListN.{take}
 use Rattle.checks.specs.declared.Refusal.the-variants.{Withdrawal}
 use Rattle.checks.specs.Told.{results}
 use Rattle.checks.specs.Outcome.{outcome, untouched}
-use Rattle.checks.proofs.InOrder.{none-left, holds-and, fails-here, in-order-done, in-order-refused}
+use Rattle.checks.proofs.InOrder.{none-left, fails-here, in-order-done, in-order-refused, _and-then_}
 use Rattle.ledger.specs.Ledger.{ledger}
 use Rattle.ledger.specs.Steps.{ledgerWithdraw}
 use Rattle.ledger.specs.Board.{IsBoard, modulusWord, sizeWord, countWord, layout, entriesOf, ledgerOf}
@@ -32,7 +32,7 @@ module _ (ws : List ℕ) (b : IsBoard ws) (t : ℕ) where
     step : ledgerWithdraw (ledgerOf ws) t ≡ outcome (results (countWord ws - t)) (ledger (take (countWord ws - t) (entriesOf ws)))
     unfolding ledgerWithdraw
     step =
-        in-order-done _ _ _ (holds-and (omega (arith, words-count ws)) (λ _. none-left))
+        in-order-done _ _ _ ((omega (arith, words-count ws)) and-then none-left)
         (λ _. ap (λ k. outcome (results (k - t)) (ledger (take (k - t) (entriesOf ws)))) (words-count ws))
 
     pub withdraw-done : (cs : List ℕ) → Dropped (sizeWord ws) (countWord ws) (countWord ws - t) ws cs

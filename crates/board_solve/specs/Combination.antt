@@ -4,6 +4,7 @@ use mathlib.Core.Bool.{Bool, true, false}
 use mathlib.Core.List.{List}
 use Prim.Native.Nat.{ℕ, _≤_, _<_}
 use lib.ListN.{length, getD}
+use Rattle.checks.specs.Prime.{largestModulus}
 use Rattle.algebra.specs.Matrix.{Vector, mixed}
 use Rattle.algebra.specs.Span.{Combines}
 use Rattle.checks.specs.Largest.{largest}
@@ -22,7 +23,7 @@ residuesOf p xs t = reduce p (getD xs t 0)
 
 pub record Mixable (p : ℕ) (by xs : List ℕ) (w : ℕ) (out : List ℕ) : Type 0 where
   pub positive : 0 < p
-  pub in-range : p ≤ 2147483647
+  pub in-range : p ≤ largestModulus
   pub few : length by ≤ largest
   pub narrow : w ≤ largest
   pub by-below : Below p by

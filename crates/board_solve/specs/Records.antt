@@ -5,6 +5,7 @@ use Prim.Native.Nat.{ℕ, _≤_, _<_}
 use lib.Dec.{eqb}
 use lib.IntN.{ℤ}
 use lib.ListN.{length, getD}
+use Rattle.checks.specs.Prime.{largestModulus}
 use Rattle.algebra.specs.Choice.{choose}
 use Rattle.algebra.specs.Matrix.{product, apply, unit}
 use Rattle.field.specs.Residue.{Residue, residues}
@@ -37,7 +38,7 @@ valueAt p n k j board d =
 -- d has room for D, n rows of k numbers below p, and j is one of them
 pub record RowOfD (p n k j : ℕ) (d : List ℕ) : Type 0 where
   pub proper : 1 < p
-  pub in-range : p ≤ 2147483647
+  pub in-range : p ≤ largestModulus
   pub small : n ≤ largest
   pub few : k ≤ n
   pub inside : j < n

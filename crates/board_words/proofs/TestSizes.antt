@@ -1,16 +1,15 @@
 -- How large tables and the rows of a board are, for what the code computes with them.
-use mathlib.Core.Path.{_≡_, refl, sym, _∙_}
 use mathlib.Core.List.{List}
 use Prim.Native.Nat.{ℕ, _*_, _≤_}
 use native.Mathlib.Nat.{mul-le-mul}
 use native.Mathlib.Omega.{arith}
 use lib.ListN.{length}
 use Rattle.checks.specs.declared.Refusal.{Refusal}
-use Rattle.checks.specs.InOrder.{AllHold, FirstFailing}
+use Rattle.checks.specs.InOrder.{FirstFailing}
 use Rattle.checks.specs.Largest.{largest, FrameSize}
 use Rattle.checks.specs.Prime.{IsModulus}
 use Rattle.checks.specs.Sizes.{frameSizes}
-use Rattle.checks.proofs.InOrder.{none-left, holds-and, in-order-done, in-order-refused}
+use Rattle.checks.proofs.InOrder.{none-left, _and-then_, not-both}
 use Rattle.ledger.specs.Board.{sizeWord, countWord, rowsEnd}
 use Rattle.ledger.proofs.LayoutPlaces.{row-inside}
 use Rattle.board_words.specs.Tested.{Header}
@@ -29,7 +28,4 @@ module _ (ws : List ℕ) (h : Header ws) where
 
 -- where a check of the modulus and the size fails, they are not both right
 pub no-sizes : {p n : ℕ} {k : Refusal} → FirstFailing (frameSizes p n) k → IsModulus p → FrameSize n → ⊥
-no-sizes {p} {n} f m s =
-    let hold : AllHold (frameSizes p n) = holds-and m (λ _. holds-and s (λ _. none-left)) in
-    let z : _≡_ {A = ℕ} 1 0 = sym (in-order-refused (λ _. 0) (λ _. 1) f) ∙ in-order-done (λ _. 0) (λ _. 1) 0 hold (λ _. refl) in
-    omega arith
+no-sizes f m s = not-both f (m and-then s and-then none-left)

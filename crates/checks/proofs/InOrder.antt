@@ -1,12 +1,15 @@
 -- The laws of checks in order: how it is shown which way a list goes, and what going through it then comes to (all hold, the
 -- first that fails, and by cases). Callers go by these and open no decision.
-use mathlib.Core.Path.{_≡_, refl, ap, subst}
+use mathlib.Core.Path.{_≡_, refl, sym, ap, _∙_, subst}
+use Prim.Native.Nat.{ℕ}
+use native.Mathlib.Omega.{arith}
 use Rattle.algebra.specs.Choice.{pickBy, pickType}
 use Rattle.checks.specs.InOrder.{
   Check,
   Checks,
   passed,
   first,
+  _⨾_,
   Given,
   andThen,
   inOrder,
@@ -82,6 +85,24 @@ module _ {K : Type 0} {c : Check K} {rest : c .Holds → Checks K} where
       record {
         fails = type-intro (c .decide) (λ g. failing (rest g) k) (c .kind ≡ k) (λ g. f g .fails) (λ g. absurd (g h));
       }
+
+infixr 40 _and-then_
+-- the same of a check that the others use nothing of: it holds, and so do they
+pub _and-then_ : {K : Type 0} {c : Check K} {cs : Checks K} → c .Holds → AllHold cs → AllHold (c ⨾ cs)
+h and-then a = holds-and h (λ _. a)
+
+infixr 40 _then_
+-- it holds, and then the first of the others that fails has the kind k
+pub _then_ : {K : Type 0} {c : Check K} {cs : Checks K} {k : K} → c .Holds → FirstFailing cs k → FirstFailing (c ⨾ cs) k
+h then f = fails-later h (λ _. f)
+
+-- it fails, or else a later one of the same kind
+pub or-later : {K : Type 0} {c : Check K} {cs : Checks K} → (c .Holds → FirstFailing cs (c .kind)) → FirstFailing (c ⨾ cs) (c .kind)
+or-later {K} {c} {cs} f = go (c .decide)
+  where
+    go : Dec (c .Holds) → FirstFailing (c ⨾ cs) (c .kind)
+    go (yes h) = h then f h
+    go (no h) = fails-here h
 
 -- what the checks gave, where all hold
 given-by : {K : Type 0} (cs : Checks K) → holding cs → Given cs
@@ -183,6 +204,12 @@ unfolding inOrder
 in-order-then passed more x refuse = refl
 in-order-then (first c rest) more x refuse =
     pick-map (λ y. y) (c .decide) _ _ _ (λ h. in-order-then (rest h) more x refuse)
+
+-- where one fails not all hold
+pub not-both : {K : Type 0} {cs : Checks K} {k : K} → FirstFailing cs k → AllHold cs → ⊥
+not-both f a =
+    let z : _≡_ {A = ℕ} 1 0 = sym (in-order-refused (λ _. 0) (λ _. 1) f) ∙ in-order-done (λ _. 0) (λ _. 1) 0 a (λ _. refl) in
+    omega arith
 
 -- ---- the kinds of a list
 

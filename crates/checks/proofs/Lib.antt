@@ -2,4 +2,4 @@ pub mod InOrder
 pub mod Refusals
 pub mod Trial
 pub mod Walk
-pub mod Guards
+pub mod Modulus

@@ -7,7 +7,7 @@ use Prim.Native.Nat.{ℕ, _≤_, _<_, _∣_}
 use native.Mathlib.Decide.{decLe, decLt, decDvd, ℕ-discrete}
 use lib.ListN.{length}
 use Rattle.algebra.proofs.Choice.{all-below?}
-use Rattle.checks.specs.Prime.{IsModulus}
+use Rattle.checks.specs.Prime.{largestModulus, IsModulus}
 use Rattle.checks.specs.Largest.{largest, Sizes, FrameSize}
 
 no-divisor? : (p d : ℕ) → Dec (1 < d → d ∣ p → ⊥)
@@ -19,9 +19,9 @@ no-divisor? p d = go (decLt 1 d) (decDvd d p)
     go (yes h) (yes v) = no (λ f. f h v)
 
 pub modulus? : (p : ℕ) → Dec (IsModulus p)
-modulus? p = go (decLe 2 p) (decLe p 2147483647) (all-below? (λ d. 1 < d → d ∣ p → ⊥) (no-divisor? p) p)
+modulus? p = go (decLe 2 p) (decLe p largestModulus) (all-below? (λ d. 1 < d → d ∣ p → ⊥) (no-divisor? p) p)
   where
-    go : Dec (2 ≤ p) → Dec (p ≤ 2147483647) → Dec ((d : ℕ) → d < p → 1 < d → d ∣ p → ⊥) → Dec (IsModulus p)
+    go : Dec (2 ≤ p) → Dec (p ≤ largestModulus) → Dec ((d : ℕ) → d < p → 1 < d → d ∣ p → ⊥) → Dec (IsModulus p)
     go (no f) r a = no (λ m. f (m .prime .two-or-more))
     go (yes t) (no f) a = no (λ m. f (m .in-range))
     go (yes t) (yes r) (no f) = no (λ m. f (λ d l h v. m .prime .no-divisor d h l v))

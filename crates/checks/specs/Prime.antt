@@ -1,6 +1,10 @@
 -- 01, "The field and the tables": the modulus is a prime from 2 to 2,147,483,647.
 use Prim.Native.Nat.{ℕ, _≤_, _<_, _∣_}
 
+-- the largest modulus, 2^31 - 1
+abbrev pub largestModulus : ℕ
+largestModulus = 2147483647
+
 -- at least 2, with no divisor strictly between 1 and itself
 pub record Prime (p : ℕ) : Type 0 where
   pub two-or-more : 2 ≤ p
@@ -9,4 +13,4 @@ pub record Prime (p : ℕ) : Type 0 where
 -- what every call takes for a modulus
 pub record IsModulus (p : ℕ) : Type 0 where
   pub prime : Prime p
-  pub in-range : p ≤ 2147483647
+  pub in-range : p ≤ largestModulus

@@ -10,6 +10,9 @@ mod primes;
 // The most rows, columns or records.
 pub const LARGEST: u32 = 64;
 
+// The largest modulus, 2^31 - 1.
+pub const LARGEST_MODULUS: u32 = 2147483647;
+
 // Why a call refuses: the kinds 1 to 11 of document 01's table.
 pub enum Refusal {
     // 1: p is no prime in range
@@ -64,7 +67,7 @@ pub fn is_modulus(p: u32) -> bool
     if p < 2 {
         return false;
     }
-    if 2147483647 < p {
+    if LARGEST_MODULUS < p {
         return false;
     }
     let mut words = [0u64; 20];

@@ -5,10 +5,6 @@ use Prim.Native.Nat.{ℕ, _+_, _*_, _-_, _%_}
 use native.Mathlib.Nat.{mod-mod}
 use Rattle.algebra.specs.Ring.{Ring}
 
--- the largest modulus, 2^31 - 1
-abbrev pub largestModulus : ℕ
-largestModulus = 2147483647
-
 pub record Residue (p : ℕ) : Type 0 where
   pub value : ℕ
   pub reduced : value % p ≡ value

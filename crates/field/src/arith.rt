@@ -2,7 +2,8 @@
 ghost use mathlib.Core.Path.{_≡_};
 ghost use Prim.Native.Nat.{_<_, _≤_};
 ghost use Rattle.checks.specs.Prime.{IsModulus};
-ghost use Rattle.field.specs.Residue.{largestModulus, reduce, _⊕_, _⊗_, negated};
+ghost use Rattle.field.specs.Residue.{reduce, _⊕_, _⊗_, negated};
+ghost use Rattle.checks.specs.Prime.{largestModulus};
 
 pub fn plus(p: u32, a: u32, b: u32) -> u32
     requires { ⌜ (a < p) × (b < p) × (p ≤ largestModulus) ⌝ }

@@ -11,7 +11,7 @@ use Rattle.checks.specs.declared.Refusal.the-variants.{Length}
 use Rattle.checks.specs.InOrder.{passed, _else_, _⨾_, andThen, AllHold, FirstFailing}
 use Rattle.checks.specs.Decide.{long?}
 use Rattle.checks.specs.Sizes.{frameSizes}
-use Rattle.checks.proofs.InOrder.{none-left, holds-and, in-order-done, in-order-refused, in-order-map, in-order-then, hold-and-then, fails-in-front, fails-then}
+use Rattle.checks.proofs.InOrder.{none-left, in-order-done, in-order-refused, in-order-map, in-order-then, hold-and-then, fails-in-front, fails-then, _and-then_}
 use Rattle.frame.specs.Format.{frameOf}
 use Rattle.frame.specs.Reading.{frameChecks, readFrame}
 use Rattle.frame.specs.Sealing.{sealed}
@@ -36,7 +36,7 @@ module _ (p n : ℕ) (bytes lent : List ℕ) where
         (in-order-then (andThen (frameSizes p n) (λ _. long? lent n else Length ⨾ passed)) (frameChecks p n bytes) _ (untouched lent)
         ∙ in-order-done _ _ _
         (hold-and-then {cs = frameSizes p n} {more = λ _. long? lent n else Length ⨾ passed} sizes
-        (λ _. holds-and l (λ _. none-left))) (λ _. refl))
+        (λ _. l and-then none-left)) (λ _. refl))
 
 module _ (p n : ℕ) (xs : List ℕ) (v : ℕ) (lent : List ℕ) where
   pub write-no-sizes : {k : Refusal} → FirstFailing (frameSizes p n) k → untouched lent k ≡ writeCall p n xs v lent

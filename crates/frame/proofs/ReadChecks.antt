@@ -12,7 +12,7 @@ use Rattle.checks.specs.Told.{gives}
 use Rattle.checks.specs.Outcome.{outcome, untouched}
 use Rattle.checks.specs.InOrder.{AllHold, FirstFailing, EveryKind}
 use Rattle.checks.specs.Largest.{largest}
-use Rattle.checks.proofs.InOrder.{holds-and, fails-here, fails-later, in-order-done, in-order-refused, in-order-elim, kind-of-list}
+use Rattle.checks.proofs.InOrder.{fails-here, in-order-done, in-order-refused, in-order-elim, kind-of-list, _then_, _and-then_}
 use Rattle.codec.specs.BigEndian.{width}
 use Rattle.frame.specs.Format.{mapLength}
 use Rattle.frame.specs.Bitmap.{standing, recordBits, ClearFrom, Unpadded, mapFrom, mapBits}
@@ -57,7 +57,7 @@ module _ (p n : ℕ) (bytes : List ℕ) where
   -- a bit stands at n or above
   pub frame-padded : (map : List ℕ) → Mapped n bytes map → (ClearFrom n largest map → ⊥) → FirstFailing (frameChecks p n bytes) Padding
   frame-padded map m h =
-      fails-later (m .fits) (λ _. fails-here (λ u. h (rw (m .built) (unpadded-clear n bytes (m .fits) u))))
+      m .fits then fails-here (λ u. h (rw (m .built) (unpadded-clear n bytes (m .fits) u)))
 
   module _ (map : List ℕ) (count : ℕ) (c : Counted n bytes map count) where
     unpadded : Unpadded n bytes
@@ -76,21 +76,19 @@ module _ (p n : ℕ) (bytes : List ℕ) where
     -- another length than the map tells
     pub frame-other-length : (length bytes ≡ mapLength n + width * count + width → ⊥) → FirstFailing (frameChecks p n bytes) FrameLength
     frame-other-length h =
-        fails-later (c .mapped .fits) (λ _. fails-later unpadded (λ _. fails-here (λ e. h (e ∙ sym length-told))))
+        c .mapped .fits then unpadded then fails-here (λ e. h (e ∙ sym length-told))
 
     -- the length that the map tells: the numbers decide
     module _ (long : length bytes ≡ mapLength n + width * count + width) where
       pub frame-number : {k : Refusal} → FirstFailing (checksFrom p bytes (mapLength n) count) k → FirstFailing (frameChecks p n bytes) k
       unfolding frameNumbers frameValue valueAfter
       frame-number f =
-          fails-later (c .mapped .fits)
-          (λ _. fails-later unpadded (λ _. fails-later (long ∙ length-told) (λ _. rw count-bytes at f)))
+          c .mapped .fits then unpadded then (long ∙ length-told) then rw count-bytes at f
 
       pub frame-good : AllHold (checksFrom p bytes (mapLength n) count) → AllHold (frameChecks p n bytes)
       unfolding frameNumbers frameValue valueAfter
       frame-good a =
-          holds-and (c .mapped .fits)
-          (λ _. holds-and unpadded (λ _. holds-and (long ∙ length-told) (λ _. rw count-bytes at a)))
+          c .mapped .fits and-then unpadded and-then (long ∙ length-told) and-then rw count-bytes at a
 
     pub value-read : valueAfter bytes (mapLength n) count ≡ frameValue n bytes
     unfolding frameValue valueAfter

@@ -9,7 +9,7 @@ use lib.Seq.{take-all}
 use Rattle.checks.specs.declared.Refusal.{Refusal}
 use Rattle.checks.specs.declared.Refusal.the-variants.{Number, ZeroMultiplier}
 use Rattle.checks.specs.InOrder.{AllHold, FirstFailing}
-use Rattle.checks.proofs.InOrder.{none-left, holds-and, fails-here, fails-later}
+use Rattle.checks.proofs.InOrder.{none-left, fails-here, _then_, _and-then_}
 use Rattle.codec.specs.BigEndian.{width, numberAt}
 use Rattle.frame.specs.Reading.{numbersIn}
 use Rattle.frame.specs.Stages.{valueAfter, checksFrom}
@@ -43,7 +43,7 @@ module _ (p : ℕ) (bytes : List ℕ) (start k at left : ℕ) (g : Judging p byt
     judging-zero z = g .fails _ (rw numbers (fails-here (λ l. omega arith)))
 
     pub judging-large : 0 < x → p ≤ x → FirstFailing (checksFrom p bytes start k) Number
-    judging-large z h = g .fails _ (rw numbers (fails-later z (λ _. fails-here (λ l. omega arith))))
+    judging-large z h = g .fails _ (rw numbers (z then fails-here (λ l. omega arith)))
 
     -- one good multiplier more
     pub judging-more : 0 < x → x < p → Judging p bytes start k (at + width) (left - 1)
@@ -51,8 +51,8 @@ module _ (p : ℕ) (bytes : List ℕ) (start k at left : ℕ) (g : Judging p byt
     judging-more z l =
         record {
           ends = omega (arith, g .ends);
-          fails = λ r f. g .fails r (rw (numbers, value) (fails-later z (λ _. fails-later l (λ _. f))));
-          holds = λ a. g .holds (rw (numbers, value) (holds-and z (λ _. holds-and l (λ _. a))));
+          fails = λ r f. g .fails r (rw (numbers, value) (z then l then f));
+          holds = λ a. g .holds (rw (numbers, value) (z and-then l and-then a));
         }
 
   -- the value is the last number
@@ -71,4 +71,4 @@ module _ (p : ℕ) (bytes : List ℕ) (start k at left : ℕ) (g : Judging p byt
     unfolding valueAfter
     judging-value l e =
         let same : start + width * k ≡ at + width * left = omega (arith, g .ends) in
-        (g .holds (rw (last, none, numbers-none) (holds-and l (λ _. none-left))), rw same (rw last))
+        (g .holds (rw (last, none, numbers-none) (l and-then none-left)), rw same (rw last))

@@ -8,7 +8,7 @@ use Prim.Native.Nat.{ℕ, _+_, _*_, _^_, _<_, _≤_}
 use native.Mathlib.Omega.{arith}
 use lib.ListN.{length, getD, take, drop, length-append, length-drop, take-append-drop}
 use lib.Seq.{drop-at, drop-drop}
-use Rattle.checks.proofs.InOrder.{holds-and, in-order-done, in-order-elim}
+use Rattle.checks.proofs.InOrder.{in-order-done, in-order-elim, _and-then_}
 use Rattle.words.specs.Words.{Below}
 use Rattle.codec.specs.BigEndian.{width, bytesOf}
 use Rattle.codec.proofs.BigEndian.{bytes-length, number-of-bytes, bytes-of-number, below-drop}
@@ -100,8 +100,7 @@ written-reads-back p n xs v range long below value =
     let last = written-value n xs v long (number-fits p v range value) in
     let good = good-hold p (kept xs) v (record { positive = kept-positive xs; below = kept-below p xs below; value-below = value }) in
     in-order-done _ _ _
-    (holds-and (omega (arith, frame-length n xs v))
-    (λ _. holds-and (written-unpadded n xs v long) (λ _. holds-and (written-length n xs v long) (λ _. rw (numbers, last) good))))
+    ((omega (arith, frame-length n xs v)) and-then written-unpadded n xs v long and-then written-length n xs v long and-then rw (numbers, last) good)
     (λ _. rw (numbers, last, written-bits n xs v long, spread-kept))
 
 -- ---- frames that are read are written

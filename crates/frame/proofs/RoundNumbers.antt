@@ -9,7 +9,7 @@ use native.Mathlib.Omega.{arith}
 use lib.Dec.{eqb·suc-zero}
 use lib.ListN.{length, getD}
 use Rattle.checks.specs.InOrder.{Given, AllHold}
-use Rattle.checks.proofs.InOrder.{none-left, holds-and}
+use Rattle.checks.proofs.InOrder.{none-left, holds-and, _and-then_}
 use Rattle.words.specs.Words.{Below}
 use Rattle.codec.proofs.BigEndian.{below-head, below-tail, below-cons}
 use Rattle.frame.specs.Format.{stands, packed, valueBytes}
@@ -139,7 +139,7 @@ good-of-given p (x ∷ ns) v hs =
     positive-cons x xs h t (suc i) l = t i (omega arith)
 
 pub good-hold : (p : ℕ) (ns : List ℕ) (v : ℕ) → GoodNumbers p ns v → AllHold (numberChecks p ns v)
-good-hold p [] v t = holds-and (t .value-below) (λ _. none-left)
+good-hold p [] v t = t .value-below and-then none-left
 good-hold p (x ∷ ns) v t =
     holds-and (t .positive 0 (omega arith))
     (λ _.

@@ -13,7 +13,7 @@ use Rattle.checks.specs.Largest.{FrameSize}
 use Rattle.checks.specs.Refusal.{IsRefusal}
 use Rattle.checks.specs.Outcome.{Outcome}
 use Rattle.checks.proofs.Refusals.{refusal-number}
-use Rattle.checks.proofs.InOrder.{none-left, holds-and, in-order-done, in-order-elim}
+use Rattle.checks.proofs.InOrder.{none-left, in-order-done, in-order-elim, _and-then_}
 use Rattle.ledger.specs.Ledger.{Entry, Ledger, ledger}
 use Rattle.ledger.specs.Steps.{ledgerWithdraw}
 use Rattle.ledger.specs.Board.{modulusWord, sizeWord, layout, boardOf, ledgerOf, IsBoard}
@@ -139,7 +139,7 @@ withdraw-behind es ds =
     let whole = length-append es ds in
     let front : length (es ++ ds) - length ds ≡ length es = omega arith in
     ap (λ (r : Outcome Ledger). r .lent)
-    (in-order-done _ _ _ (holds-and (omega arith) (λ _. none-left)) (λ _. refl))
+    (in-order-done _ _ _ ((omega arith) and-then none-left) (λ _. refl))
     ∙ ap ledger (ap (λ k. take k (es ++ ds)) front ∙ take-append-seam es ds)
 
 -- 01: "After accepted takes only, adding g entries, a withdrawal of g restores every word." Shows and refused takes may stand

@@ -19,7 +19,7 @@ use Rattle.checks.specs.declared.Refusal.{Refusal}
 use Rattle.checks.specs.declared.Refusal.the-variants.{Length, Conflict}
 use Rattle.checks.specs.Told.{refused, results}
 use Rattle.checks.specs.Outcome.{Outcome, outcome, untouched}
-use Rattle.checks.proofs.InOrder.{none-left, holds-and, fails-here, in-order-done, in-order-refused}
+use Rattle.checks.proofs.InOrder.{none-left, fails-here, in-order-done, in-order-refused, _and-then_}
 use Rattle.field.specs.Residue.{Residue, reduce, residues, _⊗_}
 use Rattle.field.specs.Written.{tabulate}
 use Rattle.field.proofs.Field.{residues-field}
@@ -63,14 +63,14 @@ module _ (p : ℕ) (ok : IsModulus p) (n : ℕ) (es : List Entry) where
   unfolding takeFound
   take-rejected frame mix k h e =
       take-found p ok n (ledger es) frame mix
-      ∙ in-order-done _ _ _ (holds-and h (λ _. none-left)) (λ _. ap (λ f. takeFound p ok n (ledger es) f mix) e)
+      ∙ in-order-done _ _ _ (h and-then none-left) (λ _. ap (λ f. takeFound p ok n (ledger es) f mix) e)
 
   pub take-accepted : (frame mix xs : List ℕ) (v : ℕ) → length mix ≡ n → readFrame p n frame ≡ accepted xs v
       → ledgerTake p ok n (ledger es) frame mix ≡ takeAccepted p ok n (ledger es) xs v mix
   unfolding takeFound
   take-accepted frame mix xs v h e =
       take-found p ok n (ledger es) frame mix
-      ∙ in-order-done _ _ _ (holds-and h (λ _. none-left)) (λ _. ap (λ f. takeFound p ok n (ledger es) f mix) e)
+      ∙ in-order-done _ _ _ (h and-then none-left) (λ _. ap (λ f. takeFound p ok n (ledger es) f mix) e)
 
   -- no combination: new
   pub take-new : (xs : List ℕ) (v : ℕ) (mix : List ℕ) → (InSpan p n es xs → ⊥)
@@ -104,7 +104,7 @@ module _ (p : ℕ) (ok : IsModulus p) (n : ℕ) (es : List Entry) where
     take-repeat xs v mix c e =
         pick-by-elim (λ r. r ≡ outcome (repeatTold (length es)) (ledger es, mixWords p n es (c .0))) (inSpan? p ok n es xs) _ _
         (λ d.
-        in-order-done _ _ _ (holds-and (same-value xs v d c e) (λ _. none-left))
+        in-order-done _ _ _ (same-value xs v d c e and-then none-left)
         (λ _. ap (λ ws. outcome (repeatTold (length es)) (ledger es, ws)) (same-mix xs d c)))
         (λ f. absurd (f c))
 
@@ -173,7 +173,7 @@ module _ (p : ℕ) (ok : IsModulus p) (n : ℕ) (es : List Entry) where
         ≡ outcome (results (n - length es)) (tabulate n (shownMark p ok n es), tabulateℤ n (shownNumber p ok n es))
     unfolding ledgerShow
     show-accepted marks zs h l =
-        in-order-done _ _ _ (holds-and h (λ _. holds-and l (λ _. none-left))) (λ _. refl)
+        in-order-done _ _ _ (h and-then l and-then none-left) (λ _. refl)
 
     pub show-exactly : (marks : List ℕ) (zs : List ℤ) → length marks ≡ n → length zs ≡ n → (j : ℕ) → j < n
         → let lent = ledgerShow p ok n (ledger es) marks zs .lent in Gives p n es j (getD (lent .0) j 0) (getD (lent .1) j (pos 0))

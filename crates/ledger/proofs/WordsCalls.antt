@@ -10,8 +10,8 @@ use Rattle.checks.specs.InOrder.{AllHold, FirstFailing}
 use Rattle.checks.specs.Outcome.{untouched}
 use Rattle.checks.specs.Prime.{IsModulus}
 use Rattle.checks.specs.Largest.{FrameSize}
-use Rattle.checks.proofs.Guards.{modulus-prop}
-use Rattle.checks.proofs.InOrder.{none-left, holds-and, fails-here, in-order-done, in-order-refused}
+use Rattle.checks.proofs.Modulus.{modulus-prop}
+use Rattle.checks.proofs.InOrder.{none-left, fails-here, in-order-done, in-order-refused, _and-then_}
 use Rattle.ledger.specs.Ledger.{Entry, ledger}
 use Rattle.ledger.specs.Steps.{ledgerTake, ledgerWithdraw, ledgerShow}
 use Rattle.ledger.specs.Board.{modulusWord, sizeWord, layout, ledgerOf, IsBoard}
@@ -37,7 +37,7 @@ module _ (ws : List ℕ) (none : IsBoard ws → ⊥) where
 
 module _ (ws : List ℕ) (b : IsBoard ws) where
   on-board : AllHold (boardChecks ws)
-  on-board = holds-and b (λ _. none-left)
+  on-board = b and-then none-left
 
   pub take-on-board : (frame mix : List ℕ)
       → takeCall ws frame mix

@@ -10,9 +10,9 @@ use Rattle.checks.specs.Told.{results}
 use Rattle.checks.specs.Outcome.{Outcome, outcome, untouched}
 use Rattle.checks.specs.declared.Verdict.{Verdict}
 use Rattle.checks.specs.declared.Verdict.the-variants as verdict
-use Rattle.checks.specs.InOrder.{Check, Checks, _⨾_, Given, andThen, AllHold, FirstFailing}
+use Rattle.checks.specs.InOrder.{Checks, Given, andThen, AllHold, FirstFailing}
 use Rattle.checks.specs.Sizes.{tableSizes, Judges}
-use Rattle.checks.proofs.InOrder.{none-left, holds-and, fails-later, given, fails-in-front, in-order-done, in-order-refused}
+use Rattle.checks.proofs.InOrder.{none-left, _and-then_, _then_, given, fails-in-front, in-order-done, in-order-refused}
 use Rattle.words.specs.Words.{Below}
 use Rattle.matrix.specs.Calls.{
   tableRank,
@@ -25,16 +25,6 @@ use Rattle.matrix.specs.Calls.{
   solveCall,
 }
 use Rattle.matrix.specs.Parts.{Checked, Tables, InverseRoom, StoresInverse, StoresBasis, System}
-
-infixr 40 _then_
--- a check holds, and then the first of the others that fails has the kind k
-pub _then_ : {c : Check Refusal} {cs : Checks Refusal} {k : Refusal} → c .Holds → FirstFailing cs k → FirstFailing (c ⨾ cs) k
-h then f = fails-later h (λ _. f)
-
-infixr 40 _and-then_
--- a check holds, and so do the others
-_and-then_ : {c : Check Refusal} {cs : Checks Refusal} → c .Holds → AllHold cs → AllHold (c ⨾ cs)
-h and-then f = holds-and h (λ _. f)
 
 -- 1 and 2 hold, and then the first of the others that fails has the kind k
 pub past-sizes : {p m n : ℕ} {cs : Checks Refusal} {k : Refusal} → Given (tableSizes p m n) → FirstFailing cs k

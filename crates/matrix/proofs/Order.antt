@@ -9,27 +9,19 @@ use Rattle.algebra.specs.Span.{Solves}
 use Rattle.algebra.specs.Solve.{mixOf}
 use Rattle.checks.specs.declared.Refusal.{Refusal}
 use Rattle.checks.specs.declared.Refusal.the-variants.{Length, Number, Insoluble}
-use Rattle.checks.specs.InOrder.{Check, Checks, _⨾_, Given, FirstFailing}
+use Rattle.checks.specs.InOrder.{Given, FirstFailing}
 use Rattle.checks.specs.Sizes.{tableSizes}
 use Rattle.checks.specs.Told.{refused}
 use Rattle.checks.specs.Outcome.{outcome, untouched}
-use Rattle.checks.proofs.Guards.{modulus-prop}
-use Rattle.checks.proofs.InOrder.{fails-here}
+use Rattle.checks.proofs.Modulus.{modulus-prop}
+use Rattle.checks.proofs.InOrder.{fails-here, _then_, or-later}
 use Rattle.field.specs.Residue.{residues}
 use Rattle.field.specs.Written.{numbers}
 use Rattle.words.specs.Words.{Below}
 use Rattle.matrix.specs.Calls.{tableOf, inverseOf, quasiinverseCall, kernelCall, solveCall, vectorOf, candidate, firstRow, solution}
 use Rattle.matrix.specs.Parts.{Checked, InverseRoom, System}
-use Rattle.matrix.proofs.Answers.{_then_, past-sizes, sizes-first, quasiinverse-refused, kernel-refused, solve-refused, solve-done}
+use Rattle.matrix.proofs.Answers.{past-sizes, sizes-first, quasiinverse-refused, kernel-refused, solve-refused, solve-done}
 use Rattle.matrix.proofs.Systems.{solution-none}
-
--- a check fails, or else a later one of the same kind
-or-later : {c : Check Refusal} {cs : Checks Refusal} → (c .Holds → FirstFailing cs (c .kind)) → FirstFailing (c ⨾ cs) (c .kind)
-or-later {c} {cs} f = go (c .decide)
-  where
-    go : Dec (c .Holds) → FirstFailing (c ⨾ cs) (c .kind)
-    go (yes h) = h then f h
-    go (no h) = fails-here h
 
 module _ (p m n : ℕ) (a : List ℕ) where
   -- ---- quasiinverse

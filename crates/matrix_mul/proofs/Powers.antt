@@ -6,7 +6,7 @@ use native.Mathlib.Omega.{arith}
 use mir.Val.{Fits}
 use mir.Syntax.{w64}
 use Rattle.field.specs.Limbs.{limbBase, low, high, whole}
-use Rattle.field.specs.Residue.{largestModulus}
+use Rattle.checks.specs.Prime.{largestModulus}
 use Rattle.matrix_mul.specs.Rows.{Short, Powers}
 use Rattle.field.proofs.Residues.{modular, mod-times, times-mod}
 

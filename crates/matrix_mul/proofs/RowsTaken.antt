@@ -13,7 +13,7 @@ use Rattle.words.specs.Words.{Below}
 use Rattle.words.specs.Lengths.{longestRow}
 use Rattle.field.specs.Totals.{total, products}
 use Rattle.field.specs.Limbs.{LimbFits}
-use Rattle.field.specs.Residue.{largestModulus}
+use Rattle.checks.specs.Prime.{largestModulus}
 use Rattle.matrix_mul.specs.declared.Place.{Place}
 use Rattle.matrix_mul.specs.declared.rows.Row.{Row}
 use Rattle.matrix_mul.specs.declared.rows.Four.{Four}

@@ -4,7 +4,8 @@ use mathlib.Core.List.{List}
 use Prim.Native.Nat.{ℕ, _+_, _*_, _≤_, _<_}
 use lib.ListN.{length, getD}
 use Rattle.algebra.specs.Matrix.{Matrix, add, product}
-use Rattle.field.specs.Residue.{reduce, residues, negated, largestModulus}
+use Rattle.field.specs.Residue.{reduce, residues, negated}
+use Rattle.checks.specs.Prime.{largestModulus}
 use Rattle.field.specs.View.{table}
 use Rattle.words.specs.Lengths.{longestRow}
 use Rattle.words.specs.Words.{Below}

@@ -5,7 +5,8 @@ use mathlib.Core.List.{List}
 use Prim.Native.Nat.{ℕ, _+_, _*_, _%_, _^_, _<_, _≤_}
 use lib.ListN.{length, getD}
 use Rattle.algebra.specs.Matrix.{sum}
-use Rattle.field.specs.Residue.{reduce, residues, _⊕_, _⊗_, largestModulus}
+use Rattle.field.specs.Residue.{reduce, residues, _⊕_, _⊗_}
+use Rattle.checks.specs.Prime.{largestModulus}
 use Rattle.field.specs.View.{line}
 use Rattle.field.specs.Totals.{total, products}
 use Rattle.field.specs.Limbs.{limbBase, low, high, whole, LimbFits}

@@ -3,7 +3,7 @@
 ghost use mathlib.Core.Path.{_≡_};
 ghost use Prim.Native.Nat.{_≤_, _<_};
 ghost use lib.ListN.{length};
-ghost use Rattle.field.specs.Residue.{largestModulus};
+ghost use Rattle.checks.specs.Prime.{largestModulus};
 ghost use Rattle.words.specs.Lengths.{longestRow};
 ghost use Rattle.words.specs.Words.{Below};
 ghost use Rattle.matrix_mul.specs.Rows.{Passes};

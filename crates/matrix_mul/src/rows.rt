@@ -3,7 +3,8 @@
 ghost use mathlib.Core.Path.{_≡_};
 ghost use Prim.Native.Nat.{_+_, _<_, _≤_};
 ghost use lib.ListN.{length};
-ghost use Rattle.field.specs.Residue.{reduce, largestModulus};
+ghost use Rattle.field.specs.Residue.{reduce};
+ghost use Rattle.checks.specs.Prime.{largestModulus};
 ghost use Rattle.field.specs.Limbs.{whole, LimbFits};
 ghost use Rattle.words.specs.Lengths.{longestRow};
 ghost use Rattle.words.specs.Words.{Zeros};

@@ -1,6 +1,7 @@
 // The signed reading of residues, and its inverse: what a record is on the sheet and what travels in its place.
 ghost use mathlib.Core.Path.{_≡_};
 ghost use Prim.Native.Nat.{_<_, _≤_};
+ghost use Rattle.checks.specs.Prime.{largestModulus};
 ghost use Rattle.algebra.specs.Answers.{Tells};
 ghost use Rattle.checks.specs.Outcome.{outcome};
 ghost use Rattle.signed.specs.Reading.{lowEnd, readFrom, residueOf, InRange};
@@ -28,7 +29,7 @@ pub fn low_end(p: u32) -> u32
 
 // The reading of v with records from -low to p - 1 - low.
 pub fn read_from(p: u32, low: u32, v: u32) -> i32
-    requires { ⌜ (v < p) × (low < p) × (p ≤ 2147483647) ⌝ }
+    requires { ⌜ (v < p) × (low < p) × (p ≤ largestModulus) ⌝ }
     ensures { λ r. ⌜ r ≡ readFrom p low v ⌝ }
 {
     if v + low < p {
@@ -40,7 +41,7 @@ pub fn read_from(p: u32, low: u32, v: u32) -> i32
 
 // Whether the record lies from -low to p - 1 - low.
 pub fn in_range(p: u32, low: u32, record: i32) -> bool
-    requires { ⌜ (low < p) × (p ≤ 2147483647) ⌝ }
+    requires { ⌜ (low < p) × (p ≤ largestModulus) ⌝ }
     ensures { λ r. ⌜ Tells r (InRange p low «record») ⌝ }
 {
     if record < -(low as i32) {
@@ -51,7 +52,7 @@ pub fn in_range(p: u32, low: u32, record: i32) -> bool
 
 // The residue that a record in range is read from.
 pub fn residue_from(p: u32, low: u32, record: i32) -> u32
-    requires { ⌜ InRange p low «record» × (low < p) × (p ≤ 2147483647) ⌝ }
+    requires { ⌜ InRange p low «record» × (low < p) × (p ≤ largestModulus) ⌝ }
     ensures { λ r. ⌜ (r < p) × (r ≡ residueOf p «record») ⌝ }
 {
     if record < 0 {

@@ -1,5 +1,4 @@
 pub mod Walk
 pub mod Writes
 pub mod Zeros
-pub mod Guards
 pub mod Parts

@@ -6,7 +6,7 @@ use lib.ListN.{length}
 use Rattle.algebra.proofs.Answers.{guard-left, guard-taken}
 use Rattle.checks.specs.InOrder.{AllHold}
 use Rattle.checks.specs.Sizes.{frameSizes, Judges}
-use Rattle.checks.proofs.InOrder.{none-left, holds-and, fails-here, fails-later, given}
+use Rattle.checks.proofs.InOrder.{none-left, fails-here, given, _then_, _and-then_}
 use Rattle.words.specs.Words.{Below}
 use Rattle.frame.specs.Sealing.{Records}
 use Rattle.frame.proofs.Calls.{seal-no-sizes, seal-refused, seal-done}
@@ -52,7 +52,7 @@ returns-2 c = seal-refused _ _ _ _ (sized (c .before)) (fails-here (c .if1 .take
 returns-3 : tie.Need-returns-3
 returns-3 c =
     let e = c .before in
-    seal-refused _ _ _ _ (sized (e .before)) (fails-later (recorded e) (λ _. fails-here (c .if2 .taken)))
+    seal-refused _ _ _ _ (sized (e .before)) (recorded e then fails-here (c .if2 .taken))
 
 all-below-requires : tie.Need-all-below-requires
 all-below-requires c κs = search needs
@@ -63,7 +63,7 @@ returns-4 c =
     let e = f .before in
     let bad = guard-taken (c .before .all-below .ensures) (c .if3 .taken) in
     seal-refused _ _ _ _ (sized (e .before))
-    (fails-later (recorded e) (λ _. fails-later (counted f) (λ _. fails-here bad)))
+    (recorded e then counted f then fails-here bad)
 
 all-records-requires : tie.Need-all-records-requires
 all-records-requires c κs =
@@ -77,7 +77,7 @@ returns-5 c =
     let e = f .before in
     let bad = guard-taken (c .before .all-records .ensures) (c .if4 .taken) in
     seal-refused _ _ _ _ (sized (e .before))
-    (fails-later (recorded e) (λ _. fails-later (counted f) (λ _. fails-later (below g) (λ _. fails-here bad))))
+    (recorded e then counted f then below g then fails-here bad)
 
 value-of-requires : tie.Need-value-of-requires
 value-of-requires c κs =
@@ -95,7 +95,7 @@ returns-6 c =
     let e = f .before in
     rw (c .value-of .ensures, recorded e)
     (seal-done _ _ _ _ (sized (e .before))
-    (holds-and (recorded e) (λ _. holds-and (counted f) (λ _. holds-and (below g) (λ _. holds-and (in-range h) (λ _. none-left))))))
+    (recorded e and-then counted f and-then below g and-then in-range h and-then none-left))
 
 pub seal-spec : {M : Type 1} → statement M
 seal-spec =

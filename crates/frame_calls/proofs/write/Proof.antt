@@ -7,7 +7,7 @@ use lib.ListN.{length}
 use Rattle.algebra.proofs.Answers.{guard-left, guard-taken}
 use Rattle.checks.specs.InOrder.{AllHold}
 use Rattle.checks.specs.Sizes.{frameSizes, Judges}
-use Rattle.checks.proofs.InOrder.{none-left, holds-and, fails-here, fails-later, given}
+use Rattle.checks.proofs.InOrder.{none-left, fails-here, given, _then_, _and-then_}
 use Rattle.words.specs.Words.{Below}
 use Rattle.frame.specs.Format.{longest}
 use Rattle.frame.proofs.Round.{longest-frame}
@@ -53,7 +53,7 @@ returns-3 : tie.Need-returns-3
 unfolding longest
 returns-3 c =
     let e = c .before in
-    write-refused _ _ _ _ _ (sized (e .before)) (fails-later (counted e) (λ _. fails-here (c .if2 .taken)))
+    write-refused _ _ _ _ _ (sized (e .before)) (counted e then fails-here (c .if2 .taken))
 
 all-below-requires : tie.Need-all-below-requires
 all-below-requires c κs = search needs
@@ -64,7 +64,7 @@ returns-4 c =
     let e = f .before in
     let bad = guard-taken (c .before .all-below .ensures) (c .if3 .taken) in
     write-refused _ _ _ _ _ (sized (e .before))
-    (fails-later (counted e) (λ _. fails-later (room f) (λ _. fails-here bad)))
+    (counted e then room f then fails-here bad)
 
 returns-5 : tie.Need-returns-5
 returns-5 c =
@@ -72,7 +72,7 @@ returns-5 c =
     let f = g .before .before in
     let e = f .before in
     write-refused _ _ _ _ _ (sized (e .before))
-    (fails-later (counted e) (λ _. fails-later (room f) (λ _. fails-later (below g) (λ _. fails-here (λ l. omega arith)))))
+    (counted e then room f then below g then fails-here (λ l. omega arith))
 
 write-frame-requires : tie.Need-write-frame-requires
 write-frame-requires c κs =
@@ -102,7 +102,7 @@ returns-6 c =
     let e = f .before in
     rw (w .write-frame .ensures .end, w .write-frame .ensures .memory, zero-add)
     (write-done _ _ _ _ _ (sized (e .before))
-    (holds-and (counted e) (λ _. holds-and (room f) (λ _. holds-and (below g) (λ _. holds-and (omega arith) (λ _. none-left))))))
+    (counted e and-then room f and-then below g and-then (omega arith) and-then none-left))
 
 pub write-spec : {M : Type 1} → statement M
 write-spec =

@@ -4,9 +4,9 @@ use borrow.Author.Needs.{needs}
 use Rattle.algebra.proofs.Answers.{guard-left, guard-taken}
 use Rattle.checks.specs.InOrder.{Given}
 use Rattle.checks.specs.Sizes.{tableSizes}
-use Rattle.checks.proofs.InOrder.{fails-here}
+use Rattle.checks.proofs.InOrder.{fails-here, _then_}
 use Rattle.matrix.specs.Parts.{Checked, System}
-use Rattle.matrix.proofs.Answers.{_then_, past-sizes, passes-all, sizes-passed, sizes-failed, solve-refused, solve-done}
+use Rattle.matrix.proofs.Answers.{past-sizes, passes-all, sizes-passed, sizes-failed, solve-refused, solve-done}
 use Rattle.matrix.proofs.Memory.{table-most}
 use Rattle.matrix_calls.proofs.solve.Statement.{statement}
 use Rattle.matrix_calls.proofs.solve.Tie as tie

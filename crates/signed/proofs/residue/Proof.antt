@@ -7,7 +7,7 @@ use mir.ValLaws.{toZ-ofZ}
 use Rattle.algebra.specs.Answers.{Tells}
 use Rattle.algebra.proofs.Answers.{guard-left, guard-taken, tells-same}
 use Rattle.checks.specs.Prime.{IsModulus}
-use Rattle.checks.proofs.InOrder.{none-left, holds-and, fails-here, fails-later}
+use Rattle.checks.proofs.InOrder.{none-left, fails-here, _then_, _and-then_}
 use Rattle.signed.specs.Reading.{IsRecord}
 use Rattle.signed.proofs.Readings.{low-end-below, record-in-range}
 use Rattle.signed.proofs.Calls.{residue-refused, residue-done}
@@ -54,7 +54,7 @@ in-range-requires c κs = (low-below c, modulus (c .before) .in-range)
 returns-2 : tie.Need-returns-2
 returns-2 c =
     let e = c .before .before .before in
-    residue-refused _ _ (fails-later (modulus e) (λ _. fails-here (guard-taken (tested (c .before)) (c .if2 .taken))))
+    residue-refused _ _ (modulus e then fails-here (guard-taken (tested (c .before)) (c .if2 .taken)))
 
 residue-from-requires : tie.Need-residue-from-requires
 residue-from-requires c κs =
@@ -72,7 +72,7 @@ returns-3 c =
     let s = e .before .before in
     let a = s .args in
     let read = rw (toZ-ofZ w32 (a .«record») (s .fits .«record»)) at (c .residue-from .ensures .1) in
-    rw read (residue-done _ _ (holds-and (modulus e) (λ _. holds-and (is-record (c .before)) (λ _. none-left))))
+    rw read (residue-done _ _ (modulus e and-then is-record (c .before) and-then none-left))
 
 pub residue-spec : {M : Type 1} → statement M
 residue-spec =

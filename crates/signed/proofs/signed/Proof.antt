@@ -8,7 +8,7 @@ use mir.Val.{SFits}
 use mir.ValLaws.{toZ-ofZ}
 use Rattle.algebra.proofs.Answers.{guard-left, guard-taken}
 use Rattle.checks.specs.Prime.{IsModulus}
-use Rattle.checks.proofs.InOrder.{none-left, holds-and, fails-here, fails-later}
+use Rattle.checks.proofs.InOrder.{none-left, fails-here, _then_, _and-then_}
 use Rattle.signed.proofs.Readings.{low-end-below, reading-from-low}
 use Rattle.signed.proofs.Calls.{signed-refused, signed-done}
 use Rattle.signed.proofs.signed.Statement.{statement}
@@ -28,7 +28,7 @@ returns : tie.Need-returns
 returns c = signed-refused _ _ (fails-here (guard-taken (c .before .is-modulus .ensures) (c .if1 .taken)))
 
 returns-2 : tie.Need-returns-2
-returns-2 c = signed-refused _ _ (fails-later (modulus (c .before)) (λ _. fails-here (λ l. omega arith)))
+returns-2 c = signed-refused _ _ (modulus (c .before) then fails-here (λ l. omega arith))
 
 low-end-requires : tie.Need-low-end-requires
 low-end-requires c κs = positive (c .before)
@@ -47,7 +47,7 @@ returns-3 c =
     let l : a .v < a .p = omega arith in
     let read = rw (c .before .low-end .ensures, reading-from-low (a .p) (a .v) h l) at (c .read-from .ensures) in
     let fits : SFits w32 (c .read-from .result) = record { sfits = c .read-from .ok } in
-    rw (toZ-ofZ w32 (c .read-from .result) fits, read) (signed-done _ _ (holds-and (modulus e) (λ _. holds-and l (λ _. none-left))))
+    rw (toZ-ofZ w32 (c .read-from .result) fits, read) (signed-done _ _ (modulus e and-then l and-then none-left))
 
 pub signed-spec : {M : Type 1} → statement M
 signed-spec =

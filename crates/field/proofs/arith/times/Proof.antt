@@ -4,7 +4,8 @@ use Prim.Native.Nat.{_≤_, _*_}
 use native.Mathlib.Nat.{mul-le-mul, mod-lt}
 use native.Mathlib.Omega.{arith}
 use mathlib.Core.Path.{ap}
-use Rattle.field.specs.Residue.{largestModulus, Residue, reduce}
+use Rattle.field.specs.Residue.{Residue, reduce}
+use Rattle.checks.specs.Prime.{largestModulus}
 use Rattle.field.proofs.Residues.{reduce-times}
 use Rattle.field.proofs.arith.times.Statement.{statement}
 use Rattle.field.proofs.arith.times.Tie as tie

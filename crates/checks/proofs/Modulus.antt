@@ -1,18 +1,8 @@
--- What the guard `if !is_modulus(p)` tells on either side: for the callers of the test.
-use mathlib.Core.Path.{_≡_}
-use mathlib.Core.Bool.{Bool, true, false, not}
+-- That a number is a modulus is shown in one way only: what is made of the proof is the same whichever it is.
 use mathlib.Core.HLevel.{⊥-prop}
 use Prim.Native.Nat.{ℕ}
 use native.Mathlib.Bridge.{le-prop}
-use Rattle.algebra.specs.Answers.{Tells}
-use Rattle.algebra.proofs.Answers.{guard-left, guard-taken}
 use Rattle.checks.specs.Prime.{IsModulus}
-
-pub no-modulus : (p : ℕ) (t : Bool) → Tells t (IsModulus p) → not t ≡ true → IsModulus p → ⊥
-no-modulus p t told n = guard-taken told n
-
-pub is-modulus : (p : ℕ) (t : Bool) → Tells t (IsModulus p) → not t ≡ false → IsModulus p
-is-modulus p t told n = guard-left told n
 
 -- a number is a modulus in at most one way
 pub modulus-prop : (p : ℕ) → IsProp (IsModulus p)
