@@ -137,7 +137,8 @@ module _ (R : Ring) (L : IsCommutativeRing R) where
               product-column R L n A (single R v s) j (λ t l. single-other-column v s t j d) 0 ∙ sym (sums.unit-other R 0 j (λ e. d (sym e)))
 
       absorbs : product R n A (product R 1 D A) ≡ A
-      absorbs = matrices.entries R (product R n A (product R 1 D A)) A (λ y j. pick-row (product R 1 D A) j (λ t d. row-other t j d) y ∙ ap (λ x. A y v ⊗ x) (row-of j) ∙ go y j)
+      absorbs = matrices.entries R (product R n A (product R 1 D A)) A
+          (λ y j. pick-row (product R 1 D A) j (λ t d. row-other t j d) y ∙ ap (λ x. A y v ⊗ x) (row-of j) ∙ go y j)
         where
           go : (y j : ℕ) → A y v ⊗ (s ⊗ A 0 j) ≡ A y j
           go ℕ.zero j = sym (L .times-assoc (A 0 v) s (A 0 j)) ∙ ap (λ x. x ⊗ A 0 j) inverse ∙ rings.one-times R L (A 0 j)

@@ -89,7 +89,8 @@ module _ (R : Ring) (F : IsField R) where
   least ℕ.zero f = inr (λ t h. absurd (omega arith))
   least (suc n) f = go (least n f) (F .equal? (f n) 𝟘)
     where
-      go : ((v : ℕ) × Least n f v) ⊎ ((t : ℕ) → t < n → f t ≡ 𝟘) → Dec (f n ≡ 𝟘) → ((v : ℕ) × Least (suc n) f v) ⊎ ((t : ℕ) → t < suc n → f t ≡ 𝟘)
+      go : ((v : ℕ) × Least n f v) ⊎ ((t : ℕ) → t < n → f t ≡ 𝟘) → Dec (f n ≡ 𝟘)
+          → ((v : ℕ) × Least (suc n) f v) ⊎ ((t : ℕ) → t < suc n → f t ≡ 𝟘)
       go (inl (v, l)) d = inl (v, record { below = le-step (l .below); not-zero = l .not-zero; before = l .before })
       go (inr z) (no d) = inl (n, record { below = lt-suc-self n; not-zero = d; before = z })
       go (inr z) (yes e) = inr (λ t h. below-more (λ k. f k ≡ 𝟘) n z e t (subst (λ k. t < k) (sym (add-one n)) h))

@@ -197,7 +197,8 @@ module _ (R : Ring) (L : IsCommutativeRing R) where
           go {j} (lower y) (upper hj) t =
               at-lower-left y j hj
               ∙ difference-same T (product R m₂ CF T) y j
-              (product-unit-row m₂ CF T y (Q₂ .rows y (sym (counts.follow-lower m₁ J₁ J₂ y) ∙ t)) (λ s. Q₂ .fixes-row y s (sym (counts.follow-lower m₁ J₁ J₂ y) ∙ t)) j)
+              (product-unit-row m₂ CF T y (Q₂ .rows y (sym (counts.follow-lower m₁ J₁ J₂ y) ∙ t))
+              (λ s. Q₂ .fixes-row y s (sym (counts.follow-lower m₁ J₁ J₂ y) ∙ t)) j)
               ∙ sym (sums.unit-other R (m₁ + y) j (λ e. ne-of-lt hj′ (sym e)))
             where
               hj′ : j < m₁ + y

@@ -4,6 +4,7 @@ use mathlib.Core.Bool.{Bool, true, false}
 use mathlib.Core.List.{List}
 use Prim.Native.Nat.{ℕ, _≤_, _<_}
 use lib.ListN.{length, getD}
+use Rattle.words.specs.Lengths.{largestTable}
 use Rattle.checks.specs.Prime.{largestModulus}
 use Rattle.algebra.specs.Matrix.{Vector, mixed}
 use Rattle.algebra.specs.Span.{Combines}
@@ -28,7 +29,7 @@ pub record Mixable (p : ℕ) (by xs : List ℕ) (w : ℕ) (out : List ℕ) : Typ
   pub narrow : w ≤ largest
   pub by-below : Below p by
   pub table-below : Below p xs
-  pub table-long : length xs ≡ 4096
+  pub table-long : length xs ≡ largestTable
   pub room : Zeros largest out
 
 -- r is 64 numbers: the row `by` times the table in xs, whose rows have w numbers, then zeros

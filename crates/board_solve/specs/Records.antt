@@ -5,6 +5,7 @@ use Prim.Native.Nat.{ℕ, _≤_, _<_}
 use lib.Dec.{eqb}
 use lib.IntN.{ℤ}
 use lib.ListN.{length, getD}
+use Rattle.words.specs.Lengths.{largestTable}
 use Rattle.checks.specs.Prime.{largestModulus}
 use Rattle.algebra.specs.Choice.{choose}
 use Rattle.algebra.specs.Matrix.{product, apply, unit}
@@ -42,7 +43,7 @@ pub record RowOfD (p n k j : ℕ) (d : List ℕ) : Type 0 where
   pub small : n ≤ largest
   pub few : k ≤ n
   pub inside : j < n
-  pub long : length d ≡ 4096
+  pub long : length d ≡ largestTable
   pub below : Below p d
 
 pub record Showable (ws rows d marks : List ℕ) (zs : List ℤ) : Type 0 where

@@ -2,6 +2,7 @@
 // times the values.
 ghost use mathlib.Core.Path.{_≡_};
 ghost use lib.ListN.{length};
+ghost use Rattle.words.specs.Lengths.{largestTable};
 ghost use Rattle.algebra.specs.Answers.{Tells};
 ghost use Rattle.words.specs.Words.{Below};
 ghost use Rattle.signed.specs.Reading.{reading};
@@ -30,7 +31,7 @@ fn is_unit(e: &[u32], j: usize) -> bool
 
 // Whether row j of D R is the unit row of j; it is zeros where row j of D is.
 fn settled(p: u32, n: usize, k: usize, j: usize, rows: &[u32], d: &[u32]) -> bool
-    requires { ⌜ RowOfD p n k j (now d) × (length (now rows) ≡ 4096) × Below p (now rows) ⌝ }
+    requires { ⌜ RowOfD p n k j (now d) × (length (now rows) ≡ largestTable) × Below p (now rows) ⌝ }
     ensures { λ r. ⌜ Tells r (UnitAt p n k j (now (rows .entry)) (now (d .entry))) ⌝ }
 {
     let at = j * k;

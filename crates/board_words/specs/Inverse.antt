@@ -5,6 +5,7 @@ use mathlib.Core.Bool.{true}
 use mathlib.Core.List.{List}
 use Prim.Native.Nat.{ℕ, _+_, _*_, _<_}
 use lib.ListN.{length, getD}
+use Rattle.words.specs.Lengths.{largestTable}
 use Rattle.algebra.specs.Quasiinverse.{Marks, IsPivotInverse}
 use Rattle.field.specs.Residue.{residues}
 use Rattle.field.specs.View.{table}
@@ -13,9 +14,9 @@ use Rattle.ledger.specs.Board.{IsBoard, rowStart, modulusWord, sizeWord, countW
 
 -- the multiplier rows, one behind the other, with room behind them, and a quasiinverse of them
 pub record RowsInverse (ws rows d : List ℕ) : Type 0 where
-  pub rows-long : length rows ≡ 4096
+  pub rows-long : length rows ≡ largestTable
   pub rows-below : Below (modulusWord ws) rows
-  pub d-long : length d ≡ 4096
+  pub d-long : length d ≡ largestTable
   pub d-below : Below (modulusWord ws) d
   pub same-rows :
       (i j : ℕ) → i < countWord ws → j < sizeWord ws

@@ -5,6 +5,7 @@ use mathlib.Core.Bool.{Bool, true}
 use mathlib.Core.List.{List}
 use Prim.Native.Nat.{ℕ, _+_, _*_, _≤_, _<_}
 use lib.ListN.{length, getD}
+use Rattle.words.specs.Lengths.{largestTable}
 use Rattle.checks.specs.Prime.{IsModulus}
 use Rattle.checks.specs.Largest.{largest, FrameSize}
 use Rattle.algebra.specs.Answers.{Tells}
@@ -29,7 +30,7 @@ pub record Rows (k n : ℕ) (ws rows : List ℕ) : Type 0 where
   pub k-most : k ≤ largest
   pub n-most : n ≤ largest
   pub inside : rowStart n k ≤ length ws
-  pub room : length rows ≡ 4096
+  pub room : length rows ≡ largestTable
 
 -- the multipliers of the first k rows stand one behind the other, and behind them what stood there
 pub record Laid (k n : ℕ) (ws rows rows′ : List ℕ) : Type 0 where

@@ -1,5 +1,6 @@
 // The board test: whether words are a board, by document 01's clauses in their order. What it makes on the way, the rows and
 // a quasiinverse of them, serves the calls.
+ghost use Rattle.words.specs.Lengths.{largestTable};
 ghost use Rattle.words.specs.Words.{Zeros};
 ghost use Rattle.algebra.specs.Answers.{Tells};
 ghost use Rattle.board_words.specs.Tested.{Header, Filled, Rows, Laid, Inverted, BoardTold};
@@ -57,7 +58,7 @@ fn copy_rows(board: &[u32], k: usize, n: usize, rows: &mut [u32])
 
 // Whether the k multiplier rows are independent: whether a quasiinverse of them has every row in its set J.
 fn independent(board: &[u32], rows: &mut [u32], d: &mut [u32]) -> bool
-    requires { ⌜ Header (now board) × Filled (now board) × Zeros 4096 (now rows) × Zeros 4096 (now d) ⌝ }
+    requires { ⌜ Header (now board) × Filled (now board) × Zeros largestTable (now rows) × Zeros largestTable (now d) ⌝ }
     ensures { λ r. ⌜ Inverted (now (board .entry)) (now (rows .exit)) (now (d .exit)) r ⌝ }
 {
     let n = board[SIZE] as usize;
@@ -82,7 +83,7 @@ fn independent(board: &[u32], rows: &mut [u32], d: &mut [u32]) -> bool
 
 // Whether the words are a board; then `rows` holds its multiplier rows one behind the other, and `d` a quasiinverse of them.
 pub fn is_board(board: &[u32], rows: &mut [u32], d: &mut [u32]) -> bool
-    requires { ⌜ Zeros 4096 (now rows) × Zeros 4096 (now d) ⌝ }
+    requires { ⌜ Zeros largestTable (now rows) × Zeros largestTable (now d) ⌝ }
     ensures { λ r. ⌜ BoardTold (now (board .entry)) (now (rows .exit)) (now (d .exit)) r ⌝ }
 {
     if !has_header(board) {

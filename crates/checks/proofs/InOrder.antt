@@ -4,21 +4,7 @@ use mathlib.Core.Path.{_≡_, refl, sym, ap, _∙_, subst}
 use Prim.Native.Nat.{ℕ}
 use native.Mathlib.Omega.{arith}
 use Rattle.algebra.specs.Choice.{pickBy, pickType}
-use Rattle.checks.specs.InOrder.{
-  Check,
-  Checks,
-  passed,
-  first,
-  _⨾_,
-  Given,
-  andThen,
-  inOrder,
-  holding,
-  AllHold,
-  failing,
-  FirstFailing,
-  EveryKind,
-}
+use Rattle.checks.specs.InOrder.{Check, Checks, passed, first, _⨾_, Given, andThen, inOrder, holding, AllHold, failing, FirstFailing, EveryKind}
 
 -- ---- types picked by a decision
 

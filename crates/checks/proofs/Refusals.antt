@@ -2,19 +2,8 @@
 use Prim.Native.Nat.{_≤_, _<_}
 use native.Mathlib.Omega.{arith}
 use Rattle.checks.specs.declared.Refusal.{Refusal}
-use Rattle.checks.specs.declared.Refusal.the-variants.{
-  Modulus,
-  Size,
-  Length,
-  Number,
-  Insoluble,
-  FrameLength,
-  Padding,
-  ZeroMultiplier,
-  Conflict,
-  Withdrawal,
-  NotBoard,
-}
+use Rattle.checks.specs.declared.Refusal.the-variants.{Modulus, Size, Length, Number, Insoluble, FrameLength, Padding, ZeroMultiplier, Conflict}
+use Rattle.checks.specs.declared.Refusal.the-variants.{Withdrawal, NotBoard}
 use Rattle.checks.specs.Refusal.{refusalNumber, IsRefusal}
 
 pub refusal-number : (k : Refusal) → IsRefusal (refusalNumber k)

@@ -2,17 +2,8 @@
 -- found below a d with p / d < d there is none at all.
 use mathlib.Core.Path.{_≡_, subst}
 use Prim.Native.Nat.{ℕ, _*_, _/_, _%_, _≤_, _<_, _∣_}
-use native.Mathlib.Nat.{
-  dvd-mul-right,
-  dvd-of-mod-eq-zero,
-  div-mul-cancel,
-  le-div-iff-mul-le,
-  div-lt-iff-lt-mul,
-  mul-le-mul,
-  mul-le-mul-left,
-  mul-le-mul-right,
-  lt-of-mul-lt-mul-right,
-}
+use native.Mathlib.Nat.{dvd-mul-right, dvd-of-mod-eq-zero, div-mul-cancel, le-div-iff-mul-le, div-lt-iff-lt-mul, mul-le-mul, mul-le-mul-left}
+use native.Mathlib.Nat.{mul-le-mul-right, lt-of-mul-lt-mul-right}
 use native.Mathlib.Decide.{decLt}
 use native.Mathlib.Omega.{arith}
 use Rattle.checks.specs.Prime.{IsModulus}

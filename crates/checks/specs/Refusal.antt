@@ -1,19 +1,8 @@
 -- 01, "What is handed back on refusal": the number returned for each kind, the one place where it stands.
 use Prim.Native.Nat.{ℕ, _≤_, _<_}
 use Rattle.checks.specs.declared.Refusal.{Refusal}
-use Rattle.checks.specs.declared.Refusal.the-variants.{
-  Modulus,
-  Size,
-  Length,
-  Number,
-  Insoluble,
-  FrameLength,
-  Padding,
-  ZeroMultiplier,
-  Conflict,
-  Withdrawal,
-  NotBoard,
-}
+use Rattle.checks.specs.declared.Refusal.the-variants.{Modulus, Size, Length, Number, Insoluble, FrameLength, Padding, ZeroMultiplier, Conflict}
+use Rattle.checks.specs.declared.Refusal.the-variants.{Withdrawal, NotBoard}
 
 abbrev pub refusalNumber : Refusal → ℕ
 refusalNumber Modulus = 1

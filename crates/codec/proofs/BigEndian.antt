@@ -3,21 +3,8 @@
 use mathlib.Core.Path.{_≡_, refl, ap, _∙_}
 use mathlib.Core.List.{List, [], _∷_}
 use Prim.Native.Nat.{ℕ, zero, suc, _+_, _*_, _/_, _%_, _^_, _<_, _≤_}
-use native.Mathlib.Nat.{
-  pow-zero,
-  pow-suc,
-  mul-pos,
-  add-zero,
-  zero-add,
-  zero-mul,
-  mul-comm,
-  div-one,
-  mod-lt,
-  mod-eq-of-lt,
-  mod-one,
-  mul-add-div-right,
-  mul-add-mod-self-right,
-}
+use native.Mathlib.Nat.{pow-zero, pow-suc, mul-pos, add-zero, zero-add, zero-mul, mul-comm, div-one, mod-lt, mod-eq-of-lt, mod-one, mul-add-div-right}
+use native.Mathlib.Nat.{mul-add-mod-self-right}
 use native.Mathlib.Numerals.{add-one, add-two, add-three}
 use native.Mathlib.Omega.{arith}
 use lib.Arith.{digits-lt, digits-div, mod-mul}

@@ -3,38 +3,15 @@
 -- inverse. The function `inverse` takes the same steps.
 use mathlib.Core.Path.{_≡_, sym, ap, _∙_}
 use Prim.Native.Nat.{ℕ, zero, suc, _+_, _*_, _-_, _/_, _%_, _≤_, _<_}
-use native.Mathlib.Nat.{
-  add-assoc,
-  add-comm,
-  add-zero,
-  mul-assoc,
-  mul-comm,
-  mul-one,
-  mul-add,
-  mod-self,
-  mod-lt,
-  zero-mod,
-  mod-add-div',
-  emod-pos-of-not-dvd,
-}
+use native.Mathlib.Nat.{add-assoc, add-comm, add-zero, mul-assoc, mul-comm, mul-one, mul-add, mod-self, mod-lt, zero-mod, mod-add-div', emod-pos-of-not-dvd}
 use native.Mathlib.Omega.{arith}
 use native.Mathlib.Decide.{ℕ-discrete, map-dec}
 use Rattle.algebra.specs.Ring.{IsCommutativeRing, IsField}
 use Rattle.algebra.proofs.Rings.{times-zero}
 use Rattle.checks.specs.Prime.{Prime}
 use Rattle.field.specs.Residue.{Residue, reduce, _⊕_, _⊗_, negated, residues}
-use Rattle.field.proofs.Residues.{
-  modular,
-  residue-path,
-  reduce-value,
-  reduce-more,
-  reduce-plus,
-  reduce-times,
-  reduce-injective,
-  value-below,
-  positive-of-nonzero,
-  nonzero-of-positive,
-}
+use Rattle.field.proofs.Residues.{modular, residue-path, reduce-value, reduce-more, reduce-plus, reduce-times, reduce-injective, value-below}
+use Rattle.field.proofs.Residues.{positive-of-nonzero, nonzero-of-positive}
 
 -- the residues modulo p are a commutative ring
 pub residues-ring : (p : ℕ) → 0 < p → IsCommutativeRing (residues p)

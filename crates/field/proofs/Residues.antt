@@ -3,7 +3,8 @@
 use mathlib.Core.Path.{_≡_, sym, ap, subst, _∙_}
 use mathlib.Core.HLevel.{isProp→PathP}
 use Prim.Native.Nat.{ℕ, _+_, _*_, _-_, _/_, _%_, _≤_, _<_}
-use native.Mathlib.Nat.{ℕ-set, pos-of-ne-zero, mul-comm, mod-mod, mod-add-mod, add-mod-mod, mod-add-div, mod-lt, mod-eq-of-lt, mod-eq-sub-mod, add-mod-right, add-mul-mod-self-left}
+use native.Mathlib.Nat.{ℕ-set, pos-of-ne-zero, mul-comm, mod-mod, mod-add-mod, add-mod-mod, mod-add-div, mod-lt, mod-eq-of-lt}
+use native.Mathlib.Nat.{mod-eq-sub-mod, add-mod-right, add-mul-mod-self-left}
 use native.Mathlib.Omega.{arith}
 use Rattle.field.specs.Residue.{Residue, reduce, _⊕_, _⊗_, negated}
 

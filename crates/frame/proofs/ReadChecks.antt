@@ -16,21 +16,8 @@ use Rattle.checks.proofs.InOrder.{fails-here, in-order-done, in-order-refused, 
 use Rattle.codec.specs.BigEndian.{width}
 use Rattle.frame.specs.Format.{mapLength}
 use Rattle.frame.specs.Bitmap.{standing, recordBits, ClearFrom, Unpadded, mapFrom, mapBits}
-use Rattle.frame.specs.Reading.{
-  numbersIn,
-  spread,
-  frameLength,
-  frameNumbers,
-  frameMultipliers,
-  frameValue,
-  numberChecks,
-  frameChecks,
-  ReadingKind,
-  Found,
-  accepted,
-  rejected,
-  readFrame,
-}
+use Rattle.frame.specs.Reading.{numbersIn, spread, frameLength, frameNumbers, frameMultipliers, frameValue, numberChecks, frameChecks}
+use Rattle.frame.specs.Reading.{ReadingKind, Found, accepted, rejected, readFrame}
 use Rattle.frame.specs.Stages.{valueAfter, checksFrom, multipliersFrom}
 use Rattle.frame.specs.Calls.{readOutcome}
 use Rattle.frame.proofs.BitMaps.{map-record-bits, clear-unpadded, unpadded-clear, standing-first}

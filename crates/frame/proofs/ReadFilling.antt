@@ -40,7 +40,8 @@ module _ (map bytes : List ℕ) (at j : ℕ) where
   unfolding multipliersFrom bitsFrom spread
   multipliers-none = refl
 
-  multipliers-stands : (k : ℕ) → bitAt map j ≡ true → multipliersFrom map bytes at j (suc k) ≡ numberAt width bytes at ∷ multipliersFrom map bytes (at + width) (suc j) k
+  multipliers-stands : (k : ℕ) → bitAt map j ≡ true
+      → multipliersFrom map bytes at j (suc k) ≡ numberAt width bytes at ∷ multipliersFrom map bytes (at + width) (suc j) k
   unfolding multipliersFrom
   multipliers-stands k e = rw (bits-more, e, standing-true, numbers-more, spread-stands)
 

@@ -17,24 +17,8 @@ use Rattle.frame.specs.Bitmap.{standing, recordBits, Unpadded}
 use Rattle.frame.specs.Reading.{accepted, frameLength, frameNumbers, frameMultipliers, frameValue, readFrame}
 use Rattle.frame.proofs.Bytes.{one-value, value-bytes-length, numbers-length, numbers-of-values, values-of-numbers}
 use Rattle.frame.proofs.RoundMap.{map-length, bits-of-map, map-unpadded, map-of-bits, record-bits-length}
-use Rattle.frame.proofs.RoundNumbers.{
-  kept,
-  Positive,
-  packed-kept,
-  standing-kept,
-  stands-length,
-  spread-kept,
-  kept-below,
-  kept-positive,
-  kept-length,
-  kept-all,
-  spread-length,
-  spread-below,
-  spread-stands,
-  GoodNumbers,
-  good-of-given,
-  good-hold,
-}
+use Rattle.frame.proofs.RoundNumbers.{kept, Positive, packed-kept, standing-kept, stands-length, spread-kept, kept-below, kept-positive}
+use Rattle.frame.proofs.RoundNumbers.{kept-length, kept-all, spread-length, spread-below, spread-stands, GoodNumbers, good-of-given, good-hold}
 
 -- ---- a frame of one value, in three parts
 

@@ -14,16 +14,7 @@ use Rattle.checks.specs.InOrder.{Checks, Given, andThen, AllHold, FirstFailing}
 use Rattle.checks.specs.Sizes.{tableSizes, Judges}
 use Rattle.checks.proofs.InOrder.{none-left, _and-then_, _then_, given, fails-in-front, in-order-done, in-order-refused}
 use Rattle.words.specs.Words.{Below}
-use Rattle.matrix.specs.Calls.{
-  tableRank,
-  quasiinverseChecks,
-  quasiinverseCall,
-  kernelChecks,
-  kernelCall,
-  solution,
-  solveChecks,
-  solveCall,
-}
+use Rattle.matrix.specs.Calls.{tableRank, quasiinverseChecks, quasiinverseCall, kernelChecks, kernelCall, solution, solveChecks, solveCall}
 use Rattle.matrix.specs.Parts.{Checked, Tables, InverseRoom, StoresInverse, StoresBasis, System}
 
 -- 1 and 2 hold, and then the first of the others that fails has the kind k

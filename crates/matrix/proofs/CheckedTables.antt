@@ -26,17 +26,7 @@ use Rattle.matrix.specs.Parts.{Checked, StoresInverse, marked}
 use Rattle.words.specs.Words.{FirstDifference}
 use Rattle.matrix.proofs.Memory.{marked-no}
 use Rattle.matrix.proofs.Stored.{inverted}
-use Rattle.matrix.proofs.Checker.{
-  _and_,
-  _implies_,
-  everyBelow,
-  isPivotInverse,
-  by-size,
-  both,
-  implied,
-  every-below,
-  checked,
-}
+use Rattle.matrix.proofs.Checker.{_and_, _implies_, everyBelow, isPivotInverse, by-size, both, implied, every-below, checked}
 
 -- ---- lists of numbers
 

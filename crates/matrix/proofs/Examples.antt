@@ -25,22 +25,8 @@ use Rattle.matrix.proofs.Answers.{quasiinverse-done, kernel-done, solve
 use Rattle.matrix.proofs.Basis.{basis-filled, vectors-many}
 use Rattle.matrix.proofs.Systems.{Compared, solved-by, refused-by}
 use Rattle.matrix.proofs.Checker.{_and_, every, everyBelow, isPivotInverse, both, every-member}
-use Rattle.matrix.proofs.CheckedTables.{
-  areBelow,
-  all-below,
-  areSame,
-  all-same,
-  areMarks,
-  isFirstDifference,
-  first-difference,
-  isPrime,
-  isTable,
-  table-checked,
-  same,
-  holdsInverse,
-  quasiinverse-checked,
-  inverse-checked,
-}
+use Rattle.matrix.proofs.CheckedTables.{areBelow, all-below, areSame, all-same, areMarks, isFirstDifference, first-difference, isPrime}
+use Rattle.matrix.proofs.CheckedTables.{isTable, table-checked, same, holdsInverse, quasiinverse-checked, inverse-checked}
 
 -- ---- the test
 

@@ -15,7 +15,8 @@ use words::row_room;
 
 // The least position of a number that is not 0, or the length where there is none.
 fn least_nonzero(xs: &[u32]) -> usize
-    ensures { λ r. ⌜ (r ≤ length (now (xs .entry))) × ((t : ℕ) → t < r → getD (now (xs .entry)) t 0 ≡ 0) × (r < length (now (xs .entry)) → getD (now (xs .entry)) r 0 ≡ 0 → ⊥) ⌝ }
+    ensures { λ r. ⌜ (r ≤ length (now (xs .entry))) × ((t : ℕ) → t < r → getD (now (xs .entry)) t 0 ≡ 0)
+        × (r < length (now (xs .entry)) → getD (now (xs .entry)) r 0 ≡ 0 → ⊥) ⌝ }
 {
     let len = xs.len();
     let mut found = len;
@@ -84,7 +85,8 @@ fn negative_product(
     right: Place,
     z: &mut [u32],
 )
-    requires { ⌜ Factors p size (now x) (place 0 (size .inner)) (now y) right (now z) (place 0 (size .columns)) × Passes (size .inner) (now next) right (size .columns) (now y) ⌝ }
+    requires { ⌜ Factors p size (now x) (place 0 (size .inner)) (now y) right (now z) (place 0 (size .columns))
+        × Passes (size .inner) (now next) right (size .columns) (now y) ⌝ }
     ensures { λ _. ⌜ IsNegativeProduct p size (now (x .entry)) (now (y .entry)) right (now (z .entry)) (now (z .exit)) ⌝ }
 {
     let m = size.rows;

@@ -3,6 +3,7 @@ ghost use mathlib.Core.Path.{_≡_};
 ghost use Prim.Native.Nat.{_≤_};
 ghost use lib.ListN.{length};
 ghost use Rattle.ledger.specs.Board.{headerLength};
+ghost use Rattle.checks.specs.Largest.{largest};
 use super::lent;
 use super::lines;
 use board_words::layout;
@@ -60,7 +61,7 @@ fn take_each(board: &mut [u32], bytes: &mut [u8], mix: &mut [u32])
 
 // All frames, onto the board of n records. A length has two bytes, so that every frame has room.
 pub fn take_all(n: usize, board: &mut [u32])
-    requires { ⌜ (n ≤ 64) × (headerLength ≤ length (now board)) ⌝ }
+    requires { ⌜ (n ≤ largest) × (headerLength ≤ length (now board)) ⌝ }
 {
     let mut bytes = io::large_buffer();
     let mut mix = lent::words();

@@ -2,7 +2,9 @@
 ghost use mathlib.Core.Path.{_≡_};
 ghost use lib.ListN.{length};
 ghost use Rattle.ledger.specs.Board.{largestBoard};
+ghost use Rattle.words.specs.Lengths.{longestRow};
 use board_words::layout::LARGEST_BOARD;
+use words::ROW;
 
 // The header's bytes: p in four, n in one.
 pub fn header() -> [u8; 5]
@@ -26,17 +28,17 @@ pub fn board() -> [u32; LARGEST_BOARD]
 }
 
 // A word for each of 64 records: the mix, the marks.
-pub fn words() -> [u32; 64]
-    ensures { λ r. ⌜ 64 ≡ length r ⌝ }
+pub fn words() -> [u32; ROW]
+    ensures { λ r. ⌜ longestRow ≡ length r ⌝ }
 {
-    [0; 64]
+    [0; ROW]
 }
 
 // A signed number for each of 64 records.
-pub fn numbers() -> [i32; 64]
-    ensures { λ r. ⌜ 64 ≡ length r ⌝ }
+pub fn numbers() -> [i32; ROW]
+    ensures { λ r. ⌜ longestRow ≡ length r ⌝ }
 {
-    [0; 64]
+    [0; ROW]
 }
 
 // A line.

@@ -1,4 +1,4 @@
-// The lines that sheet_lines makes, written to standard output.
+// The lines that sheet_text makes, written to standard output.
 ghost use Prim.Native.Nat.{_≤_};
 ghost use lib.ListN.{length};
 use super::lent;

@@ -1,6 +1,6 @@
 // The sheet: document 01's program. It reads p, n and frames from standard input and prints a line for each frame as soon as the
 // frame has come, then the records and how many frames are missing. The lines, and what is a cut header or frame, are those of
-// sheet_lines; the answers are those of board. This crate reads, lends memory and writes.
+// sheet_text; the answers are those of board_calls. This crate reads, lends memory and writes.
 mod frames;
 mod heat;
 mod lent;

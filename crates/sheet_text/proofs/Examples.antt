@@ -3,24 +3,8 @@ use mathlib.Core.Path.{_≡_, refl}
 use mathlib.Core.List.{[], _∷_, _++_}
 use lib.IntN.{pos, negsuc}
 use Rattle.codec.specs.Decimal.{digitsWithin, decimal, minus, signedDecimal}
-use Rattle.sheet_text.specs.Lines.{
-  newWord,
-  repeatWord,
-  conflictWord,
-  refusedWord,
-  missingWord,
-  unknownWord,
-  space,
-  lineFeed,
-  wordLine,
-  newLine,
-  repeatLine,
-  conflictLine,
-  refusedLine,
-  missingLine,
-  recordText,
-  recordLine,
-}
+use Rattle.sheet_text.specs.Lines.{newWord, repeatWord, conflictWord, refusedWord, missingWord, unknownWord, space, lineFeed, wordLine, newLine}
+use Rattle.sheet_text.specs.Lines.{repeatLine, conflictLine, refusedLine, missingLine, recordText, recordLine}
 
 pub example :
     newLine 1 ++ newLine 2 ++ repeatLine 2 ++ conflictLine 2 ++ newLine 3

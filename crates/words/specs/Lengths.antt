@@ -1,9 +1,10 @@
 -- How many numbers the rooms hold. 01: a table has up to 64 rows and up to 64 columns.
 use Prim.Native.Nat.{ℕ}
+use Rattle.checks.specs.Largest.{largest}
 
 -- the longest row or column
 abbrev pub longestRow : ℕ
-longestRow = 64
+longestRow = largest
 
 -- half of that
 abbrev pub halfRows : ℕ

@@ -55,13 +55,5 @@ returns-3 c =
 pub open-spec : {M : Type 1} → statement M
 open-spec =
     tie.close
-    (tie.spec
-    frame-sizes-requires
-    enum-known-kind
-    returns
-    enum-told
-    board-length-requires
-    returns-2
-    make-fresh-requires
-    same-length
-    returns-3)
+    (tie.spec frame-sizes-requires enum-known-kind returns enum-told board-length-requires returns-2 make-fresh-requires
+    same-length returns-3)

@@ -83,23 +83,7 @@ returns-4 c =
 pub show-spec : {M : Type 1} → statement M
 show-spec =
     tie.close
-    (tie.spec
-    table-room-requires
-    table-room-requires-2
-    slice-aggregate-is-board
-    slice-aggregate-is-board-2
-    is-board-requires
-    returns
-    shared-slice-read-n
-    cast-n
-    returns-2
-    returns-3
-    slice-aggregate-show-records
-    slice-aggregate-show-records-2
-    show-records-requires
-    shared-slice-read-count
-    shared-slice-read-missing
-    sub-missing
-    same-length
-    same-length-2
+    (tie.spec table-room-requires table-room-requires-2 slice-aggregate-is-board slice-aggregate-is-board-2 is-board-requires
+    returns shared-slice-read-n cast-n returns-2 returns-3 slice-aggregate-show-records slice-aggregate-show-records-2
+    show-records-requires shared-slice-read-count shared-slice-read-missing sub-missing same-length same-length-2
     returns-4)

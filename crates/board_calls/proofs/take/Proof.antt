@@ -143,32 +143,8 @@ returns-4 c =
 pub take-spec : {M : Type 1} → statement M
 take-spec =
     tie.close
-    (tie.spec
-    table-room-requires
-    table-room-requires-2
-    slice-aggregate-is-board
-    slice-aggregate-is-board-2
-    is-board-requires
-    same-length
-    returns
-    slice-read-p
-    slice-read-n
-    cast-n
-    same-length-2
-    returns-2
-    row-room-requires
-    array-borrow-prefix-f
-    slice-aggregate-read-frame
-    read-frame-requires
-    enum-known-v
-    slice-aggregate-take-row
-    slice-aggregate-take-row-2
-    array-share-prefix-f
-    slice-aggregate-take-row-3
-    take-row-requires
-    enum-known-kind
-    same-length-3
-    same-length-4
-    returns-3
-    same-length-5
-    returns-4)
+    (tie.spec table-room-requires table-room-requires-2 slice-aggregate-is-board slice-aggregate-is-board-2 is-board-requires
+    same-length returns slice-read-p slice-read-n cast-n same-length-2 returns-2 row-room-requires array-borrow-prefix-f
+    slice-aggregate-read-frame read-frame-requires enum-known-v slice-aggregate-take-row slice-aggregate-take-row-2
+    array-share-prefix-f slice-aggregate-take-row-3 take-row-requires enum-known-kind same-length-3 same-length-4
+    returns-3 same-length-5 returns-4)

@@ -71,19 +71,6 @@ returns-3 c =
 pub withdraw-spec : {M : Type 1} → statement M
 withdraw-spec =
     tie.close
-    (tie.spec
-    table-room-requires
-    table-room-requires-2
-    slice-aggregate-is-board
-    slice-aggregate-is-board-2
-    is-board-requires
-    same-length
-    returns
-    slice-read-k
-    same-length-2
-    returns-2
-    slice-read-n
-    cast-n
-    drop-rows-requires
-    same-length-3
+    (tie.spec table-room-requires table-room-requires-2 slice-aggregate-is-board slice-aggregate-is-board-2 is-board-requires
+    same-length returns slice-read-k same-length-2 returns-2 slice-read-n cast-n drop-rows-requires same-length-3
     returns-3)

@@ -169,30 +169,7 @@ returns-3 c =
 pub take-row-spec : {M : Type 1} → statement M
 take-row-spec =
     tie.close
-    (tie.spec
-    slice-read-count
-    row-room-requires
-    slice-aggregate-find
-    find-requires
-    append-requires
-    add-t24
-    same-length
-    returns
-    slice-read-p
-    slice-read-n
-    cast-n
-    cast-k
-    array-share-prefix-c
-    slice-aggregate-put
-    put-requires
-    array-share-prefix-c-2
-    slice-aggregate-dot
-    value-start-requires
-    row-length-requires
-    dot-requires
-    same-length-2
-    same-length-3
-    returns-2
-    same-length-4
-    same-length-5
-    returns-3)
+    (tie.spec slice-read-count row-room-requires slice-aggregate-find find-requires append-requires add-t24 same-length returns
+    slice-read-p slice-read-n cast-n cast-k array-share-prefix-c slice-aggregate-put put-requires array-share-prefix-c-2
+    slice-aggregate-dot value-start-requires row-length-requires dot-requires same-length-2 same-length-3 returns-2
+    same-length-4 same-length-5 returns-3)

@@ -132,23 +132,5 @@ returns-5 c =
 pub is-modulus-spec : {M : Type 1} → statement M
 is-modulus-spec =
     tie.close
-    (tie.spec
-    Inv-loop
-    μ-loop
-    returns
-    returns-2
-    loop-holds
-    div-if3
-    returns-3
-    rem-if4
-    returns-4
-    gaps-requires
-    add-part
-    mul-w
-    array-read-w
-    add-i
-    cast-q
-    add-q
-    loop-less
-    loop-again
-    returns-5)
+    (tie.spec Inv-loop μ-loop returns returns-2 loop-holds div-if3 returns-3 rem-if4 returns-4 gaps-requires add-part mul-w
+    array-read-w add-i cast-q add-q loop-less loop-again returns-5)

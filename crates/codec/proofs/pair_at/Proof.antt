@@ -46,12 +46,4 @@ returns c =
 pub pair-at-spec : {M : Type 1} → statement M
 pair-at-spec =
     tie.close
-    (tie.spec
-    shared-slice-read-a
-    cast-a
-    add-b
-    shared-slice-read-b
-    cast-b
-    mul-result
-    add-result
-    returns)
+    (tie.spec shared-slice-read-a cast-a add-b shared-slice-read-b cast-b mul-result add-result returns)

@@ -53,17 +53,5 @@ returns c = number-stores (c .args .at) (c .args .x) (c .args .bytes .now) (c .p
 pub put-number-spec : {M : Type 1} → statement M
 put-number-spec =
     tie.close
-    (tie.spec
-    cast-bytes
-    slice-write-bytes
-    cast-bytes-2
-    add-bytes
-    slice-write-bytes-2
-    cast-bytes-3
-    add-bytes-2
-    slice-write-bytes-3
-    cast-bytes-4
-    add-bytes-3
-    slice-write-bytes-4
-    same-length
-    returns)
+    (tie.spec cast-bytes slice-write-bytes cast-bytes-2 add-bytes slice-write-bytes-2 cast-bytes-3 add-bytes-2 slice-write-bytes-3
+    cast-bytes-4 add-bytes-3 slice-write-bytes-4 same-length returns)

@@ -73,13 +73,5 @@ returns-2 c = rw (from (c .before .before .before .before)) (c .before .before .
 pub put-signed-spec : {M : Type 1} → statement M
 put-signed-spec =
     tie.close
-    (tie.spec
-    size-of-requires
-    slice-aggregate-put-bytes
-    put-bytes-requires
-    put-decimal-requires
-    same-length
-    returns
-    put-decimal-requires-2
-    same-length-2
-    returns-2)
+    (tie.spec size-of-requires slice-aggregate-put-bytes put-bytes-requires put-decimal-requires same-length returns
+    put-decimal-requires-2 same-length-2 returns-2)

@@ -27,10 +27,4 @@ returns c = rw (c .table-number .ensures) (ap exported (c .before .before .befor
 pub dauneroad-quasiinverse-spec : {M : Type 1} → statement M
 dauneroad-quasiinverse-spec =
     tie.close
-    (tie.spec
-    quasiinverse-requires
-    table-number-requires
-    same-length
-    same-length-2
-    same-length-3
-    returns)
+    (tie.spec quasiinverse-requires table-number-requires same-length same-length-2 same-length-3 returns)

@@ -49,12 +49,4 @@ returns-2 c =
 pub dauneroad-read-spec : {M : Type 1} → statement M
 dauneroad-read-spec =
     tie.close
-    (tie.spec
-    read-requires
-    enum-known-v
-    enum-known-kind
-    number-of-requires
-    same-length
-    returns
-    same-length-2
-    returns-2)
+    (tie.spec read-requires enum-known-v enum-known-kind number-of-requires same-length returns same-length-2 returns-2)

@@ -25,10 +25,4 @@ returns-2 c = search needs
 pub table-number-spec : {M : Type 1} → statement M
 table-number-spec =
     tie.close
-    (tie.spec
-    enum-known-answer
-    add-result
-    enum-known-answer-2
-    number-of-requires
-    returns
-    returns-2)
+    (tie.spec enum-known-answer add-result enum-known-answer-2 number-of-requires returns returns-2)

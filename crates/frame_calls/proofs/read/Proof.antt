@@ -51,12 +51,4 @@ returns-3 c =
 pub read-spec : {M : Type 1} → statement M
 read-spec =
     tie.close
-    (tie.spec
-    frame-sizes-requires
-    enum-known-kind
-    returns
-    enum-told
-    returns-2
-    read-frame-requires
-    same-length
-    returns-3)
+    (tie.spec frame-sizes-requires enum-known-kind returns enum-told returns-2 read-frame-requires same-length returns-3)

@@ -100,16 +100,5 @@ returns-6 c =
 pub seal-spec : {M : Type 1} → statement M
 seal-spec =
     tie.close
-    (tie.spec
-    frame-sizes-requires
-    enum-known-kind
-    returns
-    enum-told
-    returns-2
-    returns-3
-    all-below-requires
-    returns-4
-    all-records-requires
-    returns-5
-    value-of-requires
-    returns-6)
+    (tie.spec frame-sizes-requires enum-known-kind returns enum-told returns-2 returns-3 all-below-requires returns-4
+    all-records-requires returns-5 value-of-requires returns-6)

@@ -107,17 +107,5 @@ returns-6 c =
 pub write-spec : {M : Type 1} → statement M
 write-spec =
     tie.close
-    (tie.spec
-    frame-sizes-requires
-    enum-known-kind
-    returns
-    enum-told
-    returns-2
-    returns-3
-    all-below-requires
-    returns-4
-    returns-5
-    write-frame-requires
-    cast-t18
-    same-length
-    returns-6)
+    (tie.spec frame-sizes-requires enum-known-kind returns enum-told returns-2 returns-3 all-below-requires returns-4 returns-5
+    write-frame-requires cast-t18 same-length returns-6)

@@ -88,17 +88,5 @@ returns-5 c =
 pub kernel-spec : {M : Type 1} → statement M
 kernel-spec =
     tie.close
-    (tie.spec
-    table-sizes-requires
-    enum-known-kind
-    returns
-    enum-told
-    mul-if1
-    returns-2
-    mul-if2
-    returns-3
-    all-below-requires
-    returns-4
-    kernel-of-requires
-    same-length
-    returns-5)
+    (tie.spec table-sizes-requires enum-known-kind returns enum-told mul-if1 returns-2 mul-if2 returns-3 all-below-requires
+    returns-4 kernel-of-requires same-length returns-5)

@@ -127,21 +127,5 @@ returns-7 c =
 pub quasiinverse-spec : {M : Type 1} → statement M
 quasiinverse-spec =
     tie.close
-    (tie.spec
-    table-sizes-requires
-    enum-known-kind
-    returns
-    enum-told
-    mul-if1
-    returns-2
-    mul-if2
-    returns-3
-    returns-4
-    returns-5
-    all-below-requires
-    returns-6
-    invert-ranked-requires
-    same-length
-    same-length-2
-    same-length-3
-    returns-7)
+    (tie.spec table-sizes-requires enum-known-kind returns enum-told mul-if1 returns-2 mul-if2 returns-3 returns-4 returns-5
+    all-below-requires returns-6 invert-ranked-requires same-length same-length-2 same-length-3 returns-7)

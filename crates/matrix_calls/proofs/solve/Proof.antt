@@ -138,21 +138,5 @@ returns-8 c =
 pub solve-spec : {M : Type 1} → statement M
 solve-spec =
     tie.close
-    (tie.spec
-    table-sizes-requires
-    enum-known-kind
-    returns
-    enum-told
-    mul-if1
-    returns-2
-    returns-3
-    returns-4
-    returns-5
-    all-below-requires
-    returns-6
-    all-below-requires-2
-    returns-7
-    solve-of-requires
-    same-length
-    same-length-2
-    returns-8)
+    (tie.spec table-sizes-requires enum-known-kind returns enum-told mul-if1 returns-2 returns-3 returns-4 returns-5
+    all-below-requires returns-6 all-below-requires-2 returns-7 solve-of-requires same-length same-length-2 returns-8)

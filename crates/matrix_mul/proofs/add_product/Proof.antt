@@ -74,17 +74,5 @@ returns c =
 pub add-product-spec : {M : Type 1} → statement M
 add-product-spec =
     tie.close
-    (tie.spec
-    Inv-loop
-    μ-loop
-    loop-holds
-    mul-x-at
-    add-x-at
-    mul-z-at
-    add-z-at
-    add-row-requires
-    add-i
-    loop-less
-    loop-again
-    same-length
-    returns)
+    (tie.spec Inv-loop μ-loop loop-holds mul-x-at add-x-at mul-z-at add-z-at add-row-requires add-i loop-less loop-again
+    same-length returns)

@@ -107,21 +107,5 @@ returns c =
 pub add-product-within-spec : {M : Type 1} → statement M
 add-product-within-spec =
     tie.close
-    (tie.spec
-    Inv-loop
-    μ-loop
-    each-row-requires
-    loop-holds
-    mul-mark
-    shared-slice-read-mark
-    mul-x-at
-    add-x-at
-    mul-z-at
-    add-z-at
-    slice-aggregate-add-row-within
-    add-row-within-requires
-    add-i
-    loop-less
-    loop-again
-    same-length
-    returns)
+    (tie.spec Inv-loop μ-loop each-row-requires loop-holds mul-mark shared-slice-read-mark mul-x-at add-x-at mul-z-at add-z-at
+    slice-aggregate-add-row-within add-row-within-requires add-i loop-less loop-again same-length returns)

@@ -67,19 +67,5 @@ returns-2 c =
 pub add-row-spec : {M : Type 1} → statement M
 add-row-spec =
     tie.close
-    (tie.spec
-    add-x-end
-    mul-by
-    sub-by
-    part-by-start
-    part-by-end
-    all-zero-requires
-    returns
-    add-z-end
-    mul-combine-listed
-    sub-combine-listed
-    part-combine-listed-start
-    part-combine-listed-end
-    combine-listed-requires
-    same-length
-    returns-2)
+    (tie.spec add-x-end mul-by sub-by part-by-start part-by-end all-zero-requires returns add-z-end mul-combine-listed
+    sub-combine-listed part-combine-listed-start part-combine-listed-end combine-listed-requires same-length returns-2)

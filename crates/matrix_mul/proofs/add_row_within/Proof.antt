@@ -51,12 +51,5 @@ returns-2 c =
 pub add-row-within-spec : {M : Type 1} → statement M
 add-row-within-spec =
     tie.close
-    (tie.spec
-    returns
-    row-room-requires
-    slice-aggregate-copy
-    copy-requires
-    slice-aggregate-add-row
-    add-row-requires
-    same-length
+    (tie.spec returns row-room-requires slice-aggregate-copy copy-requires slice-aggregate-add-row add-row-requires same-length
     returns-2)

@@ -69,19 +69,5 @@ returns c =
 pub list-marked-spec : {M : Type 1} → statement M
 list-marked-spec =
     tie.close
-    (tie.spec
-    Inv-loop
-    μ-loop
-    loop-holds
-    sub-t
-    cast-next
-    mul-next
-    slice-write-next
-    mul-if1
-    shared-slice-read-if1
-    loop-less
-    loop-again
-    loop-less-2
-    loop-again-2
-    same-length
-    returns)
+    (tie.spec Inv-loop μ-loop loop-holds sub-t cast-next mul-next slice-write-next mul-if1 shared-slice-read-if1 loop-less
+    loop-again loop-less-2 loop-again-2 same-length returns)

@@ -83,17 +83,5 @@ returns c =
 pub negate-spec : {M : Type 1} → statement M
 negate-spec =
     tie.close
-    (tie.spec
-    Inv-loop
-    μ-loop
-    loop-holds
-    mul-minus
-    slice-read-minus
-    minus-requires
-    mul-xs
-    slice-write-xs
-    add-j
-    loop-less
-    loop-again
-    same-length
-    returns)
+    (tie.spec Inv-loop μ-loop loop-holds mul-minus slice-read-minus minus-requires mul-xs slice-write-xs add-j loop-less
+    loop-again same-length returns)

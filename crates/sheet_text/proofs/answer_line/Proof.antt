@@ -52,18 +52,6 @@ returns-3 c = rw (c .before .before .before .before .before .answer3 .given .1) 
 pub answer-line-spec : {M : Type 1} → statement M
 answer-line-spec =
     tie.close
-    (tie.spec
-    enum-known-answer
-    slice-aggregate-word-line
-    word-line-requires
-    enum-known-answer-2
-    slice-aggregate-word-line-2
-    word-line-requires-2
-    enum-known-answer-3
-    refusal-line-requires
-    same-length
-    returns
-    same-length-2
-    returns-2
-    same-length-3
-    returns-3)
+    (tie.spec enum-known-answer slice-aggregate-word-line word-line-requires enum-known-answer-2 slice-aggregate-word-line-2
+    word-line-requires-2 enum-known-answer-3 refusal-line-requires same-length returns same-length-2 returns-2
+    same-length-3 returns-3)

@@ -43,11 +43,4 @@ returns-2 c =
 pub put-record-spec : {M : Type 1} → statement M
 put-record-spec =
     tie.close
-    (tie.spec
-    put-signed-requires
-    same-length
-    returns
-    slice-aggregate-put-bytes
-    put-bytes-requires
-    same-length-2
-    returns-2)
+    (tie.spec put-signed-requires same-length returns slice-aggregate-put-bytes put-bytes-requires same-length-2 returns-2)

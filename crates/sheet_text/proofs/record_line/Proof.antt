@@ -72,12 +72,5 @@ returns c =
 pub record-line-spec : {M : Type 1} → statement M
 record-line-spec =
     tie.close
-    (tie.spec
-    put-decimal-requires
-    slice-aggregate-put-bytes
-    put-bytes-requires
-    put-record-requires
-    slice-aggregate-put-bytes-2
-    put-bytes-requires-2
-    same-length
-    returns)
+    (tie.spec put-decimal-requires slice-aggregate-put-bytes put-bytes-requires put-record-requires slice-aggregate-put-bytes-2
+    put-bytes-requires-2 same-length returns)

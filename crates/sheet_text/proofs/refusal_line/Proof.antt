@@ -45,13 +45,5 @@ returns-2 c =
 pub refusal-line-spec : {M : Type 1} → statement M
 refusal-line-spec =
     tie.close
-    (tie.spec
-    number-of-requires
-    slice-aggregate-word-line
-    word-line-requires
-    same-length
-    returns
-    slice-aggregate-word-line-2
-    word-line-requires-2
-    same-length-2
-    returns-2)
+    (tie.spec number-of-requires slice-aggregate-word-line word-line-requires same-length returns slice-aggregate-word-line-2
+    word-line-requires-2 same-length-2 returns-2)

@@ -55,10 +55,4 @@ returns c =
 pub word-line-spec : {M : Type 1} → statement M
 word-line-spec =
     tie.close
-    (tie.spec
-    put-bytes-requires
-    put-decimal-requires
-    slice-aggregate-put-bytes
-    put-bytes-requires-2
-    same-length
-    returns)
+    (tie.spec put-bytes-requires put-decimal-requires slice-aggregate-put-bytes put-bytes-requires-2 same-length returns)

@@ -77,11 +77,4 @@ returns-3 c =
 pub residue-spec : {M : Type 1} → statement M
 residue-spec =
     tie.close
-    (tie.spec
-    is-modulus-requires
-    returns
-    low-end-requires
-    in-range-requires
-    returns-2
-    residue-from-requires
-    returns-3)
+    (tie.spec is-modulus-requires returns low-end-requires in-range-requires returns-2 residue-from-requires returns-3)

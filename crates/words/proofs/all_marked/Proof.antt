@@ -41,14 +41,4 @@ returns-2 c = tells-yes (λ t h. c .before .loop .inv .1 t (omega arith))
 pub all-marked-spec : {M : Type 1} → statement M
 all-marked-spec =
     tie.close
-    (tie.spec
-    Inv-loop
-    μ-loop
-    loop-holds
-    mul-if1
-    shared-slice-read-if1
-    returns
-    add-j
-    loop-less
-    loop-again
-    returns-2)
+    (tie.spec Inv-loop μ-loop loop-holds mul-if1 shared-slice-read-if1 returns add-j loop-less loop-again returns-2)

@@ -48,16 +48,5 @@ returns-2 c =
 pub first-difference-spec : {M : Type 1} → statement M
 first-difference-spec =
     tie.close
-    (tie.spec
-    Inv-loop
-    μ-loop
-    loop-holds
-    mul-if1
-    shared-slice-read-if1
-    mul-if1-2
-    shared-slice-read-if1-2
-    returns
-    add-i
-    loop-less
-    loop-again
-    returns-2)
+    (tie.spec Inv-loop μ-loop loop-holds mul-if1 shared-slice-read-if1 mul-if1-2 shared-slice-read-if1-2 returns add-i loop-less
+    loop-again returns-2)

@@ -115,20 +115,6 @@ returns c =
 pub find-spec : {M : Type 1} → statement M
 find-spec =
     tie.close
-    (tie.spec
-    shared-slice-read-p
-    shared-slice-read-n
-    cast-n
-    shared-slice-read-k
-    cast-k
-    mix-rows-requires
-    row-room-requires
-    slice-reshare-prefix-mix-rows
-    slice-aggregate-mix-rows
-    slice-aggregate-mix-rows-2
-    mix-rows-requires-2
-    array-share-prefix-g
-    slice-aggregate-same
-    same-requires
-    same-length
-    returns)
+    (tie.spec shared-slice-read-p shared-slice-read-n cast-n shared-slice-read-k cast-k mix-rows-requires row-room-requires
+    slice-reshare-prefix-mix-rows slice-aggregate-mix-rows slice-aggregate-mix-rows-2 mix-rows-requires-2
+    array-share-prefix-g slice-aggregate-same same-requires same-length returns)

@@ -45,9 +45,4 @@ returns c =
 pub mix-rows-spec : {M : Type 1} → statement M
 mix-rows-spec =
     tie.close
-    (tie.spec
-    slice-relend-prefix-combine
-    slice-aggregate-combine
-    combine-requires
-    same-length
-    returns)
+    (tie.spec slice-relend-prefix-combine slice-aggregate-combine combine-requires same-length returns)

@@ -56,14 +56,4 @@ returns-2 c = tells-yes (λ t h. c .before .loop .inv .1 t (omega arith))
 pub is-unit-spec : {M : Type 1} → statement M
 is-unit-spec =
     tie.close
-    (tie.spec
-    Inv-loop
-    μ-loop
-    loop-holds
-    mul-if2
-    shared-slice-read-if2
-    returns
-    add-t
-    loop-less
-    loop-again
-    returns-2)
+    (tie.spec Inv-loop μ-loop loop-holds mul-if2 shared-slice-read-if2 returns add-t loop-less loop-again returns-2)

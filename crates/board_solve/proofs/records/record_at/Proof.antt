@@ -96,16 +96,5 @@ returns c =
 pub record-at-spec : {M : Type 1} → statement M
 record-at-spec =
     tie.close
-    (tie.spec
-    mul-at
-    add-end
-    mul-dot
-    sub-dot
-    part-dot-start
-    part-dot-end
-    value-start-requires
-    row-length-requires
-    dot-requires
-    low-end-requires
-    read-from-requires
-    returns)
+    (tie.spec mul-at add-end mul-dot sub-dot part-dot-start part-dot-end value-start-requires row-length-requires dot-requires
+    low-end-requires read-from-requires returns)

@@ -85,19 +85,5 @@ returns-2 c =
 pub settled-spec : {M : Type 1} → statement M
 settled-spec =
     tie.close
-    (tie.spec
-    mul-at
-    add-end
-    mul-row
-    sub-row
-    part-row-start
-    part-row-end
-    all-zero-requires
-    returns
-    row-room-requires
-    slice-aggregate-mix-rows
-    mix-rows-requires
-    array-share-prefix-e
-    slice-aggregate-is-unit
-    is-unit-requires
-    returns-2)
+    (tie.spec mul-at add-end mul-row sub-row part-row-start part-row-end all-zero-requires returns row-room-requires
+    slice-aggregate-mix-rows mix-rows-requires array-share-prefix-e slice-aggregate-is-unit is-unit-requires returns-2)

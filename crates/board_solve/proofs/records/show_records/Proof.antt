@@ -138,28 +138,6 @@ returns c =
 pub show-records-spec : {M : Type 1} → statement M
 show-records-spec =
     tie.close
-    (tie.spec
-    Inv-loop
-    μ-loop
-    shared-slice-read-p
-    shared-slice-read-n
-    cast-n
-    shared-slice-read-k
-    cast-k
-    loop-holds
-    settled-requires
-    mul-marks
-    slice-write-marks
-    record-at-requires
-    mul-t16
-    slice-set-from-numbers
-    mul-marks-2
-    slice-write-marks-2
-    mul-numbers
-    slice-set-of-numbers
-    add-j
-    loop-less
-    loop-again
-    same-length
-    same-length-2
-    returns)
+    (tie.spec Inv-loop μ-loop shared-slice-read-p shared-slice-read-n cast-n shared-slice-read-k cast-k loop-holds
+    settled-requires mul-marks slice-write-marks record-at-requires mul-t16 slice-set-from-numbers mul-marks-2
+    slice-write-marks-2 mul-numbers slice-set-of-numbers add-j loop-less loop-again same-length same-length-2 returns)

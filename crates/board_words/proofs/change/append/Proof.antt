@@ -73,13 +73,5 @@ returns c =
 pub append-spec : {M : Type 1} → statement M
 append-spec =
     tie.close
-    (tie.spec
-    row-start-requires
-    put-requires
-    value-start-requires
-    mul-board
-    slice-write-board
-    add-board
-    slice-write-board-2
-    same-length
-    returns)
+    (tie.spec row-start-requires put-requires value-start-requires mul-board slice-write-board add-board slice-write-board-2
+    same-length returns)

@@ -65,14 +65,5 @@ returns c =
 pub drop-rows-spec : {M : Type 1} → statement M
 drop-rows-spec =
     tie.close
-    (tie.spec
-    row-start-requires
-    row-start-requires-2
-    mul-clear
-    sub-clear
-    part-clear-start
-    part-clear-end
-    clear-requires
-    slice-write-board
-    same-length
-    returns)
+    (tie.spec row-start-requires row-start-requires-2 mul-clear sub-clear part-clear-start part-clear-end clear-requires
+    slice-write-board same-length returns)

@@ -74,19 +74,5 @@ returns c =
 pub copy-rows-spec : {M : Type 1} → statement M
 copy-rows-spec =
     tie.close
-    (tie.spec
-    Inv-loop
-    μ-loop
-    loop-holds
-    row-start-requires
-    mul-to
-    mul-copy
-    sub-copy
-    part-copy-start
-    part-copy-end
-    copy-requires
-    add-i
-    loop-less
-    loop-again
-    same-length
-    returns)
+    (tie.spec Inv-loop μ-loop loop-holds row-start-requires mul-to mul-copy sub-copy part-copy-start part-copy-end copy-requires
+    add-i loop-less loop-again same-length returns)

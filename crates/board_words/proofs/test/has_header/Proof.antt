@@ -77,18 +77,6 @@ returns-4 c =
 pub has-header-spec : {M : Type 1} → statement M
 has-header-spec =
     tie.close
-    (tie.spec
-    returns
-    shared-slice-read-frame-sizes
-    shared-slice-read-frame-sizes-2
-    frame-sizes-requires
-    enum-told
-    enum-told-2
-    returns-2
-    shared-slice-read-n
-    cast-n
-    board-length-requires
-    returns-3
-    shared-slice-read-result
-    shared-slice-read-result-2
-    returns-4)
+    (tie.spec returns shared-slice-read-frame-sizes shared-slice-read-frame-sizes-2 frame-sizes-requires enum-told enum-told-2
+    returns-2 shared-slice-read-n cast-n board-length-requires returns-3 shared-slice-read-result
+    shared-slice-read-result-2 returns-4)

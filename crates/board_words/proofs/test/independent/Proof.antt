@@ -160,28 +160,8 @@ returns c =
 pub independent-spec : {M : Type 1} → statement M
 independent-spec =
     tie.close
-    (tie.spec
-    shared-slice-read-n
-    cast-n
-    shared-slice-read-k
-    cast-k
-    copy-rows-requires
-    mul-size
-    row-room-requires
-    row-room-requires-2
-    shared-slice-read-eliminate
-    slice-reshare-prefix-eliminate
-    slice-aggregate-eliminate
-    slice-relend-prefix-eliminate
-    slice-aggregate-eliminate-2
-    array-borrow-prefix-columns
-    slice-aggregate-eliminate-3
-    array-borrow-prefix-chosen
-    slice-aggregate-eliminate-4
-    eliminate-requires
-    array-share-prefix-chosen
-    slice-aggregate-all-marked
-    all-marked-requires
-    same-length
-    same-length-2
-    returns)
+    (tie.spec shared-slice-read-n cast-n shared-slice-read-k cast-k copy-rows-requires mul-size row-room-requires
+    row-room-requires-2 shared-slice-read-eliminate slice-reshare-prefix-eliminate slice-aggregate-eliminate
+    slice-relend-prefix-eliminate slice-aggregate-eliminate-2 array-borrow-prefix-columns slice-aggregate-eliminate-3
+    array-borrow-prefix-chosen slice-aggregate-eliminate-4 eliminate-requires array-share-prefix-chosen
+    slice-aggregate-all-marked all-marked-requires same-length same-length-2 returns)

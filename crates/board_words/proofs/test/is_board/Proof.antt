@@ -48,12 +48,4 @@ returns-3 c =
 pub is-board-spec : {M : Type 1} → statement M
 is-board-spec =
     tie.close
-    (tie.spec
-    has-header-requires
-    returns
-    is-filled-requires
-    returns-2
-    independent-requires
-    same-length
-    same-length-2
-    returns-3)
+    (tie.spec has-header-requires returns is-filled-requires returns-2 independent-requires same-length same-length-2 returns-3)

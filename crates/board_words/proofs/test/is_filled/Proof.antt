@@ -86,21 +86,6 @@ returns-2 c =
 pub is-filled-spec : {M : Type 1} → statement M
 is-filled-spec =
     tie.close
-    (tie.spec
-    shared-slice-read-n
-    cast-n
-    shared-slice-read-k
-    cast-k
-    row-start-requires
-    shared-slice-read-all-below
-    sub-all-below
-    part-all-below-start
-    part-all-below-end
-    all-below-requires
-    returns
-    mul-all-zero
-    sub-all-zero
-    part-all-zero-start
-    part-all-zero-end
-    all-zero-requires
-    returns-2)
+    (tie.spec shared-slice-read-n cast-n shared-slice-read-k cast-k row-start-requires shared-slice-read-all-below sub-all-below
+    part-all-below-start part-all-below-end all-below-requires returns mul-all-zero sub-all-zero part-all-zero-start
+    part-all-zero-end all-zero-requires returns-2)

@@ -78,14 +78,4 @@ returns c =
 pub inverse-spec : {M : Type 1} → statement M
 inverse-spec =
     tie.close
-    (tie.spec
-    Inv-loop
-    μ-loop
-    loop-holds
-    div-times
-    times-requires
-    minus-requires
-    rem-x
-    loop-less
-    loop-again
-    returns)
+    (tie.spec Inv-loop μ-loop loop-holds div-times times-requires minus-requires rem-x loop-less loop-again returns)

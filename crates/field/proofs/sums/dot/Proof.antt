@@ -103,23 +103,5 @@ returns c =
 pub dot-spec : {M : Type 1} → statement M
 dot-spec =
     tie.close
-    (tie.spec
-    Inv-loop
-    μ-loop
-    loop-holds
-    mul-x
-    shared-slice-read-x
-    cast-x
-    mul-x-2
-    add-x
-    mul-x-3
-    shared-slice-read-x-2
-    cast-x-2
-    mul-x-4
-    add-lo
-    add-hi
-    add-t
-    loop-less
-    loop-again
-    reduced-requires
-    returns)
+    (tie.spec Inv-loop μ-loop loop-holds mul-x shared-slice-read-x cast-x mul-x-2 add-x mul-x-3 shared-slice-read-x-2 cast-x-2
+    mul-x-4 add-lo add-hi add-t loop-less loop-again reduced-requires returns)

@@ -69,18 +69,5 @@ returns c =
 pub of-spec : {M : Type 1} → statement M
 of-spec =
     tie.close
-    (tie.spec
-    Inv-loop
-    μ-loop
-    loop-holds
-    mul-if1
-    shared-slice-read-if1
-    cast-map
-    shl-map
-    array-read-map
-    add-map
-    array-write-map
-    add-j
-    loop-less
-    loop-again
-    returns)
+    (tie.spec Inv-loop μ-loop loop-holds mul-if1 shared-slice-read-if1 cast-map shl-map array-read-map add-map array-write-map
+    add-j loop-less loop-again returns)

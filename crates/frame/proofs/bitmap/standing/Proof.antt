@@ -57,14 +57,4 @@ returns c =
 pub standing-spec : {M : Type 1} → statement M
 standing-spec =
     tie.close
-    (tie.spec
-    Inv-loop
-    μ-loop
-    loop-holds
-    array-read-total
-    cast-total
-    add-total
-    add-b
-    loop-less
-    loop-again
-    returns)
+    (tie.spec Inv-loop μ-loop loop-holds array-read-total cast-total add-total add-b loop-less loop-again returns)

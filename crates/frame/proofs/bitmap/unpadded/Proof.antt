@@ -44,13 +44,4 @@ returns-2 c = tells-yes (λ j h n. c .before .loop .inv .1 j (omega arith) n)
 pub unpadded-spec : {M : Type 1} → statement M
 unpadded-spec =
     tie.close
-    (tie.spec
-    Inv-loop
-    μ-loop
-    loop-holds
-    stands-requires
-    returns
-    add-j
-    loop-less
-    loop-again
-    returns-2)
+    (tie.spec Inv-loop μ-loop loop-holds stands-requires returns add-j loop-less loop-again returns-2)

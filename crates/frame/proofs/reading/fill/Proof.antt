@@ -76,19 +76,5 @@ returns c = filling-all _ _ _ _ _ _ _ (c .before .loop .inv) (omega (arith, c .b
 pub fill-spec : {M : Type 1} → statement M
 fill-spec =
     tie.close
-    (tie.spec
-    Inv-loop
-    μ-loop
-    loop-holds
-    stands-requires
-    number-at-requires
-    mul-multipliers
-    slice-write-multipliers
-    add-at
-    mul-multipliers-2
-    slice-write-multipliers-2
-    add-j
-    loop-less
-    loop-again
-    same-length
-    returns)
+    (tie.spec Inv-loop μ-loop loop-holds stands-requires number-at-requires mul-multipliers slice-write-multipliers add-at
+    mul-multipliers-2 slice-write-multipliers-2 add-j loop-less loop-again same-length returns)

@@ -2,16 +2,7 @@
 -- left and the value decide.
 use native.Mathlib.Omega.{arith}
 use Rattle.codec.specs.BigEndian.{width}
-use Rattle.frame.proofs.ReadJudging.{
-  Judging,
-  judging-none,
-  judging-room,
-  judging-zero,
-  judging-large,
-  judging-more,
-  judging-value-large,
-  judging-value,
-}
+use Rattle.frame.proofs.ReadJudging.{Judging, judging-none, judging-room, judging-zero, judging-large, judging-more, judging-value-large, judging-value}
 use Rattle.frame.proofs.reading.judged.Statement.{statement}
 use Rattle.frame.proofs.reading.judged.Tie as tie
 
@@ -69,17 +60,5 @@ returns-4 c =
 pub judged-spec : {M : Type 1} → statement M
 judged-spec =
     tie.close
-    (tie.spec
-    Inv-loop
-    μ-loop
-    loop-holds
-    number-at-requires
-    returns
-    returns-2
-    add-at
-    sub-left
-    loop-less
-    loop-again
-    number-at-requires-2
-    returns-3
-    returns-4)
+    (tie.spec Inv-loop μ-loop loop-holds number-at-requires returns returns-2 add-at sub-left loop-less loop-again
+    number-at-requires-2 returns-3 returns-4)

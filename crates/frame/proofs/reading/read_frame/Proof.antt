@@ -9,19 +9,8 @@ use Rattle.codec.specs.BigEndian.{width}
 use Rattle.frame.specs.Format.{mapLength}
 use Rattle.frame.specs.Stages.{Judged}
 use Rattle.frame.proofs.BitMaps.{standing-small, standing-first}
-use Rattle.frame.proofs.ReadChecks.{
-  Mapped,
-  Counted,
-  frame-short,
-  frame-padded,
-  frame-other-length,
-  frame-number,
-  frame-good,
-  value-read,
-  multipliers-read,
-  frame-refused,
-  frame-accepted,
-}
+use Rattle.frame.proofs.ReadChecks.{Mapped, Counted, frame-short, frame-padded, frame-other-length, frame-number, frame-good, value-read}
+use Rattle.frame.proofs.ReadChecks.{multipliers-read, frame-refused, frame-accepted}
 use Rattle.frame.proofs.reading.read_frame.Statement.{statement}
 use Rattle.frame.proofs.reading.read_frame.Tie as tie
 
@@ -132,21 +121,5 @@ returns-5 c =
 pub read-frame-spec : {M : Type 1} → statement M
 read-frame-spec =
     tie.close
-    (tie.spec
-    add-len
-    returns
-    from-bytes-requires
-    unpadded-requires
-    returns-2
-    standing-requires
-    mul-if3
-    add-if3
-    add-if3-2
-    returns-3
-    judged-requires
-    enum-known-value
-    fill-requires
-    enum-known-kind
-    same-length
-    returns-4
-    returns-5)
+    (tie.spec add-len returns from-bytes-requires unpadded-requires returns-2 standing-requires mul-if3 add-if3 add-if3-2
+    returns-3 judged-requires enum-known-value fill-requires enum-known-kind same-length returns-4 returns-5)

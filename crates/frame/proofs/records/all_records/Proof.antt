@@ -74,16 +74,5 @@ returns-2 c = tells-yes (λ k h. c .before .loop .inv .1 k (omega arith))
 pub all-records-spec : {M : Type 1} → statement M
 all-records-spec =
     tie.close
-    (tie.spec
-    Inv-loop
-    μ-loop
-    low-end-requires
-    loop-holds
-    mul-in-range
-    shared-slice-copy-out-in-range
-    in-range-requires
-    returns
-    add-i
-    loop-less
-    loop-again
-    returns-2)
+    (tie.spec Inv-loop μ-loop low-end-requires loop-holds mul-in-range shared-slice-copy-out-in-range in-range-requires returns
+    add-i loop-less loop-again returns-2)

@@ -6,15 +6,7 @@ use Prim.Native.Nat.{_≤_, _+_, _-_}
 use native.Mathlib.Omega.{arith}
 use lib.ListN.{length}
 use Rattle.codec.specs.BigEndian.{width}
-use Rattle.frame.proofs.WriteNumbers.{
-  Packing,
-  packing-none,
-  packing-length,
-  packing-room,
-  packing-skip,
-  packing-more,
-  packing-all,
-}
+use Rattle.frame.proofs.WriteNumbers.{Packing, packing-none, packing-length, packing-room, packing-skip, packing-more, packing-all}
 use Rattle.frame.proofs.WriteMap.{stands-of, absent-of}
 use Rattle.frame.proofs.writer.put_multipliers.Statement.{statement}
 use Rattle.frame.proofs.writer.put_multipliers.Tie as tie
@@ -96,17 +88,5 @@ returns c =
 pub put-multipliers-spec : {M : Type 1} → statement M
 put-multipliers-spec =
     tie.close
-    (tie.spec
-    Inv-loop
-    μ-loop
-    loop-holds
-    stands-requires
-    mul-put-number
-    shared-slice-read-put-number
-    put-number-requires
-    add-at
-    add-j
-    loop-less
-    loop-again
-    same-length
-    returns)
+    (tie.spec Inv-loop μ-loop loop-holds stands-requires mul-put-number shared-slice-read-put-number put-number-requires add-at
+    add-j loop-less loop-again same-length returns)

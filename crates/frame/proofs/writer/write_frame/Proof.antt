@@ -105,15 +105,5 @@ returns c =
 pub write-frame-spec : {M : Type 1} → statement M
 write-frame-spec =
     tie.close
-    (tie.spec
-    of-requires
-    add-len
-    standing-requires
-    mul-end
-    add-end
-    put-requires
-    put-multipliers-requires
-    put-number-requires
-    add-result
-    same-length
-    returns)
+    (tie.spec of-requires add-len standing-requires mul-end add-end put-requires put-multipliers-requires put-number-requires
+    add-result same-length returns)

@@ -82,18 +82,5 @@ returns c = λ i h. c .before .loop .inv .1 .passed i (omega arith)
 pub put-residues-spec : {M : Type 1} → statement M
 put-residues-spec =
     tie.close
-    (tie.spec
-    Inv-loop
-    μ-loop
-    low-end-requires
-    loop-holds
-    mul-residue-from
-    shared-slice-copy-out-residue-from
-    residue-from-requires
-    mul-residues
-    slice-write-residues
-    add-i
-    loop-less
-    loop-again
-    same-length
-    returns)
+    (tie.spec Inv-loop μ-loop low-end-requires loop-holds mul-residue-from shared-slice-copy-out-residue-from
+    residue-from-requires mul-residues slice-write-residues add-i loop-less loop-again same-length returns)

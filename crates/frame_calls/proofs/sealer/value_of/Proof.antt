@@ -44,11 +44,5 @@ returns c =
 pub value-of-spec : {M : Type 1} → statement M
 value-of-spec =
     tie.close
-    (tie.spec
-    row-room-requires
-    slice-aggregate-put-residues
-    put-residues-requires
-    array-share-prefix-residues
-    slice-aggregate-dot
-    dot-requires
-    returns)
+    (tie.spec row-room-requires slice-aggregate-put-residues put-residues-requires array-share-prefix-residues slice-aggregate-dot
+    dot-requires returns)

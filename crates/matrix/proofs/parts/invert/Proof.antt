@@ -66,12 +66,4 @@ returns c ok =
 pub invert-spec : {M : Type 1} → statement M
 invert-spec =
     tie.close
-    (tie.spec
-    clear-requires
-    clear-requires-2
-    clear-requires-3
-    eliminate-requires
-    same-length
-    same-length-2
-    same-length-3
-    returns)
+    (tie.spec clear-requires clear-requires-2 clear-requires-3 eliminate-requires same-length same-length-2 same-length-3 returns)

@@ -72,15 +72,5 @@ returns c =
 pub kernel-vector-spec : {M : Type 1} → statement M
 kernel-vector-spec =
     tie.close
-    (tie.spec
-    Inv-loop
-    μ-loop
-    loop-holds
-    rest-entry-requires
-    mul-out
-    slice-write-out
-    add-j
-    loop-less
-    loop-again
-    same-length
+    (tie.spec Inv-loop μ-loop loop-holds rest-entry-requires mul-out slice-write-out add-j loop-less loop-again same-length
     returns)

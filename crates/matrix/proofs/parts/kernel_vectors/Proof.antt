@@ -138,29 +138,6 @@ returns c =
 pub kernel-vectors-spec : {M : Type 1} → statement M
 kernel-vectors-spec =
     tie.close
-    (tie.spec
-    Inv-loop
-    μ-loop
-    loop-holds
-    mul-if1
-    shared-slice-read-if1
-    mul-at
-    add-end
-    mul-kernel-vector
-    sub-kernel-vector
-    part-kernel-vector-start
-    part-kernel-vector-end
-    kernel-vector-requires
-    add-k
-    add-c
-    loop-less
-    loop-again
-    mul-rest
-    mul-clear
-    sub-clear
-    part-clear-start
-    part-clear-end
-    clear-requires
-    cast-result
-    same-length
-    returns)
+    (tie.spec Inv-loop μ-loop loop-holds mul-if1 shared-slice-read-if1 mul-at add-end mul-kernel-vector sub-kernel-vector
+    part-kernel-vector-start part-kernel-vector-end kernel-vector-requires add-k add-c loop-less loop-again mul-rest
+    mul-clear sub-clear part-clear-start part-clear-end clear-requires cast-result same-length returns)

@@ -54,14 +54,4 @@ returns-2 c =
 pub product-entry-spec : {M : Type 1} → statement M
 product-entry-spec =
     tie.close
-    (tie.spec
-    mul-start
-    add-end
-    mul-row
-    sub-row
-    part-row-start
-    part-row-end
-    all-zero-requires
-    returns
-    dot-requires
-    returns-2)
+    (tie.spec mul-start add-end mul-row sub-row part-row-start part-row-end all-zero-requires returns dot-requires returns-2)

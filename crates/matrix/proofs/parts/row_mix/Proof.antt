@@ -72,15 +72,4 @@ returns c =
 pub row-mix-spec : {M : Type 1} → statement M
 row-mix-spec =
     tie.close
-    (tie.spec
-    Inv-loop
-    μ-loop
-    loop-holds
-    rest-entry-requires
-    mul-u
-    slice-write-u
-    add-t
-    loop-less
-    loop-again
-    same-length
-    returns)
+    (tie.spec Inv-loop μ-loop loop-holds rest-entry-requires mul-u slice-write-u add-t loop-less loop-again same-length returns)

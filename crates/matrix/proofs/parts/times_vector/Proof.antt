@@ -72,15 +72,5 @@ returns c =
 pub times-vector-spec : {M : Type 1} → statement M
 times-vector-spec =
     tie.close
-    (tie.spec
-    Inv-loop
-    μ-loop
-    loop-holds
-    product-entry-requires
-    mul-out
-    slice-write-out
-    add-i
-    loop-less
-    loop-again
-    same-length
+    (tie.spec Inv-loop μ-loop loop-holds product-entry-requires mul-out slice-write-out add-i loop-less loop-again same-length
     returns)

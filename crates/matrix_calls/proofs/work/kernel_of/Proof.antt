@@ -71,17 +71,6 @@ returns c = c .before .before .before .before .before .kernel-with .ensures
 pub kernel-of-spec : {M : Type 1} → statement M
 kernel-of-spec =
     tie.close
-    (tie.spec
-    table-room-requires
-    row-room-requires
-    row-room-requires-2
-    mul-size
-    array-borrow-prefix-d
-    slice-aggregate-kernel-with
-    array-borrow-prefix-columns
-    slice-aggregate-kernel-with-2
-    array-borrow-prefix-rows
-    slice-aggregate-kernel-with-3
-    kernel-with-requires
-    same-length
-    returns)
+    (tie.spec table-room-requires row-room-requires row-room-requires-2 mul-size array-borrow-prefix-d slice-aggregate-kernel-with
+    array-borrow-prefix-columns slice-aggregate-kernel-with-2 array-borrow-prefix-rows slice-aggregate-kernel-with-3
+    kernel-with-requires same-length returns)

@@ -48,11 +48,4 @@ returns c ok =
 pub kernel-with-spec : {M : Type 1} → statement M
 kernel-with-spec =
     tie.close
-    (tie.spec
-    invert-requires
-    kernel-vectors-requires
-    same-length
-    same-length-2
-    same-length-3
-    same-length-4
-    returns)
+    (tie.spec invert-requires kernel-vectors-requires same-length same-length-2 same-length-3 same-length-4 returns)

@@ -115,19 +115,5 @@ returns-2 c ok is-D =
 pub solve-by-spec : {M : Type 1} → statement M
 solve-by-spec =
     tie.close
-    (tie.spec
-    times-vector-requires
-    times-vector-requires-2
-    first-difference-requires
-    row-mix-requires
-    same-length
-    same-length-2
-    same-length-3
-    returns
-    copy-requires
-    clear-requires
-    same-length-4
-    same-length-5
-    same-length-6
-    same-length-7
-    returns-2)
+    (tie.spec times-vector-requires times-vector-requires-2 first-difference-requires row-mix-requires same-length same-length-2
+    same-length-3 returns copy-requires clear-requires same-length-4 same-length-5 same-length-6 same-length-7 returns-2)

@@ -156,30 +156,8 @@ returns-2 c ok =
 pub solve-of-spec : {M : Type 1} → statement M
 solve-of-spec =
     tie.close
-    (tie.spec
-    table-room-requires
-    row-room-requires
-    row-room-requires-2
-    row-room-requires-3
-    row-room-requires-4
-    mul-size
-    array-borrow-prefix-d
-    slice-aggregate-invert-ranked
-    array-borrow-prefix-columns
-    slice-aggregate-invert-ranked-2
-    array-borrow-prefix-rows
-    slice-aggregate-invert-ranked-3
-    invert-ranked-requires
-    array-share-prefix-d
-    slice-aggregate-solve-by
-    array-borrow-prefix-x
-    slice-aggregate-solve-by-2
-    array-borrow-prefix-image
-    slice-aggregate-solve-by-3
-    solve-by-requires
-    same-length
-    same-length-2
-    returns
-    same-length-3
-    same-length-4
-    returns-2)
+    (tie.spec table-room-requires row-room-requires row-room-requires-2 row-room-requires-3 row-room-requires-4 mul-size
+    array-borrow-prefix-d slice-aggregate-invert-ranked array-borrow-prefix-columns slice-aggregate-invert-ranked-2
+    array-borrow-prefix-rows slice-aggregate-invert-ranked-3 invert-ranked-requires array-share-prefix-d
+    slice-aggregate-solve-by array-borrow-prefix-x slice-aggregate-solve-by-2 array-borrow-prefix-image
+    slice-aggregate-solve-by-3 solve-by-requires same-length same-length-2 returns same-length-3 same-length-4 returns-2)

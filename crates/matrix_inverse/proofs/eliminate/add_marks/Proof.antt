@@ -69,16 +69,5 @@ returns c =
 pub add-marks-spec : {M : Type 1} → statement M
 add-marks-spec =
     tie.close
-    (tie.spec
-    Inv-loop
-    μ-loop
-    loop-holds
-    mul-if1
-    shared-slice-read-if1
-    mul-marks
-    slice-write-marks
-    add-c
-    loop-less
-    loop-again
-    same-length
-    returns)
+    (tie.spec Inv-loop μ-loop loop-holds mul-if1 shared-slice-read-if1 mul-marks slice-write-marks add-c loop-less loop-again
+    same-length returns)

@@ -43,12 +43,4 @@ returns-2 c =
 pub eliminate-spec : {M : Type 1} → statement M
 eliminate-spec =
     tie.close
-    (tie.spec
-    returns
-    half-requires
-    slice-aggregate-add-marks
-    add-marks-requires
-    same-length
-    same-length-2
-    same-length-3
-    returns-2)
+    (tie.spec returns half-requires slice-aggregate-add-marks add-marks-requires same-length same-length-2 same-length-3 returns-2)

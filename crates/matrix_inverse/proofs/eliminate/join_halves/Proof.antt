@@ -94,19 +94,7 @@ returns c =
 pub join-halves-spec : {M : Type 1} → statement M
 join-halves-spec =
     tie.close
-    (tie.spec
-    add-middle
-    row-room-requires
-    slice-reshare-prefix-list-marked
-    slice-aggregate-list-marked
-    slice-aggregate-list-marked-2
-    list-marked-requires
-    slice-aggregate-negative-product
-    negative-product-requires
-    add-product-within-requires
-    add-marks-requires
-    add-product-within-requires-2
-    same-length
-    same-length-2
-    same-length-3
+    (tie.spec add-middle row-room-requires slice-reshare-prefix-list-marked slice-aggregate-list-marked
+    slice-aggregate-list-marked-2 list-marked-requires slice-aggregate-negative-product negative-product-requires
+    add-product-within-requires add-marks-requires add-product-within-requires-2 same-length same-length-2 same-length-3
     returns)

@@ -76,14 +76,5 @@ returns c =
 pub negative-product-spec : {M : Type 1} → statement M
 negative-product-spec =
     tie.close
-    (tie.spec
-    mul-end
-    slice-relend-prefix-clear
-    slice-aggregate-clear
-    clear-requires
-    add-product-requires
-    slice-relend-prefix-negate
-    slice-aggregate-negate
-    negate-requires
-    same-length
-    returns)
+    (tie.spec mul-end slice-relend-prefix-clear slice-aggregate-clear clear-requires add-product-requires
+    slice-relend-prefix-negate slice-aggregate-negate negate-requires same-length returns)

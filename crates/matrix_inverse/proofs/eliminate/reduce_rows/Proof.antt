@@ -75,18 +75,6 @@ returns c =
 pub reduce-rows-spec : {M : Type 1} → statement M
 reduce-rows-spec =
     tie.close
-    (tie.spec
-    row-room-requires
-    slice-aggregate-list-marked
-    slice-aggregate-list-marked-2
-    list-marked-requires
-    slice-aggregate-negative-product
-    negative-product-requires
-    mul-end
-    copy-requires
-    each-row-requires
-    slice-aggregate-add-product
-    add-product-requires
-    same-length
-    same-length-2
-    returns)
+    (tie.spec row-room-requires slice-aggregate-list-marked slice-aggregate-list-marked-2 list-marked-requires
+    slice-aggregate-negative-product negative-product-requires mul-end copy-requires each-row-requires
+    slice-aggregate-add-product add-product-requires same-length same-length-2 returns)

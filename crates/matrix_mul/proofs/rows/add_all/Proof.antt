@@ -82,16 +82,5 @@ returns c =
 pub add-all-spec : {M : Type 1} → statement M
 add-all-spec =
     tie.close
-    (tie.spec
-    Inv-loop
-    μ-loop
-    no-rows-requires
-    no-rows-requires-2
-    loop-holds
-    next-four-requires
-    add-rows-requires
-    loop-less
-    loop-again
-    fold-into-requires
-    same-length
-    returns)
+    (tie.spec Inv-loop μ-loop no-rows-requires no-rows-requires-2 loop-holds next-four-requires add-rows-requires loop-less
+    loop-again fold-into-requires same-length returns)

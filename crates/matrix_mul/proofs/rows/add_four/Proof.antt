@@ -77,21 +77,5 @@ returns c =
 pub add-four-spec : {M : Type 1} → statement M
 add-four-spec =
     tie.close
-    (tie.spec
-    Inv-loop
-    μ-loop
-    loop-holds
-    four-at-requires
-    mul-x
-    slice-read-x
-    cast-x
-    add-x
-    rem-out
-    cast-out
-    mul-out
-    slice-write-out
-    add-j
-    loop-less
-    loop-again
-    same-length
-    returns)
+    (tie.spec Inv-loop μ-loop loop-holds four-at-requires mul-x slice-read-x cast-x add-x rem-out cast-out mul-out slice-write-out
+    add-j loop-less loop-again same-length returns)

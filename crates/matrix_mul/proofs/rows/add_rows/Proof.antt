@@ -94,20 +94,5 @@ returns c =
 pub add-rows-spec : {M : Type 1} → statement M
 add-rows-spec =
     tie.close
-    (tie.spec
-    Inv-loop
-    μ-loop
-    loop-holds
-    four-at-requires
-    mul-lo
-    element-copy-out-lo
-    add-lo
-    element-write-lo
-    mul-hi
-    element-copy-out-hi
-    add-hi
-    element-write-hi
-    add-j
-    loop-less
-    loop-again
-    returns)
+    (tie.spec Inv-loop μ-loop loop-holds four-at-requires mul-lo element-copy-out-lo add-lo element-write-lo mul-hi
+    element-copy-out-hi add-hi element-write-hi add-j loop-less loop-again returns)

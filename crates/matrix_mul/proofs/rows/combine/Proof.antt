@@ -25,9 +25,4 @@ returns c = search needs
 pub combine-spec : {M : Type 1} → statement M
 combine-spec =
     tie.close
-    (tie.spec
-    each-row-requires
-    slice-aggregate-combine-listed
-    combine-listed-requires
-    same-length
-    returns)
+    (tie.spec each-row-requires slice-aggregate-combine-listed combine-listed-requires same-length returns)

@@ -43,11 +43,4 @@ returns-2 c =
 pub combine-listed-spec : {M : Type 1} → statement M
 combine-listed-spec =
     tie.close
-    (tie.spec
-    next-four-requires
-    add-four-requires
-    same-length
-    returns
-    add-all-requires
-    same-length-2
-    returns-2)
+    (tie.spec next-four-requires add-four-requires same-length returns add-all-requires same-length-2 returns-2)

@@ -57,16 +57,5 @@ returns c =
 pub each-row-spec : {M : Type 1} → statement M
 each-row-spec =
     tie.close
-    (tie.spec
-    Inv-loop
-    μ-loop
-    row-room-requires
-    loop-holds
-    add-next
-    cast-next
-    mul-next
-    array-write-next
-    add-t
-    loop-less
-    loop-again
+    (tie.spec Inv-loop μ-loop row-room-requires loop-holds add-next cast-next mul-next array-write-next add-t loop-less loop-again
     returns)

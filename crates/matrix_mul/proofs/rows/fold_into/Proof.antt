@@ -107,26 +107,6 @@ returns c =
 pub fold-into-spec : {M : Type 1} → statement M
 fold-into-spec =
     tie.close
-    (tie.spec
-    Inv-loop
-    μ-loop
-    rem-once
-    mul-twice
-    rem-twice
-    loop-holds
-    mul-folded
-    element-copy-out-folded
-    mul-folded-2
-    slice-read-folded
-    cast-folded
-    add-folded
-    mul-folded-3
-    element-copy-out-folded-2
-    folded-requires
-    mul-out
-    slice-write-out
-    add-j
-    loop-less
-    loop-again
-    same-length
-    returns)
+    (tie.spec Inv-loop μ-loop rem-once mul-twice rem-twice loop-holds mul-folded element-copy-out-folded mul-folded-2
+    slice-read-folded cast-folded add-folded mul-folded-3 element-copy-out-folded-2 folded-requires mul-out
+    slice-write-out add-j loop-less loop-again same-length returns)

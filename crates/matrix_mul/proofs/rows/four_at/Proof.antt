@@ -57,12 +57,5 @@ returns c = (
 pub four-at-spec : {M : Type 1} → statement M
 four-at-spec =
     tie.close
-    (tie.spec
-    product-at-requires
-    product-at-requires-2
-    add-result
-    product-at-requires-3
-    add-result-2
-    product-at-requires-4
-    add-result-3
-    returns)
+    (tie.spec product-at-requires product-at-requires-2 add-result product-at-requires-3 add-result-2 product-at-requires-4
+    add-result-3 returns)

@@ -76,18 +76,5 @@ returns-2 c =
 pub next-row-spec : {M : Type 1} → statement M
 next-row-spec =
     tie.close
-    (tie.spec
-    Inv-loop
-    μ-loop
-    loop-holds
-    mul-c
-    shared-slice-read-c
-    mul-later
-    shared-slice-read-later
-    cast-later
-    mul-at
-    add-at
-    returns
-    loop-less
-    loop-again
-    returns-2)
+    (tie.spec Inv-loop μ-loop loop-holds mul-c shared-slice-read-c mul-later shared-slice-read-later cast-later mul-at add-at
+    returns loop-less loop-again returns-2)

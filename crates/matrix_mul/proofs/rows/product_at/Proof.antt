@@ -45,11 +45,4 @@ returns c = (refl, quarter c)
 pub product-at-spec : {M : Type 1} → statement M
 product-at-spec =
     tie.close
-    (tie.spec
-    cast-result
-    add-result
-    mul-result
-    shared-slice-read-result
-    cast-result-2
-    mul-result-2
-    returns)
+    (tie.spec cast-result add-result mul-result shared-slice-read-result cast-result-2 mul-result-2 returns)

@@ -33,12 +33,5 @@ returns c = search needs
 pub take-all-spec : {M : Type 1} → statement M
 take-all-spec =
     tie.close
-    (tie.spec
-    large-buffer-requires
-    words-requires
-    slice-aggregate-take-each
-    array-borrow-prefix-mix
-    slice-aggregate-take-each-2
-    take-each-requires
-    same-length
-    returns)
+    (tie.spec large-buffer-requires words-requires slice-aggregate-take-each array-borrow-prefix-mix slice-aggregate-take-each-2
+    take-each-requires same-length returns)

@@ -55,19 +55,5 @@ returns-2 c = tt
 pub take-each-spec : {M : Type 1} → statement M
 take-each-spec =
     tie.close
-    (tie.spec
-    Inv-loop
-    μ-loop
-    loop-holds
-    take-next-requires
-    sub-left
-    loop-less
-    loop-again
-    same-length
-    same-length-2
-    same-length-3
-    returns
-    same-length-4
-    same-length-5
-    same-length-6
-    returns-2)
+    (tie.spec Inv-loop μ-loop loop-holds take-next-requires sub-left loop-less loop-again same-length same-length-2 same-length-3
+    returns same-length-4 same-length-5 same-length-6 returns-2)

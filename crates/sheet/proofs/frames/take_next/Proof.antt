@@ -73,23 +73,7 @@ returns-3 c = search needs
 pub take-next-spec : {M : Type 1} → statement M
 take-next-spec =
     tie.close
-    (tie.spec
-    frame-length-requires
-    slice-aggregate-read-full
-    read-full-requires
-    array-share-prefix-pair
-    slice-aggregate-frame-start
-    frame-start-requires
-    enum-told
-    enum-told-2
-    refused-requires
-    enum-known-length
-    slice-relend-prefix-take-body
-    slice-aggregate-take-body
-    take-body-requires
-    returns
-    returns-2
-    same-length
-    same-length-2
-    same-length-3
-    returns-3)
+    (tie.spec frame-length-requires slice-aggregate-read-full read-full-requires array-share-prefix-pair
+    slice-aggregate-frame-start frame-start-requires enum-told enum-told-2 refused-requires enum-known-length
+    slice-relend-prefix-take-body slice-aggregate-take-body take-body-requires returns returns-2 same-length
+    same-length-2 same-length-3 returns-3)

@@ -29,10 +29,4 @@ returns c = search needs
 pub open-spec : {M : Type 1} → statement M
 open-spec =
     tie.close
-    (tie.spec
-    board-requires
-    board-length-requires
-    array-borrow-prefix-words
-    slice-aggregate-open-in
-    open-in-requires
-    returns)
+    (tie.spec board-requires board-length-requires array-borrow-prefix-words slice-aggregate-open-in open-in-requires returns)

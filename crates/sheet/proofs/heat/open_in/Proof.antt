@@ -42,14 +42,5 @@ returns-2 c = search needs
 pub open-in-spec : {M : Type 1} → statement M
 open-in-spec =
     tie.close
-    (tie.spec
-    open-requires
-    enum-told
-    take-all-requires
-    show-requires
-    enum-known-kind
-    refused-requires
-    same-length
-    returns
-    same-length-2
-    returns-2)
+    (tie.spec open-requires enum-told take-all-requires show-requires enum-known-kind refused-requires same-length returns
+    same-length-2 returns-2)

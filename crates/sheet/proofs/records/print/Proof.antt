@@ -47,17 +47,5 @@ returns c = tt
 pub print-spec : {M : Type 1} → statement M
 print-spec =
     tie.close
-    (tie.spec
-    Inv-loop
-    μ-loop
-    loop-holds
-    cast-record
-    mul-record
-    shared-slice-read-record
-    mul-record-2
-    shared-slice-copy-out-record
-    record-requires
-    add-j
-    loop-less
-    loop-again
-    returns)
+    (tie.spec Inv-loop μ-loop loop-holds cast-record mul-record shared-slice-read-record mul-record-2 shared-slice-copy-out-record
+    record-requires add-j loop-less loop-again returns)

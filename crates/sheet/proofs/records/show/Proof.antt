@@ -40,12 +40,5 @@ returns c = search needs
 pub show-spec : {M : Type 1} → statement M
 show-spec =
     tie.close
-    (tie.spec
-    words-requires
-    numbers-requires
-    array-borrow-prefix-marks
-    slice-aggregate-show-in
-    array-borrow-prefix-numbers
-    slice-aggregate-show-in-2
-    show-in-requires
-    returns)
+    (tie.spec words-requires numbers-requires array-borrow-prefix-marks slice-aggregate-show-in array-borrow-prefix-numbers
+    slice-aggregate-show-in-2 show-in-requires returns)

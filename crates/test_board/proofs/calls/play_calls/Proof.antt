@@ -41,15 +41,5 @@ returns-2 c = tt
 pub play-calls-spec : {M : Type 1} → statement M
 play-calls-spec =
     tie.close
-    (tie.spec
-    Inv-loop
-    μ-loop
-    loop-holds
-    next-call-requires
-    sub-left
-    loop-less
-    loop-again
-    same-length
-    returns
-    same-length-2
+    (tie.spec Inv-loop μ-loop loop-holds next-call-requires sub-left loop-less loop-again same-length returns same-length-2
     returns-2)

@@ -41,15 +41,5 @@ returns c = tt
 pub print-numbers-spec : {M : Type 1} → statement M
 print-numbers-spec =
     tie.close
-    (tie.spec
-    Inv-loop
-    μ-loop
-    print-text-requires
-    loop-holds
-    mul-print-signed
-    shared-slice-copy-out-print-signed
-    print-signed-requires
-    add-i
-    loop-less
-    loop-again
-    returns)
+    (tie.spec Inv-loop μ-loop print-text-requires loop-holds mul-print-signed shared-slice-copy-out-print-signed
+    print-signed-requires add-i loop-less loop-again returns)

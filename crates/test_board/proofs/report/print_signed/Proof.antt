@@ -50,12 +50,5 @@ returns c = search needs
 pub print-signed-spec : {M : Type 1} → statement M
 print-signed-spec =
     tie.close
-    (tie.spec
-    slice-aggregate-put-signed
-    put-signed-requires
-    slice-aggregate-print-text
-    print-text-requires
-    array-share-prefix-text
-    slice-aggregate-print-text-2
-    print-text-requires-2
-    returns)
+    (tie.spec slice-aggregate-put-signed put-signed-requires slice-aggregate-print-text print-text-requires
+    array-share-prefix-text slice-aggregate-print-text-2 print-text-requires-2 returns)

@@ -41,15 +41,5 @@ returns c = tt
 pub print-words-spec : {M : Type 1} → statement M
 print-words-spec =
     tie.close
-    (tie.spec
-    Inv-loop
-    μ-loop
-    print-text-requires
-    loop-holds
-    mul-print-number
-    shared-slice-read-print-number
-    print-number-requires
-    add-i
-    loop-less
-    loop-again
-    returns)
+    (tie.spec Inv-loop μ-loop print-text-requires loop-holds mul-print-number shared-slice-read-print-number print-number-requires
+    add-i loop-less loop-again returns)

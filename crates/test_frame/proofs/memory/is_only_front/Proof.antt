@@ -41,15 +41,5 @@ returns-3 c = tt
 pub is-only-front-spec : {M : Type 1} → statement M
 is-only-front-spec =
     tie.close
-    (tie.spec
-    Inv-loop
-    μ-loop
-    returns
-    loop-holds
-    shared-slice-read-if2
-    byte-at-requires
-    returns-2
-    add-i
-    loop-less
-    loop-again
+    (tie.spec Inv-loop μ-loop returns loop-holds shared-slice-read-if2 byte-at-requires returns-2 add-i loop-less loop-again
     returns-3)

@@ -41,15 +41,5 @@ returns c = tt
 pub print-refusals-spec : {M : Type 1} → statement M
 print-refusals-spec =
     tie.close
-    (tie.spec
-    Inv-loop
-    μ-loop
-    loop-holds
-    cast-print-refused
-    mul-print-refused
-    element-copy-out-print-refused
-    print-refused-requires
-    add-number
-    loop-less
-    loop-again
-    returns)
+    (tie.spec Inv-loop μ-loop loop-holds cast-print-refused mul-print-refused element-copy-out-print-refused
+    print-refused-requires add-number loop-less loop-again returns)

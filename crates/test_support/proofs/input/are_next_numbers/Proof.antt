@@ -41,15 +41,5 @@ returns c = tt
 pub are-next-numbers-spec : {M : Type 1} → statement M
 are-next-numbers-spec =
     tie.close
-    (tie.spec
-    Inv-loop
-    μ-loop
-    loop-holds
-    word-requires
-    signed-of-requires
-    mul-if1
-    shared-slice-copy-out-if1
-    add-i
-    loop-less
-    loop-again
-    returns)
+    (tie.spec Inv-loop μ-loop loop-holds word-requires signed-of-requires mul-if1 shared-slice-copy-out-if1 add-i loop-less
+    loop-again returns)

@@ -38,14 +38,4 @@ returns c = tt
 pub are-next-words-spec : {M : Type 1} → statement M
 are-next-words-spec =
     tie.close
-    (tie.spec
-    Inv-loop
-    μ-loop
-    loop-holds
-    word-requires
-    mul-if1
-    shared-slice-read-if1
-    add-i
-    loop-less
-    loop-again
-    returns)
+    (tie.spec Inv-loop μ-loop loop-holds word-requires mul-if1 shared-slice-read-if1 add-i loop-less loop-again returns)

@@ -45,16 +45,5 @@ returns c = tt
 pub read-numbers-spec : {M : Type 1} → statement M
 read-numbers-spec =
     tie.close
-    (tie.spec
-    Inv-loop
-    μ-loop
-    loop-holds
-    word-requires
-    signed-of-requires
-    mul-t3
-    slice-set-from-numbers
-    add-i
-    loop-less
-    loop-again
-    same-length
-    returns)
+    (tie.spec Inv-loop μ-loop loop-holds word-requires signed-of-requires mul-t3 slice-set-from-numbers add-i loop-less loop-again
+    same-length returns)

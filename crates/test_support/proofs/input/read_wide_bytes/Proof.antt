@@ -42,15 +42,4 @@ returns c = tt
 pub read-wide-bytes-spec : {M : Type 1} → statement M
 read-wide-bytes-spec =
     tie.close
-    (tie.spec
-    Inv-loop
-    μ-loop
-    loop-holds
-    word-requires
-    cast-bytes
-    slice-write-bytes
-    add-i
-    loop-less
-    loop-again
-    same-length
-    returns)
+    (tie.spec Inv-loop μ-loop loop-holds word-requires cast-bytes slice-write-bytes add-i loop-less loop-again same-length returns)
