@@ -266,7 +266,8 @@ fn halves(
     marks
 }
 
-// The quasiinverse of the m rows of a.
+// The quasiinverse of the m rows of a. `halves` has a caller beside `half`, so that the compiler leaves its frame, which holds the
+// scratch memory, out of `half`.
 pub fn eliminate(
     p: u32,
     m: usize,
@@ -285,6 +286,11 @@ pub fn eliminate(
     if m == 0 {
         return;
     }
-    let found = half(p, m, n, a, d, at, stride, rows);
+    if m == 1 {
+        let found = one_row(p, n, a, d, at, stride, rows);
+        add_marks(n, &found, columns);
+        return;
+    }
+    let found = halves(p, m, n, a, d, at, stride, rows);
     add_marks(n, &found, columns);
 }
