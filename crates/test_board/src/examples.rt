@@ -1,14 +1,16 @@
 // Document 01's examples of the board that are not starred, and the order of the checks: where a function here names an
-// order, what one check refuses the later ones would refuse too. The starred examples are theorems, in examples/proofs.
+// order, what one check refuses the later ones would refuse too. The starred examples are theorems, in starred/proofs.
 ghost use Prim.Native.Nat.{_≤_};
+ghost use Rattle.ledger.specs.Board.{largestBoard};
 use super::memory;
 use super::report;
+use board_words::layout;
 use test_support::lent;
 use test_support::output;
 
 // Opens a board in so many words; a refusal leaves them as they were.
 fn open(name: &[u8], p: u32, n: u32, room: usize)
-    requires { ⌜ room ≤ 4163 ⌝ }
+    requires { ⌜ room ≤ largestBoard ⌝ }
 {
     let mut words = memory::board();
     let board = lent::front(&mut words, room);
@@ -31,14 +33,14 @@ fn take(name: &[u8], board: &mut [u32; 15], frame: &[u8], room: usize)
     let mut words = lent::words(memory::WORD);
     let mix = lent::front(&mut words, room);
     let told = report::take_told(board_calls::take(board, frame, mix));
-    print_answer(name, told.number, board[2]);
+    print_answer(name, told.number, board[layout::COUNT]);
     report::print_words(b" mix", mix);
     output::print_end();
 }
 
 fn withdraw(name: &[u8], board: &mut [u32; 15], t: u32) {
     let told = report::count_told(board_calls::withdraw(board, t));
-    print_answer(name, told.number, board[2]);
+    print_answer(name, told.number, board[layout::COUNT]);
     output::print_end();
 }
 
@@ -64,7 +66,7 @@ fn open_order() {
     open(b"65-records", 7, 65, 2);
     open(b"room-14", 7, 3, 14);
     open(b"room-16", 7, 3, 16);
-    open(b"64-records", 2147483647, 64, 4163);
+    open(b"64-records", 2147483647, 64, layout::LARGEST_BOARD);
 }
 
 // The first two frames of the sheet's example: (1 2 0) 5, (0 1 3) 4. Columns 0 and 1 are in I, and no record is settled.
@@ -113,7 +115,7 @@ fn call_order(board: &mut [u32; 15]) {
 
 // 11 before the checks that refuse the same calls on a board: modulo 4 words are none.
 fn no_board(board: &mut [u32; 15]) {
-    board[0] = 4;
+    board[layout::MODULUS] = 4;
     take(b"no-board-take", board, b"", 2);
     withdraw(b"no-board-withdraw", board, 4);
     show(b"no-board-show", board, 2, 3);
