@@ -1,7 +1,7 @@
 -- The laws of picking by a decision: by yes, by no, and for whatever both choices share. Decisions over all numbers
 -- below a bound are made here too.
 use mathlib.Core.Path.{_≡_, refl, sym, subst}
-use mathlib.Core.Logic.{_⊎_, ⊎-elim}
+use mathlib.Core.Logic.{⊎-elim}
 use Prim.Native.Nat.{ℕ, zero, suc, _<_}
 use native.Mathlib.Nat.{not-suc-le-zero, le-of-suc-le-suc, eq-or-lt-of-le, lt-suc-self, le-step}
 use Rattle.algebra.specs.Choice.{pick, pickBy}

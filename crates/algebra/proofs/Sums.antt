@@ -1,6 +1,6 @@
 -- The laws of bounded sums: sums of equal terms, of sums, of multiples, in another order, cut in two, and of one term.
 use mathlib.Core.Path.{_≡_, refl, sym, ap, _∙_}
-use mathlib.Core.Logic.{_⊎_, ⊎-elim}
+use mathlib.Core.Logic.{⊎-elim}
 use Prim.Native.Nat.{ℕ, suc, _+_, _<_}
 use native.Mathlib.Nat.{not-suc-le-zero, lt-suc-self, le-step, add-zero, add-suc, le-of-suc-le-suc, eq-or-lt-of-le, ne-of-lt}
 use borrow.Author.Tests.{eq-eqb, ne-eqb}

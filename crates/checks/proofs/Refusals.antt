@@ -1,5 +1,4 @@
 -- The numbers of refusals: from 1, and below 100, where the numbers of other answers begin. A new kind adds its line here.
-use Prim.Native.Nat.{_≤_, _<_}
 use native.Mathlib.Omega.{arith}
 use Rattle.checks.specs.declared.Refusal.{Refusal}
 use Rattle.checks.specs.declared.Refusal.the-variants.{Modulus, Size, Length, Number, Insoluble, FrameLength, Padding, ZeroMultiplier, Conflict}

@@ -1,11 +1,10 @@
 -- 01: "A table A has m rows and n columns, each from 0 to 64"; a heat has 1 to 64 records; a lent slice has the length named.
 -- What several calls check alike, as the front of their lists of checks: the modulus, then the size.
-use Prim.Native.Nat.{ℕ, _≤_}
+use Prim.Native.Nat.{ℕ}
 use Rattle.checks.specs.declared.Refusal.{Refusal}
 use Rattle.checks.specs.declared.Refusal.the-variants.{Modulus, Size}
 use Rattle.checks.specs.declared.Verdict.{Verdict}
 use Rattle.checks.specs.declared.Verdict.the-variants as verdict
-use Rattle.checks.specs.Largest.{Sizes, FrameSize}
 use Rattle.checks.specs.InOrder.{Checks, passed, _else_, _⨾_, AllHold, FirstFailing}
 use Rattle.checks.specs.Decide.{modulus?, sizes?, frameSize?}
 

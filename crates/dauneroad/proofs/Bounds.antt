@@ -1,8 +1,8 @@
 -- The numbers that the calls tell fit what C gets, so that `200 + k` does: k is at most 64 for tables and boards, and 268 for
 -- writing. Each call goes through its checks, and these laws go by whichever way.
 use mathlib.Core.Path.{_≡_, sym, subst}
-use mathlib.Core.List.{List, [], _∷_}
-use Prim.Native.Nat.{ℕ, _^_, _≤_, _<_}
+use mathlib.Core.List.{List}
+use Prim.Native.Nat.{ℕ, _≤_}
 use native.Mathlib.Omega.{arith}
 use lib.IntN.{ℤ}
 use lib.ListN.{length}

@@ -1,20 +1,17 @@
 -- Every step of the ledger keeps it proper: a frame that is appended has n multipliers and a value below p, as reading found
 -- them, and its row is no combination of the others, so that the longer rows are independent and at most n; a withdrawal
 -- leaves a front of the rows.
-use mathlib.Core.Path.{_≡_, _∙_}
+use mathlib.Core.Path.{_≡_}
 use mathlib.Core.List.{List, [], _∷_, _++_}
 use Prim.Native.Nat.{ℕ, suc, _-_, _≤_, _<_}
 use native.Mathlib.Nat.{sub-le, not-suc-le-zero}
-use native.Mathlib.Decide.{decLe, ℕ-discrete}
 use native.Mathlib.Omega.{arith}
 use lib.ListN.{length, getD, take}
 use lib.Seq.{length-take-le, getD-take}
 use Rattle.algebra.specs.Matrix.{Matrix}
 use Rattle.algebra.specs.Span.{Independent}
 use Rattle.checks.specs.Prime.{IsModulus}
-use Rattle.checks.specs.declared.Refusal.the-variants.{FrameLength, Padding}
 use Rattle.field.specs.Residue.{reduce, residues}
-use Rattle.words.specs.Words.{Below}
 use Rattle.field.proofs.Field.{residues-field, residues-ring}
 use Rattle.frame.proofs.Round.{Numbers, accepted-numbers}
 use Rattle.ledger.specs.Ledger.{Entry, entry, noEntry, Ledger, ledger, InSpan, multiplierRows}

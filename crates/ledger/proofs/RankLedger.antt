@@ -12,7 +12,6 @@ use native.Mathlib.Omega.{arith}
 use lib.ListN.{length, getD, length-append, length-map, List·getD-map, List·getD-append}
 use borrow.Author.Tests.{ne-eqb}
 use Rattle.algebra.specs.Ring.{IsCommutativeRing, IsField}
-use Rattle.algebra.specs.Matrix.{Matrix}
 use Rattle.algebra.specs.Span.{IsCombination, Independent}
 use Rattle.algebra.proofs.Alike.{combination-alike}
 use Rattle.algebra.proofs.Marked.{same-span-rank, independent-rank}

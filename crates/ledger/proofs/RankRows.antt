@@ -2,19 +2,19 @@
 -- is independent and so are rows with one more that is no combination of them, that independent rows of n numbers are at most
 -- n, combine in one way only, and let every system be solved.
 use mathlib.Core.Path.{_≡_, sym, ap, ap₂, _∙_}
-use mathlib.Core.Bool.{true, false}
+use mathlib.Core.Bool.{true}
 use mathlib.Core.Logic.{⊎-elim}
 use Prim.Native.Nat.{ℕ, suc, _≤_, _<_}
-use native.Mathlib.Nat.{le-of-lt, lt-of-lt-of-le, le-of-suc-le-suc, eq-or-lt-of-le}
+use native.Mathlib.Nat.{lt-of-lt-of-le, le-of-suc-le-suc, eq-or-lt-of-le}
 use native.Mathlib.Omega.{arith}
 use lib.Dec.{ltb}
 use borrow.Author.Tests.{lt-ltb, le-ltb}
-use Rattle.algebra.specs.Choice.{choose, pick}
+use Rattle.algebra.specs.Choice.{choose}
 use Rattle.algebra.specs.Ring.{Ring, IsCommutativeRing, IsField}
 use Rattle.algebra.specs.Matrix.{Vector, Matrix, unit, product, apply, mixed, transpose}
 use Rattle.algebra.specs.Span.{Combines, IsCombination, Independent, Solves}
 use Rattle.algebra.specs.Quasiinverse.{Marks, IsPivotInverse}
-use Rattle.algebra.proofs.Alike.{Alike, alike-back, mixed-alike, combination-alike}
+use Rattle.algebra.proofs.Alike.{Alike, alike-back}
 use Rattle.algebra.proofs.Rings as rings
 use Rattle.algebra.proofs.Sums as sums
 use Rattle.algebra.proofs.Applied as applied

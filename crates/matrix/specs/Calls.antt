@@ -2,7 +2,7 @@
 -- and "What is handed back on refusal".
 use mathlib.Core.Bool.{Bool, true, false}
 use mathlib.Core.List.{List, [], _++_}
-use Prim.Native.Nat.{ℕ, zero, suc, _+_, _*_, _-_}
+use Prim.Native.Nat.{ℕ, zero, suc, _*_, _-_}
 use lib.ListN.{getD, replicate}
 use Rattle.algebra.specs.Choice.{choose, pick}
 use Rattle.algebra.specs.Matrix.{Vector, Matrix, apply}
