@@ -10,6 +10,7 @@ pub mod Round
 pub mod WriteMap
 pub mod WriteNumbers
 pub mod WriteFrame
-pub mod SealSums
 pub mod Calls
+pub mod SealedValue
+pub mod SealSums
 pub mod Examples

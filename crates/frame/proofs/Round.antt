@@ -118,6 +118,11 @@ accepted-sound p n bytes xs v =
     })
     (λ k _ e. absurd (let z : _≡_ {A = ℕ} 0 1 = cc in omega arith))
 
+-- what reading accepts is what is found in the bytes
+pub accepted-found :
+    (p n : ℕ) (bytes xs : List ℕ) (v : ℕ) → readFrame p n bytes ≡ accepted xs v → (frameMultipliers n bytes ≡ xs) × (frameValue n bytes ≡ v)
+accepted-found p n bytes xs v e = let s = accepted-sound p n bytes xs v e in (s .multipliers, s .value)
+
 -- reading accepts n multipliers and a value, all below p
 pub accepted-numbers : (p n : ℕ) (bytes xs : List ℕ) (v : ℕ) → readFrame p n bytes ≡ accepted xs v → Numbers p n xs v
 unfolding frameMultipliers

@@ -1,8 +1,9 @@
--- Demand 3: from the board of an accepted open, every list of calls leaves the board, the answers and the lent memory that the
--- ledger says. Each call on the layout of a proper ledger is the ledger's step (proofs/WordsCalls.antt), which keeps the
--- ledger proper (proofs/Proper.antt), so it goes by induction over the list. Below it stand the corollaries that 01 names.
+-- The heart of demand 3: from the board of an accepted open, every list of calls leaves the board, the answers and the lent memory
+-- that the ledger says. Each call on the layout of a proper ledger is the ledger's step (proofs/WordsCalls.antt), which keeps the
+-- ledger proper (proofs/Proper.antt), so it goes by induction over the list. Below it: what refused calls and withdrawals leave.
+-- The whole demand is `demand-3` (proofs/DemandWhole.antt).
 use mathlib.Core.Path.{_≡_, refl, sym, ap, _∙_, subst}
-use mathlib.Core.List.{List, [], _∷_, _++_, List·Memᴰ}
+use mathlib.Core.List.{List, [], _∷_, _++_}
 use Prim.Native.Nat.{ℕ, _+_, _-_}
 use native.Mathlib.Omega.{arith}
 use lib.IntN.{ℤ}
@@ -19,7 +20,8 @@ use Rattle.ledger.specs.Steps.{ledgerWithdraw}
 use Rattle.ledger.specs.Board.{modulusWord, sizeWord, layout, boardOf, ledgerOf, IsBoard}
 use Rattle.ledger.specs.Decide.{board?}
 use Rattle.ledger.specs.Calls.{openCall, takeCall, withdrawCall}
-use Rattle.ledger.specs.History.{Call, Reply, reply, After, after, ledgerStep, boardStep, run, ledgerRun, boardRun, onBoard}
+use Rattle.ledger.specs.Turns.{replyOf}
+use Rattle.ledger.specs.History.{Call, reply, After, after, ledgerStep, boardStep, run, ledgerRun, boardRun, onBoard}
 use Rattle.ledger.specs.Heard.{NoWithdrawal}
 use Rattle.ledger.specs.Proper.{Proper}
 use Rattle.ledger.proofs.Proper.{empty-proper, step-proper}
@@ -27,7 +29,7 @@ use Rattle.ledger.proofs.Parse.{board-layout}
 use Rattle.ledger.proofs.WordsCalls.{take-on-board, take-off-board, withdraw-on-board, withdraw-off-board, take-at-layout, withdraw-at-layout}
 use Rattle.ledger.proofs.WordsCalls.{show-at-layout}
 use Rattle.ledger.proofs.LedgerSteps.{took, withdrew}
-use Rattle.ledger.proofs.LedgerRuns.{run-append, only-appends, run-not-eleven, took-refused, withdrew-refused}
+use Rattle.ledger.proofs.LedgerRuns.{run-append, only-appends, took-refused, withdrew-refused}
 
 -- ---- an accepted open
 
@@ -71,12 +73,12 @@ module _ (p n : ℕ) (ok : IsModulus p) (size : FrameSize n) where
       ∙ ap (λ (a : After (List ℕ)). after (a .state) (ledgerStep p ok n l c .replies ++ a .replies))
       (history (ledgerStep p ok n l c .state) (step-proper p n (l .entries) proper ok c) cs)
 
--- 01: "Demand 3 is one statement about a whole list of take, withdraw and show calls, refused ones included. .. The list starts
--- from the board that an accepted open has written, whatever open's arguments. .. After the list these equal the ledger's: every
--- answer ..; every mix, mark and number as its call left it; all board words, being the board laid out as above."
-pub demand-3 : (p n : ℕ) (ws : List ℕ) (ok : IsModulus p) → openCall p n ws .told .number ≡ 0 → (cs : List Call)
+-- 01: "The list starts from the board that an accepted open has written, whatever open's arguments. .. After the list these equal
+-- the ledger's: every answer ..; every mix, mark and number as its call left it; all board words, being the board laid out as
+-- above."
+pub board-as-ledger : (p n : ℕ) (ws : List ℕ) (ok : IsModulus p) → openCall p n ws .told .number ≡ 0 → (cs : List Call)
     → boardRun (openCall p n ws .lent) cs ≡ onBoard p n (ledgerRun p ok n (ledger []) cs)
-demand-3 p n ws ok e cs =
+board-as-ledger p n ws ok e cs =
     let fresh = open-accepted p n ws e in
     ap (λ b. boardRun b cs) (fresh .board) ∙ history p n ok (fresh .size) (ledger []) (empty-proper p n) cs
 
@@ -113,24 +115,11 @@ withdraw-refused-keeps ws t = go (board? ws)
         ∙ board-layout ws b
     go (no f) h = ap (λ (r : Outcome (List ℕ)). r .lent) (withdraw-off-board ws f t)
 
-pub refused-keeps : (ws : List ℕ) (c : Call) (r : Reply) → boardStep ws c .replies ≡ r ∷ [] → IsRefusal (r .told .number)
-    → boardStep ws c .state ≡ ws
+pub refused-keeps : (ws : List ℕ) (c : Call) → IsRefusal (replyOf (boardStep ws c) .told .number) → boardStep ws c .state ≡ ws
 unfolding boardStep
-refused-keeps ws (Call.take frame mix) r e h =
-    let q : takeCall ws frame mix .told .number ≡ r .told .number = cc in
-    take-refused-keeps ws frame mix (subst IsRefusal (sym q) h)
-refused-keeps ws (Call.withdraw t) r e h =
-    let q : withdrawCall ws t .told .number ≡ r .told .number = cc in
-    withdraw-refused-keeps ws t (subst IsRefusal (sym q) h)
-refused-keeps ws (Call.show marks numbers) r e h = refl
-
--- 01: "in a list of calls 11 never occurs"
-pub never-eleven : (p n : ℕ) (ws : List ℕ) → openCall p n ws .told .number ≡ 0 → (cs : List Call) (r : Reply)
-    → List·Memᴰ r (boardRun (openCall p n ws .lent) cs .replies) → r .told .number ≡ 11 → ⊥
-never-eleven p n ws e cs r m =
-    let ok = open-accepted p n ws e .prime in
-    run-not-eleven p ok n (ledger []) cs r
-    (subst (λ (a : After (List ℕ)). List·Memᴰ r (a .replies)) (demand-3 p n ws ok e cs) m)
+refused-keeps ws (Call.take frame mix) h = take-refused-keeps ws frame mix h
+refused-keeps ws (Call.withdraw t) h = withdraw-refused-keeps ws t h
+refused-keeps ws (Call.show marks numbers) h = refl
 
 -- the entries behind others are dropped
 withdraw-behind : (es ds : List Entry) → ledgerWithdraw (ledger (es ++ ds)) (length ds) .lent ≡ ledger es

@@ -12,10 +12,11 @@ use Rattle.checks.specs.Outcome.{Outcome}
 use Rattle.ledger.specs.Ledger.{Entry, entry, Ledger}
 use Rattle.ledger.specs.Steps.{ledgerTake, ledgerWithdraw}
 use Rattle.ledger.specs.History.{Call, Reply, After, after, ledgerStep, run, ledgerRun}
+use Rattle.ledger.specs.Turns.{replyOf}
 use Rattle.ledger.specs.Heard.{NoWithdrawal}
 use Rattle.ledger.specs.Proper.{Proper}
 use Rattle.ledger.proofs.Proper.{step-proper}
-use Rattle.ledger.proofs.LedgerSteps.{Took, new, repeat, refusal, took, Withdrew, dropped, overlong, withdrew, Showed, answered, unshown}
+use Rattle.ledger.proofs.LedgerSteps.{Took, new, repeat, conflict, refusal, took, Withdrew, dropped, overlong, withdrew, Showed, answered, unshown}
 use Rattle.ledger.proofs.LedgerSteps.{showed}
 
 -- a list of calls after another
@@ -42,8 +43,9 @@ module _ (p : ℕ) (ok : IsModulus p) (n : ℕ) where
   took-appends : (l : Ledger) (frame mix : List ℕ) {r : Outcome (Ledger × List ℕ)} → Took p ok n l frame mix r
       → (ds : List Entry) × (r .lent .0 .entries ≡ l .entries ++ ds)
   took-appends l frame mix (new xs v e f) = (entry xs v ∷ [], refl)
-  took-appends l frame mix (repeat xs v e c) = ([], sym (append-nil (l .entries)))
-  took-appends l frame mix (refusal k h ws) = ([], sym (append-nil (l .entries)))
+  took-appends l frame mix (repeat xs v e c g) = ([], sym (append-nil (l .entries)))
+  took-appends l frame mix (conflict xs v e c g) = ([], sym (append-nil (l .entries)))
+  took-appends l frame mix (refusal k h) = ([], sym (append-nil (l .entries)))
 
   pub only-appends : (l : Ledger) (cs : List Call) → NoWithdrawal cs
       → (ds : List Entry) × (ledgerRun p ok n l cs .state .entries ≡ l .entries ++ ds)
@@ -59,14 +61,12 @@ module _ (p : ℕ) (ok : IsModulus p) (n : ℕ) where
 
   -- ---- no reply tells 11
 
-  abbrev NotEleven : Reply → Type 0
-  NotEleven r = r .told .number ≡ 11 → ⊥
-
   took-not-eleven : (l : Ledger) (frame mix : List ℕ) {r : Outcome (Ledger × List ℕ)} → Took p ok n l frame mix r
       → r .told .number ≡ 11 → ⊥
   took-not-eleven l frame mix (new xs v e f) d = omega arith
-  took-not-eleven l frame mix (repeat xs v e c) d = omega arith
-  took-not-eleven l frame mix (refusal k h ws) d = h d
+  took-not-eleven l frame mix (repeat xs v e c g) d = omega arith
+  took-not-eleven l frame mix (conflict xs v e c g) d = omega arith
+  took-not-eleven l frame mix (refusal k h) d = h .1 d
 
   withdrew-not-eleven : (l : Ledger) (t : ℕ) {r : Outcome Ledger} → Withdrew l t r → r .told .number ≡ 11 → ⊥
   withdrew-not-eleven l t (dropped h) d = omega arith
@@ -76,43 +76,29 @@ module _ (p : ℕ) (ok : IsModulus p) (n : ℕ) where
   showed-not-eleven l (answered lent) d = omega arith
   showed-not-eleven l (unshown k h lent) d = h d
 
-  step-not-eleven : (l : Ledger) (c : Call) (r : Reply) → List·Memᴰ r (ledgerStep p ok n l c .replies) → NotEleven r
+  pub step-not-eleven : (l : Ledger) (c : Call) → replyOf (ledgerStep p ok n l c) .told .number ≡ 11 → ⊥
   unfolding ledgerStep
-  step-not-eleven l (Call.take frame mix) r m d =
-      took-not-eleven l frame mix (took p ok n l frame mix) (sym (ap (λ (q : Reply). q .told .number) (List·Memᴰ·eq-of-singleton m)) ∙ d)
-  step-not-eleven l (Call.withdraw t) r m d =
-      withdrew-not-eleven l t (withdrew l t) (sym (ap (λ (q : Reply). q .told .number) (List·Memᴰ·eq-of-singleton m)) ∙ d)
-  step-not-eleven l (Call.show marks numbers) r m d =
-      showed-not-eleven l (showed p ok n l marks numbers) (sym (ap (λ (q : Reply). q .told .number) (List·Memᴰ·eq-of-singleton m)) ∙ d)
-
-  pub run-not-eleven : (l : Ledger) (cs : List Call) (r : Reply) → List·Memᴰ r (ledgerRun p ok n l cs .replies)
-      → r .told .number ≡ 11 → ⊥
-  unfolding run
-  run-not-eleven l [] r m = absurd (List·Memᴰ·not-nil m)
-  run-not-eleven l (c ∷ cs) r m =
-      ⊎-elim (step-not-eleven l c r) (run-not-eleven (ledgerStep p ok n l c .state) cs r)
-      (List·Memᴰ·append-cases (ledgerStep p ok n l c .replies) m)
+  step-not-eleven l (Call.take frame mix) d = took-not-eleven l frame mix (took p ok n l frame mix) d
+  step-not-eleven l (Call.withdraw t) d = withdrew-not-eleven l t (withdrew l t) d
+  step-not-eleven l (Call.show marks numbers) d = showed-not-eleven l (showed p ok n l marks numbers) d
 
 -- ---- a refused call leaves the ledger as it is
 
 pub took-refused : (p : ℕ) (ok : IsModulus p) (n : ℕ) (l : Ledger) (frame mix : List ℕ) {r : Outcome (Ledger × List ℕ)}
     → Took p ok n l frame mix r → IsRefusal (r .told .number) → r .lent .0 ≡ l
 took-refused p ok n l frame mix (new xs v e f) h = absurd (omega arith)
-took-refused p ok n l frame mix (repeat xs v e c) h = refl
-took-refused p ok n l frame mix (refusal k i ws) h = refl
+took-refused p ok n l frame mix (repeat xs v e c g) h = refl
+took-refused p ok n l frame mix (conflict xs v e c g) h = refl
+took-refused p ok n l frame mix (refusal k i) h = refl
 
 pub withdrew-refused : (l : Ledger) (t : ℕ) {r : Outcome Ledger} → Withdrew l t r → IsRefusal (r .told .number) → r .lent ≡ l
 withdrew-refused l t (dropped h) i = absurd (omega arith)
 withdrew-refused l t (overlong k h) i = refl
 
 -- 01: "A refused call leaves it as it is"
-pub ledger-refused-keeps : (p : ℕ) (ok : IsModulus p) (n : ℕ) (l : Ledger) (c : Call) (r : Reply)
-    → ledgerStep p ok n l c .replies ≡ r ∷ [] → IsRefusal (r .told .number) → ledgerStep p ok n l c .state ≡ l
+pub ledger-refused-keeps : (p : ℕ) (ok : IsModulus p) (n : ℕ) (l : Ledger) (c : Call)
+    → IsRefusal (replyOf (ledgerStep p ok n l c) .told .number) → ledgerStep p ok n l c .state ≡ l
 unfolding ledgerStep
-ledger-refused-keeps p ok n l (Call.take frame mix) r e h =
-    let q : ledgerTake p ok n l frame mix .told .number ≡ r .told .number = cc in
-    took-refused p ok n l frame mix (took p ok n l frame mix) (subst IsRefusal (sym q) h)
-ledger-refused-keeps p ok n l (Call.withdraw t) r e h =
-    let q : ledgerWithdraw l t .told .number ≡ r .told .number = cc in
-    withdrew-refused l t (withdrew l t) (subst IsRefusal (sym q) h)
-ledger-refused-keeps p ok n l (Call.show marks numbers) r e h = refl
+ledger-refused-keeps p ok n l (Call.take frame mix) h = took-refused p ok n l frame mix (took p ok n l frame mix) h
+ledger-refused-keeps p ok n l (Call.withdraw t) h = withdrew-refused l t (withdrew l t) h
+ledger-refused-keeps p ok n l (Call.show marks numbers) h = refl

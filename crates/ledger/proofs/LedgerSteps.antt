@@ -12,29 +12,33 @@ use Rattle.checks.specs.Refusal.{refusalNumber}
 use Rattle.checks.specs.Told.{refused, results}
 use Rattle.checks.specs.Outcome.{Outcome, outcome, untouched}
 use Rattle.checks.specs.Prime.{IsModulus}
-use Rattle.checks.specs.declared.Refusal.the-variants.{Length}
+use Rattle.checks.specs.declared.Refusal.the-variants.{Length, Conflict}
 use Rattle.checks.specs.InOrder.{passed, _else_, _⨾_, inOrder}
 use Rattle.checks.specs.Decide.{long?}
-use Rattle.checks.proofs.InOrder.{in-order-elim, in-order-map, in-order-then, kind-of-list}
+use Rattle.checks.proofs.InOrder.{none-left, fails-here, in-order-done, in-order-refused, in-order-elim, in-order-map, in-order-then, kind-of-list, _and-then_}
 use Rattle.frame.specs.Reading.{frameChecks, Found, accepted, rejected, readFrame}
 use Rattle.frame.proofs.ReadChecks.{reading-elim}
-use Rattle.ledger.specs.Ledger.{entry, Ledger, ledger, InSpan}
-use Rattle.ledger.specs.Decide.{inSpan?}
+use Rattle.ledger.specs.Ledger.{entry, Ledger, ledger, InSpan, GivesValue}
+use Rattle.ledger.specs.Decide.{inSpan?, givesValue?}
 use Rattle.ledger.specs.Steps.{newTold, repeatTold, mixWords, takeInSpan, takeAccepted, ledgerTake, ledgerWithdraw, ledgerShow}
 
 -- a kind that a step of the ledger refuses by: any but 11, which is for words that hold no ledger
 abbrev pub StepKind : Refusal → Type 0
 StepKind k = refusalNumber k ≡ 11 → ⊥
 
+-- and one that take refuses by before it looks at the standing frames: not 9 either
+abbrev pub EarlyKind : Refusal → Type 0
+EarlyKind k = (refusalNumber k ≡ 9 → ⊥) × StepKind k
+
 -- ---- take
 
 -- what is rejected is rejected for one of these
 abbrev Judged : Found → Type 0
 Judged (accepted xs v) = Unit {0}
-Judged (rejected k) = StepKind k
+Judged (rejected k) = EarlyKind k
 
 read-judged : (p n : ℕ) (bytes : List ℕ) → Judged (readFrame p n bytes)
-read-judged p n bytes = reading-elim Judged p n bytes (λ xs v. tt) (λ k r e. omega arith)
+read-judged p n bytes = reading-elim Judged p n bytes (λ xs v. tt) (λ k r. (λ e. omega arith, λ e. omega arith))
 
 -- what take comes to, from what reading found
 module _ (p : ℕ) (ok : IsModulus p) (n : ℕ) (l : Ledger) where
@@ -57,25 +61,31 @@ module _ (p : ℕ) (ok : IsModulus p) (n : ℕ) (l : Ledger) (frame mix : List �
     new : (xs : List ℕ) (v : ℕ) → readFrame p n frame ≡ accepted xs v → (InSpan p n (l .entries) xs → ⊥)
         → Took (outcome (newTold (suc (length (l .entries)))) (ledger (l .entries ++ (entry xs v ∷ [])), mix))
     repeat : (xs : List ℕ) (v : ℕ) → readFrame p n frame ≡ accepted xs v → (c : InSpan p n (l .entries) xs)
+        → GivesValue p (l .entries) (c .0) v
         → Took (outcome (repeatTold (length (l .entries))) (l, mixWords p n (l .entries) (c .0)))
-    refusal : (k : Refusal) → StepKind k → (ws : List ℕ) → Took (outcome (refused k) (l, ws))
+    conflict : (xs : List ℕ) (v : ℕ) → readFrame p n frame ≡ accepted xs v → (c : InSpan p n (l .entries) xs)
+        → (GivesValue p (l .entries) (c .0) v → ⊥)
+        → Took (outcome (refused Conflict) (l, mixWords p n (l .entries) (c .0)))
+    refusal : (k : Refusal) → EarlyKind k → Took (untouched (l, mix) k)
 
   pub took : Took (ledgerTake p ok n l frame mix)
   unfolding takeFound takeAccepted takeInSpan
   took =
       subst Took (sym (take-found p ok n l frame mix))
       (in-order-elim _ _ Took (λ _. go (readFrame p n frame) refl (read-judged p n frame))
-      (λ k f. refusal k (kind-of-list StepKind (λ e. omega arith, λ _. tt) f) mix))
+      (λ k f. refusal k (kind-of-list EarlyKind ((λ e. omega arith, λ e. omega arith), λ _. tt) f)))
     where
       combined : (xs : List ℕ) (v : ℕ) → readFrame p n frame ≡ accepted xs v → (c : InSpan p n (l .entries) xs)
           → Took (takeInSpan p ok n l v (c .0))
-      combined xs v e c =
-          in-order-elim _ _ Took (λ _. repeat xs v e c)
-          (λ k f. refusal k (kind-of-list StepKind (λ e. omega arith, λ _. tt) f) (mixWords p n (l .entries) (c .0)))
+      combined xs v e c = by-value (givesValue? p (l .entries) (c .0) v)
+        where
+          by-value : Dec (GivesValue p (l .entries) (c .0) v) → Took (takeInSpan p ok n l v (c .0))
+          by-value (yes g) = subst Took (sym (in-order-done _ _ _ (g and-then none-left) (λ _. refl))) (repeat xs v e c g)
+          by-value (no f) = subst Took (sym (in-order-refused _ _ (fails-here f))) (conflict xs v e c f)
 
       go : (f : Found) → readFrame p n frame ≡ f → Judged f → Took (takeFound p ok n l f mix)
       go (accepted xs v) e j = pick-by-elim Took (inSpan? p ok n (l .entries) xs) _ _ (combined xs v e) (new xs v e)
-      go (rejected k) e j = refusal k j mix
+      go (rejected k) e j = refusal k j
 
 -- ---- withdraw
 

@@ -14,4 +14,6 @@ pub mod Demand3
 pub mod RankLedger
 pub mod RankFull
 pub mod Missing
-pub mod DemandReached
+pub mod Shown
+pub mod Turns
+pub mod DemandWhole

@@ -31,7 +31,7 @@ use Rattle.frame.proofs.Round.{Numbers}
 use Rattle.algebra.proofs.Alike.{combination-alike}
 use Rattle.ledger.proofs.RankFull.{agreeing-rows, full-agree, free-unit}
 use Rattle.ledger.proofs.LedgerLaws.{take-accepted, take-new, standing-met}
-use Rattle.ledger.proofs.LedgerSteps.{Took, new, repeat, refusal, took, Withdrew, dropped, overlong, withdrew}
+use Rattle.ledger.proofs.LedgerSteps.{Took, new, repeat, conflict, refusal, took, Withdrew, dropped, overlong, withdrew}
 use Rattle.ledger.proofs.LedgerRuns.{run-proper}
 
 module _ (p : ℕ) (ok : IsModulus p) (n : ℕ) where
@@ -41,8 +41,9 @@ module _ (p : ℕ) (ok : IsModulus p) (n : ℕ) where
       → length (r .lent .0 .entries) ≤ length (l .entries) + newIn (Call.take frame mix) (reply (r .told) (r .lent .1) [])
   unfolding newIn
   took-grows l frame mix (new xs v e f) = omega (arith, length-more (l .entries) (entry xs v))
-  took-grows l frame mix (repeat xs v e c) = omega arith
-  took-grows l frame mix (refusal k h ws) = omega arith
+  took-grows l frame mix (repeat xs v e c g) = omega arith
+  took-grows l frame mix (conflict xs v e c g) = omega arith
+  took-grows l frame mix (refusal k h) = omega arith
 
   withdrew-falls : (l : Ledger) (t : ℕ) {r : Outcome Ledger} → Withdrew l t r → length (r .lent .entries) ≤ length (l .entries)
   withdrew-falls l t (dropped h) = omega (arith, length-take (length (l .entries) - t) (l .entries))

@@ -19,7 +19,7 @@ use Rattle.checks.specs.Outcome.{Outcome}
 use Rattle.ledger.specs.History.{Call, ledgerStep}
 use Rattle.ledger.specs.Proper.{Proper}
 use Rattle.ledger.proofs.EntryMore.{length-more, entry-before, entry-last, each-more}
-use Rattle.ledger.proofs.LedgerSteps.{Took, new, repeat, refusal, took, Withdrew, dropped, overlong, withdrew}
+use Rattle.ledger.proofs.LedgerSteps.{Took, new, repeat, conflict, refusal, took, Withdrew, dropped, overlong, withdrew}
 use Rattle.algebra.proofs.Alike.{independent-alike}
 use Rattle.ledger.proofs.RankRows.{front-independent, append-independent, independent-most}
 use Rattle.algebra.proofs.Alike.{Alike, combination-alike, alike-back}
@@ -104,8 +104,9 @@ module _ (p n : ℕ) (es : List Entry) (proper : Proper p n es) where
     took-proper : (frame mix : List ℕ) {r : Outcome (Ledger × List ℕ)} → Took p ok n (ledger es) frame mix r
         → Proper p n (r .lent .0 .entries)
     took-proper frame mix (new xs v e free) = append-proper ok xs v (accepted-numbers p n frame xs v e) free
-    took-proper frame mix (repeat xs v e c) = proper
-    took-proper frame mix (refusal k h ws) = proper
+    took-proper frame mix (repeat xs v e c g) = proper
+    took-proper frame mix (conflict xs v e c g) = proper
+    took-proper frame mix (refusal k h) = proper
 
     withdrew-proper : (t : ℕ) {r : Outcome Ledger} → Withdrew (ledger es) t r → Proper p n (r .lent .entries)
     withdrew-proper t (dropped h) = front-proper (length es - t) (omega (arith, ok .prime .two-or-more)) (sub-le (length es) t)

@@ -16,22 +16,24 @@ use Rattle.algebra.specs.Span.{IsCombination, Independent}
 use Rattle.algebra.proofs.Alike.{combination-alike}
 use Rattle.algebra.proofs.Marked.{same-span-rank, independent-rank}
 use Rattle.checks.specs.Told.{refused}
-use Rattle.checks.specs.Refusal.{IsRefusal}
+use Rattle.checks.specs.declared.Refusal.{Refusal}
+use Rattle.checks.specs.declared.Refusal.the-variants.{Conflict}
+use Rattle.checks.specs.Refusal.{refusalNumber}
 use Rattle.checks.specs.Outcome.{Outcome}
 use Rattle.checks.proofs.Refusals.{refusal-number}
 use Rattle.checks.specs.Prime.{IsModulus}
 use Rattle.field.specs.Residue.{reduce, residues}
 use Rattle.field.proofs.Field.{residues-field}
 use Rattle.ledger.specs.Ledger.{Entry, entry, noEntry, Ledger, ledger, InSpan, multiplierRows}
-use Rattle.ledger.specs.Steps.{ledgerTake}
-use Rattle.ledger.specs.History.{Call, Reply, reply, ledgerStep, run, ledgerRun}
+use Rattle.ledger.specs.Steps.{mixWords, ledgerTake}
+use Rattle.ledger.specs.History.{Call, reply, ledgerStep, run, ledgerRun}
 use Rattle.ledger.specs.Heard.{NoWithdrawal, multipliersOf, heardIn, heard, ledgerRows, residueRows, rowsRank}
 use Rattle.ledger.specs.Proper.{Proper}
 use Rattle.ledger.proofs.EntryMore.{length-more, entry-last}
 use Rattle.ledger.proofs.Proper.{empty-proper}
 use Rattle.ledger.specs.Decide.{combined?}
 use Rattle.ledger.proofs.RankRows.{own-combination, combination-more}
-use Rattle.ledger.proofs.LedgerSteps.{Took, new, repeat, refusal, took}
+use Rattle.ledger.proofs.LedgerSteps.{Took, new, repeat, conflict, refusal, took}
 use Rattle.ledger.proofs.LedgerRuns.{only-appends, run-proper}
 
 -- ---- places of members
@@ -129,10 +131,14 @@ module _ (p : ℕ) (ok : IsModulus p) (n : ℕ) where
       (own-combination (residues p) L rows (length es) (omega (arith, length-more es (entry xs v))))
 
   -- a refused take is not heard
-  refused-unheard : (frame mix : List ℕ) (r : Reply) → IsRefusal (r .told .number) → heardIn p n (Call.take frame mix) r ≡ []
+  refused-unheard : (frame mix : List ℕ) (k : Refusal) (ws xs : List ℕ)
+      → List·Memᴰ xs (heardIn p n (Call.take frame mix) (reply (refused k) ws [])) → ⊥
   unfolding heardIn
-  refused-unheard frame mix r h =
-      rw (ne-eqb (r .told .number) 0 (λ e. omega arith), ne-eqb (r .told .number) 100 (λ e. omega arith))
+  refused-unheard frame mix k ws xs m =
+      let h = refusal-number k in
+      let none : heardIn p n (Call.take frame mix) (reply (refused k) ws []) ≡ [] =
+      rw (ne-eqb (refusalNumber k) 0 (λ e. omega arith), ne-eqb (refusalNumber k) 100 (λ e. omega arith)) in
+      List·Memᴰ·not-nil (subst (List·Memᴰ xs) none m)
 
   -- what a take heard is a combination of the rows after it
   took-heard : (l : Ledger) (frame mix : List ℕ) {r : Outcome (Ledger × List ℕ)} → Took p ok n l frame mix r → (xs : List ℕ)
@@ -142,10 +148,10 @@ module _ (p : ℕ) (ok : IsModulus p) (n : ℕ) where
       subst (InSpan p n (l .entries ++ (entry ys v ∷ [])))
       (sym (List·Memᴰ·eq-of-singleton (subst (λ g. List·Memᴰ xs (multipliersOf g)) e m)))
       (span-own (l .entries) ys v)
-  took-heard l frame mix (repeat ys v e c) xs m =
+  took-heard l frame mix (repeat ys v e c g) xs m =
       subst (InSpan p n (l .entries)) (sym (List·Memᴰ·eq-of-singleton (subst (λ g. List·Memᴰ xs (multipliersOf g)) e m))) c
-  took-heard l frame mix (refusal k h ws) xs m =
-      absurd (List·Memᴰ·not-nil (subst (List·Memᴰ xs) (refused-unheard frame mix (reply (refused k) ws []) (refusal-number k)) m))
+  took-heard l frame mix (conflict ys v e c g) xs m = absurd (refused-unheard frame mix Conflict (mixWords p n (l .entries) (c .0)) xs m)
+  took-heard l frame mix (refusal k h) xs m = absurd (refused-unheard frame mix k mix xs m)
 
   -- the entries after a take stood before it or were heard
   took-stands : (l : Ledger) (frame mix : List ℕ) {r : Outcome (Ledger × List ℕ)} → Took p ok n l frame mix r → (e : Entry)
@@ -158,8 +164,9 @@ module _ (p : ℕ) (ok : IsModulus p) (n : ℕ) where
       (subst (λ g. List·Memᴰ (d .multipliers) (multipliersOf g)) (sym e)
       (List·Memᴰ·head (ap (λ (a : Entry). a .multipliers) (List·Memᴰ·eq-of-singleton k)))))
       (List·Memᴰ·append-cases (l .entries) m)
-  took-stands l frame mix (repeat ys v e c) d m = inl m
-  took-stands l frame mix (refusal k h ws) d m = inl m
+  took-stands l frame mix (repeat ys v e c g) d m = inl m
+  took-stands l frame mix (conflict ys v e c g) d m = inl m
+  took-stands l frame mix (refusal k h) d m = inl m
 
   -- what was heard is a combination of the rows at the end
   run-heard : (l : Ledger) (cs : List Call) → NoWithdrawal cs → (xs : List ℕ)

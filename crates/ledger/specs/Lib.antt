@@ -7,4 +7,6 @@ pub mod History
 pub mod Proper
 pub mod Heard
 pub mod Settle
+pub mod Turns
+pub mod Demand3
 pub mod Changes

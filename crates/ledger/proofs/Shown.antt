@@ -1,0 +1,111 @@
+-- What a take or a show replies where proper frames stand, by 01's sentences: a show that is not refused gives what `Shows` says,
+-- and the mix of a frame that is a combination of the standing rows is the one combination, `IsMix`.
+use mathlib.Core.Path.{_≡_, refl, sym, ap, _∙_, subst}
+use mathlib.Core.Logic.{_↔_, _⊎_, ⊎-elim}
+use mathlib.Core.List.{List, [], _∷_, _++_}
+use Prim.Native.Nat.{ℕ, zero, suc, _+_, _-_, _≤_, _<_}
+use native.Mathlib.Omega.{arith}
+use lib.IntN.{ℤ, pos}
+use lib.ListN.{length, getD, replicate, length-append, length-replicate, List·getD-append}
+use lib.Seq.{getD-append-add}
+use Rattle.algebra.proofs.Applied as applied
+use Rattle.checks.specs.Prime.{IsModulus}
+use Rattle.checks.specs.Refusal.{IsRefusal}
+use Rattle.checks.specs.Outcome.{Outcome}
+use Rattle.checks.proofs.Refusals.{refusal-number}
+use Rattle.checks.proofs.InOrder.{in-order-elim}
+use Rattle.words.proofs.Zeros.{zeros-at}
+use Rattle.field.specs.Residue.{reduce, residues}
+use Rattle.field.specs.Written.{tabulate, numbers}
+use Rattle.field.proofs.Residues.{reduce-value, value-below}
+use Rattle.field.proofs.Written.{length-tabulate, getD-tabulate}
+use Rattle.frame.specs.Reading.{frameMultipliers, accepted, readFrame}
+use Rattle.frame.proofs.Round.{accepted-found}
+use Rattle.ledger.specs.Ledger.{Entry, Ledger, ledger, InSpan, multiplierRows}
+use Rattle.ledger.specs.Steps.{mixWords, tabulateℤ, shownMark, shownNumber, ledgerTake, ledgerShow}
+use Rattle.ledger.specs.History.{Reply, reply}
+use Rattle.ledger.specs.Proper.{Proper}
+use Rattle.ledger.specs.Demand3.{Shows, IsMix}
+use Rattle.ledger.proofs.LedgerSteps.{Took, new, repeat, conflict, refusal, took}
+use Rattle.ledger.proofs.LedgerLaws.{getD-tabulateℤ, combination-once, shown-exactly, marked-exactly, show-accepted}
+
+length-tabulateℤ : (k : ℕ) (f : ℕ → ℤ) → length (tabulateℤ k f) ≡ k
+unfolding tabulateℤ
+length-tabulateℤ zero f = refl
+length-tabulateℤ (suc k) f = ap suc (length-tabulateℤ k (λ t. f (suc t)))
+
+module _ (p : ℕ) (ok : IsModulus p) (n : ℕ) (es : List Entry) (proper : Proper p n es) where
+  -- ---- show
+
+  -- a show that is not refused was lent n marks and n numbers
+  shown-lengths : (marks : List ℕ) (zs : List ℤ) → (IsRefusal (ledgerShow p ok n (ledger es) marks zs .told .number) → ⊥)
+      → (length marks ≡ n) × (length zs ≡ n)
+  unfolding ledgerShow
+  shown-lengths marks zs =
+      in-order-elim _ _ (λ (o : Outcome (List ℕ × List ℤ)). (IsRefusal (o .told .number) → ⊥) → (length marks ≡ n) × (length zs ≡ n))
+      (λ hs _. (hs .0, hs .1 .0))
+      (λ k _ f. absurd (f (refusal-number k)))
+
+  -- a show's outcome as a reply
+  abbrev pub showReply : Outcome (List ℕ × List ℤ) → Reply
+  showReply r = reply (r .told) (r .lent .0) (r .lent .1)
+
+  pub show-shows : (marks : List ℕ) (zs : List ℤ) → (IsRefusal (ledgerShow p ok n (ledger es) marks zs .told .number) → ⊥)
+      → Shows p n es (showReply (ledgerShow p ok n (ledger es) marks zs))
+  show-shows marks zs f =
+      let (h, l) = shown-lengths marks zs f in
+      subst (λ r. Shows p n es (showReply r)) (sym (show-accepted p ok n es proper marks zs h l))
+      (record {
+        missing = refl;
+        marks-long = length-tabulate n (shownMark p ok n es);
+        numbers-long = length-tabulateℤ n (shownNumber p ok n es);
+        marked-exactly = λ j b. rw (getD-tabulate n (shownMark p ok n es) j b) (marked-exactly p ok n es proper j);
+        gives = λ j b.
+            rw (getD-tabulate n (shownMark p ok n es) j b, getD-tabulateℤ n (shownNumber p ok n es) j b) (shown-exactly p ok n es proper j);
+      })
+
+  -- ---- the mix
+
+  module _ (xs : List ℕ) (c : InSpan p n es xs) where
+    mixed-at : (i : ℕ) → i < length es → getD (mixWords p n es (c .0)) i 0 ≡ c .0 i .value
+    unfolding mixWords
+    mixed-at i h =
+        List·getD-append (numbers (length es) (c .0)) (replicate (n - length es) 0) 0 i
+        (rw (length-tabulate (length es) (λ t. c .0 t .value)) h)
+        ∙ getD-tabulate (length es) (λ t. c .0 t .value) i h
+
+    mixed-residue : (i : ℕ) → i < length es → reduce p (getD (mixWords p n es (c .0)) i 0) ≡ c .0 i
+    mixed-residue i h = ap (reduce p) (mixed-at i h) ∙ reduce-value (c .0 i)
+
+    mixed-rest : (i : ℕ) → length es ≤ i → getD (mixWords p n es (c .0)) i 0 ≡ 0
+    unfolding mixWords
+    mixed-rest i h =
+        let front = numbers (length es) (c .0) in
+        let e : length front + (i - length es) ≡ i = omega (arith, length-tabulate (length es) (λ t. c .0 t .value)) in
+        ap (λ j. getD (front ++ replicate (n - length es) 0) j 0) (sym e)
+        ∙ getD-append-add front (replicate (n - length es) 0) (i - length es) 0
+        ∙ zeros-at (n - length es) (i - length es)
+
+    pub mix-is : IsMix p n es xs (mixWords p n es (c .0))
+    unfolding mixWords
+    mix-is =
+        record {
+          long =
+              length-append (numbers (length es) (c .0)) (replicate (n - length es) 0)
+              ∙ omega (arith, proper .fits, length-tabulate (length es) (λ t. c .0 t .value), length-replicate {A = ℕ} (n - length es) 0);
+          below = λ i h. rw (mixed-at i h) (value-below (omega (arith, ok .prime .two-or-more)) (c .0 i));
+          combines = λ j l.
+              c .1 j l
+              ∙ applied.mixed-same (residues p) (length es) (c .0) (λ i. reduce p (getD (mixWords p n es (c .0)) i 0)) (multiplierRows p es)
+              (λ i h. sym (mixed-residue i h)) j;
+          only = λ u d i h. combination-once p ok n es proper xs (u, d) c i h ∙ sym (mixed-residue i h);
+          rest = mixed-rest;
+        }
+
+  -- a frame answered repeat, or refused by 9, leaves the mix of its multipliers
+  pub take-mixes : (frame mix : List ℕ) {r : Outcome (Ledger × List ℕ)} → Took p ok n (ledger es) frame mix r
+      → (r .told .number ≡ 100) ⊎ (r .told .number ≡ 9) → IsMix p n es (frameMultipliers n frame) (r .lent .1)
+  take-mixes frame mix (new xs v e f) d = absurd (⊎-elim (λ q. omega arith) (λ q. omega arith) d)
+  take-mixes frame mix (repeat xs v e c g) d = rw (accepted-found p n frame xs v e .0) (mix-is xs c)
+  take-mixes frame mix (conflict xs v e c g) d = rw (accepted-found p n frame xs v e .0) (mix-is xs c)
+  take-mixes frame mix (refusal k h) d = absurd (⊎-elim (λ q. omega (arith, refusal-number k)) (h .0) d)
