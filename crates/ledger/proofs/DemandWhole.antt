@@ -10,7 +10,7 @@ use lib.ListN.{length, getD, length-map}
 use Rattle.checks.specs.Prime.{IsModulus}
 use Rattle.checks.specs.Refusal.{IsRefusal}
 use Rattle.frame.specs.Reading.{frameMultipliers}
-use Rattle.ledger.specs.Ledger.{ledger}
+use Rattle.ledger.specs.Ledger.{Ledger, ledger}
 use Rattle.ledger.specs.Board.{countWord, layout}
 use Rattle.ledger.specs.Calls.{openCall}
 use Rattle.ledger.specs.History.{Call, Reply, After, ledgerStep, boardStep, run, ledgerRun, boardRun, onBoard}
@@ -18,10 +18,10 @@ use Rattle.ledger.specs.Turns.{Turn, noReply, replyOf, got, left}
 use Rattle.ledger.specs.Heard.{NoWithdrawal, news, heard, ledgerRows, rowsRank}
 use Rattle.ledger.specs.Settle.{AllSettled, unitTake}
 use Rattle.ledger.specs.Proper.{Proper}
-use Rattle.ledger.specs.Demand3.{Shows, IsMix, freshBoard, wordsAfter, repliesTo, standing, replyAt, Demand3}
+use Rattle.ledger.specs.Demand3.{Shows, IsMix, Counted, freshBoard, wordsAfter, repliesTo, standing, replyAt, Demand3}
 use Rattle.ledger.proofs.LayoutBoard.{layout-count}
 use Rattle.ledger.proofs.Proper.{empty-proper}
-use Rattle.ledger.proofs.LedgerRuns.{run-append, run-proper, step-not-eleven}
+use Rattle.ledger.proofs.LedgerRuns.{run-append, run-proper, step-not-eleven, step-counted}
 use Rattle.ledger.proofs.LedgerLaws.{standing-met}
 use Rattle.ledger.proofs.LedgerSteps.{took}
 use Rattle.ledger.proofs.Demand3.{open-accepted, history, board-as-ledger, refused-keeps, withdrawal-restores}
@@ -33,62 +33,76 @@ use Rattle.ledger.proofs.Shown.{show-shows, take-mixes}
 module _ (p : ℕ) (ok : IsModulus p) (n : ℕ) (ws : List ℕ) (done : openCall p n ws .told .number ≡ 0) where
   -- ---- the board that a list of calls has reached
 
-  pub standing-proper : (cs : List Call) → Proper p n (standing p ok n ws cs)
+  pub standing-proper : (cs : List Call) → Proper p n (standing p ok n cs)
   standing-proper cs = run-proper p ok n (ledger []) (empty-proper p n) cs
 
-  reached-layout : (cs : List Call) → wordsAfter p ok n ws cs ≡ layout p n (standing p ok n ws cs)
+  reached-layout : (cs : List Call) → wordsAfter p n ws cs ≡ layout p n (standing p ok n cs)
   reached-layout cs = ap (λ (a : After (List ℕ)). a .state) (board-as-ledger p n ws ok done cs)
 
-  reached-count : (cs : List Call) → countWord (wordsAfter p ok n ws cs) ≡ length (standing p ok n ws cs)
-  reached-count cs = ap (λ b. countWord b) (reached-layout cs) ∙ layout-count p n (standing p ok n ws cs)
+  reached-count : (cs : List Call) → countWord (wordsAfter p n ws cs) ≡ length (standing p ok n cs)
+  reached-count cs = ap (λ b. countWord b) (reached-layout cs) ∙ layout-count p n (standing p ok n cs)
 
-  replies-same : (cs : List Call) → repliesTo p ok n ws cs ≡ ledgerRun p ok n (ledger []) cs .replies
+  pub replies-same : (cs : List Call) → repliesTo p n ws cs ≡ ledgerRun p ok n (ledger []) cs .replies
   replies-same cs = ap (λ (a : After (List ℕ)). a .replies) (board-as-ledger p n ws ok done cs)
 
   -- further calls from there: the ledger goes on
   further-standing : (cs ds : List Call)
-      → ledgerRun p ok n (ledger (standing p ok n ws cs)) ds .state .entries ≡ standing p ok n ws (cs ++ ds)
+      → ledgerRun p ok n (ledger (standing p ok n cs)) ds .state .entries ≡ standing p ok n (cs ++ ds)
   further-standing cs ds = sym (ap (λ (a : After _). a .state .entries) (run-append (ledgerStep p ok n) (ledger []) cs ds))
 
   further-replies : (cs ds : List Call)
-      → boardRun (wordsAfter p ok n ws cs) ds .replies ≡ ledgerRun p ok n (ledger (standing p ok n ws cs)) ds .replies
+      → boardRun (wordsAfter p n ws cs) ds .replies ≡ ledgerRun p ok n (ledger (standing p ok n cs)) ds .replies
   further-replies cs ds =
       ap (λ b. boardRun b ds .replies) (reached-layout cs)
       ∙ ap (λ (a : After (List ℕ)). a .replies)
-      (history p n ok (open-accepted p n ws done .size) (ledger (standing p ok n ws cs)) (standing-proper cs) ds)
+      (history p n ok (open-accepted p n ws done .size) (ledger (standing p ok n cs)) (standing-proper cs) ds)
 
   -- ---- a call of the list
 
   -- its reply is that of the ledger's step on what stood before it
   pub turn-replied : {cs : List Call} (t : Turn cs)
-      → replyAt p ok n ws t ≡ replyOf (ledgerStep p ok n (ledger (standing p ok n ws (t .before))) (t .call))
+      → replyAt p n ws t ≡ replyOf (ledgerStep p ok n (ledger (standing p ok n (t .before))) (t .call))
   turn-replied {cs} t =
       ap (λ rs. getD rs (length (t .before)) noReply) (replies-same cs)
       ∙ turn-answered (ledgerStep p ok n) (ledger-once p ok n) (ledger []) t
 
-  turn-refused-keeps : {cs : List Call} (t : Turn cs) → IsRefusal (replyAt p ok n ws t .told .number)
-      → left boardStep (freshBoard p ok n ws) t ≡ got boardStep (freshBoard p ok n ws) t
+  turn-refused-keeps : {cs : List Call} (t : Turn cs) → IsRefusal (replyAt p n ws t .told .number)
+      → left boardStep (freshBoard p n ws) t ≡ got boardStep (freshBoard p n ws) t
   turn-refused-keeps t h =
-      turn-left boardStep (freshBoard p ok n ws) t
-      ∙ refused-keeps (got boardStep (freshBoard p ok n ws) t) (t .call)
-      (subst (λ (r : Reply). IsRefusal (r .told .number)) (turn-answered boardStep board-once (freshBoard p ok n ws) t) h)
+      turn-left boardStep (freshBoard p n ws) t
+      ∙ refused-keeps (got boardStep (freshBoard p n ws) t) (t .call)
+      (subst (λ (r : Reply). IsRefusal (r .told .number)) (turn-answered boardStep board-once (freshBoard p n ws) t) h)
+
+  -- the count of the board that it left is that of the ledger's step
+  turn-count : {cs : List Call} (t : Turn cs)
+      → countWord (left boardStep (freshBoard p n ws) t)
+      ≡ length (ledgerStep p ok n (ledger (standing p ok n (t .before))) (t .call) .state .entries)
+  turn-count t =
+      reached-count (t .before ++ (t .call ∷ []))
+      ∙ ap (λ (l : Ledger). length (l .entries)) (turn-left (ledgerStep p ok n) (ledger []) t)
+
+  turn-counted : {cs : List Call} (t : Turn cs)
+      → Counted n (t .call) (replyAt p n ws t .told) (countWord (left boardStep (freshBoard p n ws) t))
+  turn-counted t =
+      subst₂ (λ (r : Reply) k. Counted n (t .call) (r .told) k) (sym (turn-replied t)) (sym (turn-count t))
+      (step-counted p ok n (ledger (standing p ok n (t .before))) (t .call))
 
   turn-shows : {cs : List Call} (t : Turn cs) (marks : List ℕ) (numbers : List ℤ) → t .call ≡ Call.show marks numbers
-      → (IsRefusal (replyAt p ok n ws t .told .number) → ⊥) → Shows p n (standing p ok n ws (t .before)) (replyAt p ok n ws t)
+      → (IsRefusal (replyAt p n ws t .told .number) → ⊥) → Shows p n (standing p ok n (t .before)) (replyAt p n ws t)
   unfolding ledgerStep
   turn-shows t marks numbers e f =
-      let es = standing p ok n ws (t .before) in
+      let es = standing p ok n (t .before) in
       let same = turn-replied t ∙ ap (λ c. replyOf (ledgerStep p ok n (ledger es) c)) e in
       subst (Shows p n es) (sym same)
       (show-shows p ok n es (standing-proper (t .before)) marks numbers
       (λ h. f (subst (λ (r : Reply). IsRefusal (r .told .number)) (sym same) h)))
 
   turn-mixes : {cs : List Call} (t : Turn cs) (frame mix : List ℕ) → t .call ≡ Call.take frame mix
-      → (replyAt p ok n ws t .told .number ≡ 100) ⊎ (replyAt p ok n ws t .told .number ≡ 9)
-      → IsMix p n (standing p ok n ws (t .before)) (frameMultipliers n frame) (replyAt p ok n ws t .words)
+      → (replyAt p n ws t .told .number ≡ 100) ⊎ (replyAt p n ws t .told .number ≡ 9)
+      → IsMix p n (standing p ok n (t .before)) (frameMultipliers n frame) (replyAt p n ws t .words)
   unfolding ledgerStep
   turn-mixes t frame mix e d =
-      let es = standing p ok n ws (t .before) in
+      let es = standing p ok n (t .before) in
       let same = turn-replied t ∙ ap (λ c. replyOf (ledgerStep p ok n (ledger es) c)) e in
       subst (λ (r : Reply). IsMix p n es (frameMultipliers n frame) (r .words)) (sym same)
       (take-mixes p ok n es (standing-proper (t .before)) frame mix (took p ok n (ledger es) frame mix)
@@ -97,32 +111,32 @@ module _ (p : ℕ) (ok : IsModulus p) (n : ℕ) (ws : List ℕ) (done : openCall
   -- ---- withdrawals, rank and missing frames
 
   restored : (before takes : List Call) → NoWithdrawal takes
-      → (g : ℕ) → countWord (wordsAfter p ok n ws (before ++ takes)) ≡ countWord (wordsAfter p ok n ws before) + g
-      → wordsAfter p ok n ws ((before ++ takes) ++ (Call.withdraw g ∷ [])) ≡ wordsAfter p ok n ws before
+      → (g : ℕ) → countWord (wordsAfter p n ws (before ++ takes)) ≡ countWord (wordsAfter p n ws before) + g
+      → wordsAfter p n ws ((before ++ takes) ++ (Call.withdraw g ∷ [])) ≡ wordsAfter p n ws before
   restored before takes only g many =
-      let es = standing p ok n ws before in
+      let es = standing p ok n before in
       let long : length (ledgerRun p ok n (ledger es) takes .state .entries) ≡ length es + g =
       ap length (further-standing before takes) ∙ sym (reached-count (before ++ takes)) ∙ many ∙ ap (λ k. k + g) (reached-count before) in
-      ap (λ ds. wordsAfter p ok n ws ds) (append-assoc before takes (Call.withdraw g ∷ []))
-      ∙ ap (λ (a : After (List ℕ)). a .state) (run-append boardStep (freshBoard p ok n ws) before (takes ++ (Call.withdraw g ∷ [])))
+      ap (λ ds. wordsAfter p n ws ds) (append-assoc before takes (Call.withdraw g ∷ []))
+      ∙ ap (λ (a : After (List ℕ)). a .state) (run-append boardStep (freshBoard p n ws) before (takes ++ (Call.withdraw g ∷ [])))
       ∙ ap (λ b. boardRun b (takes ++ (Call.withdraw g ∷ [])) .state) (reached-layout before)
       ∙ withdrawal-restores p n ok (open-accepted p n ws done .size) (ledger es) (standing-proper before) takes only g long
       ∙ sym (reached-layout before)
 
-  at-least : (cs ds : List Call) → AllSettled p n (standing p ok n ws (cs ++ ds))
-      → n - countWord (wordsAfter p ok n ws cs) ≤ news ds (boardRun (wordsAfter p ok n ws cs) ds .replies)
+  at-least : (cs ds : List Call) → AllSettled p n (standing p ok n (cs ++ ds))
+      → n - countWord (wordsAfter p n ws cs) ≤ news ds (boardRun (wordsAfter p n ws cs) ds .replies)
   at-least cs ds all =
       subst₂ (λ k rs. n - k ≤ news ds rs) (sym (reached-count cs)) (sym (further-replies cs ds))
-      (missing.missing-at-least p ok n (ledger (standing p ok n ws cs)) (standing-proper cs) ds
+      (missing.missing-at-least p ok n (ledger (standing p ok n cs)) (standing-proper cs) ds
       (subst (AllSettled p n) (sym (further-standing cs ds)) all))
 
   enough : (cs : List Call)
-      → (columns : List ℕ) × (length columns ≡ n - countWord (wordsAfter p ok n ws cs))
-      × ((r : Reply) → List·Memᴰ r (boardRun (wordsAfter p ok n ws cs) (map (unitTake n) columns) .replies) → r .told .number ≡ 0)
-      × (news (map (unitTake n) columns) (boardRun (wordsAfter p ok n ws cs) (map (unitTake n) columns) .replies) ≡ length columns)
-      × AllSettled p n (standing p ok n ws (cs ++ map (unitTake n) columns))
+      → (columns : List ℕ) × (length columns ≡ n - countWord (wordsAfter p n ws cs))
+      × ((r : Reply) → List·Memᴰ r (boardRun (wordsAfter p n ws cs) (map (unitTake n) columns) .replies) → r .told .number ≡ 0)
+      × (news (map (unitTake n) columns) (boardRun (wordsAfter p n ws cs) (map (unitTake n) columns) .replies) ≡ length columns)
+      × AllSettled p n (standing p ok n (cs ++ map (unitTake n) columns))
   enough cs =
-      let (columns, many, settling) = missing.missing-enough p ok n (standing p ok n ws cs) (standing-proper cs) in
+      let (columns, many, settling) = missing.missing-enough p ok n (standing p ok n cs) (standing-proper cs) in
       let replies = further-replies cs (map (unitTake n) columns) in (
         columns,
         many ∙ ap (λ k. n - k) (sym (reached-count cs)),
@@ -137,20 +151,21 @@ module _ (p : ℕ) (ok : IsModulus p) (n : ℕ) (ws : List ℕ) (done : openCall
   demand-3 cs =
       record {
         as-ledger = board-as-ledger p n ws ok done cs;
-        each-answered = replies-many boardStep board-once (freshBoard p ok n ws) cs;
+        each-answered = replies-many boardStep board-once (freshBoard p n ws) cs;
+        counted = turn-counted;
         refused-keeps = turn-refused-keeps;
         never-eleven = λ t e.
-            step-not-eleven p ok n (ledger (standing p ok n ws (t .before))) (t .call)
+            step-not-eleven p ok n (ledger (standing p ok n (t .before))) (t .call)
             (sym (ap (λ (r : Reply). r .told .number) (turn-replied t)) ∙ e);
         restores = λ before takes e only g many.
-            ap (λ ds. wordsAfter p ok n ws (ds ++ (Call.withdraw g ∷ []))) e
-            ∙ restored before takes only g (ap (λ ds. countWord (wordsAfter p ok n ws ds)) (sym e) ∙ many);
+            ap (λ ds. wordsAfter p n ws (ds ++ (Call.withdraw g ∷ []))) e
+            ∙ restored before takes only g (ap (λ ds. countWord (wordsAfter p n ws ds)) (sym e) ∙ many);
         count-standing = reached-count cs;
-        count-rank = reached-count cs ∙ sym (ledger-rank p ok n (standing p ok n ws cs) (standing-proper cs));
+        count-rank = reached-count cs ∙ sym (ledger-rank p ok n (standing p ok n cs) (standing-proper cs));
         heard-rank = λ only hs order.
             heard-rank p ok n cs only hs (subst (λ rs. Perm (heard p n cs rs) hs) (replies-same cs) order) ∙ sym (reached-count cs);
         shows = turn-shows;
-        common = standing-met p ok n (standing p ok n ws cs) (standing-proper cs);
+        common = standing-met p ok n (standing p ok n cs) (standing-proper cs);
         mixes = turn-mixes;
         missing-at-least = at-least cs;
         missing-enough = enough cs;

@@ -3,18 +3,26 @@
 use mathlib.Core.Path.{_≡_, refl, sym, ap, _∙_, subst}
 use mathlib.Core.Logic.{⊎-elim}
 use mathlib.Core.List.{List, [], _∷_, _++_, append-nil, append-assoc, List·Memᴰ, List·Memᴰ·not-nil, List·Memᴰ·append-cases, List·Memᴰ·eq-of-singleton}
-use Prim.Native.Nat.{ℕ}
+use Prim.Native.Nat.{ℕ, _-_}
+use native.Mathlib.Nat.{sub-le}
 use native.Mathlib.Omega.{arith}
-use lib.IntN.{ℤ}
+use lib.IntN.{ℤ, pos}
+use lib.ListN.{length}
+use lib.Seq.{length-take-le}
 use Rattle.checks.specs.Prime.{IsModulus}
+use Rattle.checks.specs.declared.Refusal.the-variants.{Length, Conflict, Withdrawal}
 use Rattle.checks.specs.Refusal.{IsRefusal}
+use Rattle.checks.specs.Told.{results}
+use Rattle.checks.proofs.Refusals.{refusal-number}
 use Rattle.checks.specs.Outcome.{Outcome}
 use Rattle.ledger.specs.Ledger.{Entry, entry, Ledger}
 use Rattle.ledger.specs.Steps.{ledgerTake, ledgerWithdraw}
 use Rattle.ledger.specs.History.{Call, Reply, After, after, ledgerStep, run, ledgerRun}
 use Rattle.ledger.specs.Turns.{replyOf}
+use Rattle.ledger.specs.Demand3.{Counted}
 use Rattle.ledger.specs.Heard.{NoWithdrawal}
 use Rattle.ledger.specs.Proper.{Proper}
+use Rattle.ledger.proofs.EntryMore.{length-more}
 use Rattle.ledger.proofs.Proper.{step-proper}
 use Rattle.ledger.proofs.LedgerSteps.{Took, new, repeat, conflict, refusal, took, Withdrew, dropped, overlong, withdrew, Showed, answered, unshown}
 use Rattle.ledger.proofs.LedgerSteps.{showed}
@@ -70,17 +78,44 @@ module _ (p : ℕ) (ok : IsModulus p) (n : ℕ) where
 
   withdrew-not-eleven : (l : Ledger) (t : ℕ) {r : Outcome Ledger} → Withdrew l t r → r .told .number ≡ 11 → ⊥
   withdrew-not-eleven l t (dropped h) d = omega arith
-  withdrew-not-eleven l t (overlong k h) d = h d
+  withdrew-not-eleven l t overlong d = omega arith
 
   showed-not-eleven : (l : Ledger) {r : Outcome (List ℕ × List ℤ)} → Showed n l r → r .told .number ≡ 11 → ⊥
   showed-not-eleven l (answered lent) d = omega arith
-  showed-not-eleven l (unshown k h lent) d = h d
+  showed-not-eleven l (unshown lent) d = omega arith
 
   pub step-not-eleven : (l : Ledger) (c : Call) → replyOf (ledgerStep p ok n l c) .told .number ≡ 11 → ⊥
   unfolding ledgerStep
   step-not-eleven l (Call.take frame mix) d = took-not-eleven l frame mix (took p ok n l frame mix) d
   step-not-eleven l (Call.withdraw t) d = withdrew-not-eleven l t (withdrew l t) d
   step-not-eleven l (Call.show marks numbers) d = showed-not-eleven l (showed p ok n l marks numbers) d
+
+  -- ---- what is told of the count
+
+  took-counted : (l : Ledger) (frame mix : List ℕ) {r : Outcome (Ledger × List ℕ)} → Took p ok n l frame mix r
+      → Counted n (Call.take frame mix) (r .told) (length (r .lent .0 .entries))
+  took-counted l frame mix (new xs v e f) h = ap (λ k. pos k ∷ []) (sym (length-more (l .entries) (entry xs v)))
+  took-counted l frame mix (repeat xs v e c g) h = refl
+  took-counted l frame mix (conflict xs v e c g) h = absurd (h (refusal-number Conflict))
+  took-counted l frame mix (refusal k i) h = absurd (h (refusal-number k))
+
+  withdrew-counted : (l : Ledger) (t : ℕ) {r : Outcome Ledger} → Withdrew l t r
+      → Counted n (Call.withdraw t) (r .told) (length (r .lent .entries))
+  withdrew-counted l t (dropped h) f =
+      ap results (sym (length-take-le (length (l .entries) - t) (l .entries) (sub-le (length (l .entries)) t)))
+  withdrew-counted l t overlong f = absurd (f (refusal-number Withdrawal))
+
+  showed-counted : (l : Ledger) (marks : List ℕ) (zs : List ℤ) {r : Outcome (List ℕ × List ℤ)} → Showed n l r
+      → Counted n (Call.show marks zs) (r .told) (length (l .entries))
+  showed-counted l marks zs (answered lent) f = refl
+  showed-counted l marks zs (unshown lent) f = absurd (f (refusal-number Length))
+
+  pub step-counted : (l : Ledger) (c : Call)
+      → Counted n c (replyOf (ledgerStep p ok n l c) .told) (length (ledgerStep p ok n l c .state .entries))
+  unfolding ledgerStep
+  step-counted l (Call.take frame mix) = took-counted l frame mix (took p ok n l frame mix)
+  step-counted l (Call.withdraw t) = withdrew-counted l t (withdrew l t)
+  step-counted l (Call.show marks numbers) = showed-counted l marks numbers (showed p ok n l marks numbers)
 
 -- ---- a refused call leaves the ledger as it is
 
@@ -93,7 +128,7 @@ took-refused p ok n l frame mix (refusal k i) h = refl
 
 pub withdrew-refused : (l : Ledger) (t : ℕ) {r : Outcome Ledger} → Withdrew l t r → IsRefusal (r .told .number) → r .lent ≡ l
 withdrew-refused l t (dropped h) i = absurd (omega arith)
-withdrew-refused l t (overlong k h) i = refl
+withdrew-refused l t overlong i = refl
 
 -- 01: "A refused call leaves it as it is"
 pub ledger-refused-keeps : (p : ℕ) (ok : IsModulus p) (n : ℕ) (l : Ledger) (c : Call)

@@ -12,7 +12,7 @@ use Rattle.checks.specs.Refusal.{refusalNumber}
 use Rattle.checks.specs.Told.{refused, results}
 use Rattle.checks.specs.Outcome.{Outcome, outcome, untouched}
 use Rattle.checks.specs.Prime.{IsModulus}
-use Rattle.checks.specs.declared.Refusal.the-variants.{Length, Conflict}
+use Rattle.checks.specs.declared.Refusal.the-variants.{Length, Conflict, Withdrawal}
 use Rattle.checks.specs.InOrder.{passed, _else_, _⨾_, inOrder}
 use Rattle.checks.specs.Decide.{long?}
 use Rattle.checks.proofs.InOrder.{none-left, fails-here, in-order-done, in-order-refused, in-order-elim, in-order-map, in-order-then, kind-of-list, _and-then_}
@@ -22,13 +22,9 @@ use Rattle.ledger.specs.Ledger.{entry, Ledger, ledger, InSpan, GivesValu
 use Rattle.ledger.specs.Decide.{inSpan?, givesValue?}
 use Rattle.ledger.specs.Steps.{newTold, repeatTold, mixWords, takeInSpan, takeAccepted, ledgerTake, ledgerWithdraw, ledgerShow}
 
--- a kind that a step of the ledger refuses by: any but 11, which is for words that hold no ledger
-abbrev pub StepKind : Refusal → Type 0
-StepKind k = refusalNumber k ≡ 11 → ⊥
-
--- and one that take refuses by before it looks at the standing frames: not 9 either
+-- a kind that take refuses by before it looks at the standing frames: not 9, and not 11, which is for words that hold no ledger
 abbrev pub EarlyKind : Refusal → Type 0
-EarlyKind k = (refusalNumber k ≡ 9 → ⊥) × StepKind k
+EarlyKind k = (refusalNumber k ≡ 9 → ⊥) × (refusalNumber k ≡ 11 → ⊥)
 
 -- ---- take
 
@@ -92,23 +88,26 @@ module _ (p : ℕ) (ok : IsModulus p) (n : ℕ) (l : Ledger) (frame mix : List �
 pub data Withdrew (l : Ledger) (t : ℕ) : Outcome Ledger → Type 0 where
   dropped : t ≤ length (l .entries)
       → Withdrew l t (outcome (results (length (l .entries) - t)) (ledger (take (length (l .entries) - t) (l .entries))))
-  overlong : (k : Refusal) → StepKind k → Withdrew l t (untouched l k)
+  overlong : Withdrew l t (untouched l Withdrawal)
 
 pub withdrew : (l : Ledger) (t : ℕ) → Withdrew l t (ledgerWithdraw l t)
 unfolding ledgerWithdraw
 withdrew l t =
-    in-order-elim _ _ (Withdrew l t) (λ hs. dropped (hs .0)) (λ k f. overlong k (kind-of-list StepKind (λ e. omega arith, λ _. tt) f))
+    in-order-elim _ _ (Withdrew l t) (λ hs. dropped (hs .0))
+    (λ k f. subst (λ q. Withdrew l t (untouched l q)) (sym (kind-of-list (λ q. q ≡ Withdrawal) (refl, λ _. tt) f)) overlong)
 
 -- ---- show
 
 -- what is told: n minus the count, or a refusal
 pub data Showed (n : ℕ) (l : Ledger) : Outcome (List ℕ × List ℤ) → Type 0 where
   answered : (lent : List ℕ × List ℤ) → Showed n l (outcome (results (n - length (l .entries))) lent)
-  unshown : (k : Refusal) → StepKind k → (lent : List ℕ × List ℤ) → Showed n l (untouched lent k)
+  unshown : (lent : List ℕ × List ℤ) → Showed n l (untouched lent Length)
 
 pub showed : (p : ℕ) (ok : IsModulus p) (n : ℕ) (l : Ledger) (marks : List ℕ) (zs : List ℤ)
     → Showed n l (ledgerShow p ok n l marks zs)
 unfolding ledgerShow
 showed p ok n l marks zs =
     in-order-elim _ _ (Showed n l) (λ _. answered _)
-    (λ k f. unshown k (kind-of-list StepKind (λ e. omega arith, λ _. (λ e. omega arith, λ _. tt)) f) (marks, zs))
+    (λ k f.
+    subst (λ q. Showed n l (untouched (marks, zs) q)) (sym (kind-of-list (λ q. q ≡ Length) (refl, λ _. (refl, λ _. tt)) f))
+    (unshown (marks, zs)))

@@ -17,3 +17,5 @@ pub mod Missing
 pub mod Shown
 pub mod Turns
 pub mod DemandWhole
+pub mod Honest
+pub mod SumOfFrames

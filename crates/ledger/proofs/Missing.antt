@@ -47,7 +47,7 @@ module _ (p : ℕ) (ok : IsModulus p) (n : ℕ) where
 
   withdrew-falls : (l : Ledger) (t : ℕ) {r : Outcome Ledger} → Withdrew l t r → length (r .lent .entries) ≤ length (l .entries)
   withdrew-falls l t (dropped h) = omega (arith, length-take (length (l .entries) - t) (l .entries))
-  withdrew-falls l t (overlong k h) = omega arith
+  withdrew-falls l t overlong = omega arith
 
   -- the count rises by the takes answered new, at most
   pub count-rises : (l : Ledger) (cs : List Call)

@@ -110,7 +110,7 @@ module _ (p n : ℕ) (es : List Entry) (proper : Proper p n es) where
 
     withdrew-proper : (t : ℕ) {r : Outcome Ledger} → Withdrew (ledger es) t r → Proper p n (r .lent .entries)
     withdrew-proper t (dropped h) = front-proper (length es - t) (omega (arith, ok .prime .two-or-more)) (sub-le (length es) t)
-    withdrew-proper t (overlong k h) = proper
+    withdrew-proper t overlong = proper
 
     pub step-proper : (c : Call) → Proper p n (ledgerStep p ok n (ledger es) c .state .entries)
     unfolding ledgerStep

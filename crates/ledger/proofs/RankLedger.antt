@@ -169,7 +169,7 @@ module _ (p : ℕ) (ok : IsModulus p) (n : ℕ) where
   took-stands l frame mix (refusal k h) d m = inl m
 
   -- what was heard is a combination of the rows at the end
-  run-heard : (l : Ledger) (cs : List Call) → NoWithdrawal cs → (xs : List ℕ)
+  pub run-heard : (l : Ledger) (cs : List Call) → NoWithdrawal cs → (xs : List ℕ)
       → List·Memᴰ xs (heard p n cs (ledgerRun p ok n l cs .replies)) → InSpan p n (ledgerRun p ok n l cs .state .entries) xs
   unfolding heard heardIn run ledgerStep
   run-heard l [] h xs m = absurd (List·Memᴰ·not-nil m)

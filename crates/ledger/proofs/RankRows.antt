@@ -65,6 +65,18 @@ module _ (R : Ring) (L : IsCommutativeRing R) where
   pub own-combination : {k n : ℕ} (X : Matrix R) (y : ℕ) → y < k → IsCombination R k n X (X y)
   own-combination {k} X y h = (unit R y, λ j l. sym (applied.unit-mixed R L k X y j h))
 
+  -- the sum of two combinations is one
+  pub combination-plus : (k n : ℕ) (X : Matrix R) (v w : Vector R) → IsCombination R k n X v → IsCombination R k n X w
+      → IsCombination R k n X (λ j. v j ⊕ w j)
+  unfolding mixed
+  combination-plus k n X v w (u, c) (s, d) = (
+    (λ t. u t ⊕ s t),
+    λ j l.
+        ap₂ (λ a b. a ⊕ b) (c j l) (d j l)
+        ∙ sym (sums.sum-plus R L k (λ t. u t ⊗ X t j) (λ t. s t ⊗ X t j))
+        ∙ sums.sum-same R k (λ t. u t ⊗ X t j ⊕ s t ⊗ X t j) (λ t. (u t ⊕ s t) ⊗ X t j) (λ t h. sym (rings.plus-times R L (u t) (s t) (X t j))),
+  )
+
   module _ (k : ℕ) (u : Vector R) where
     -- the first k multipliers, and zeros behind them
     front : Vector R

@@ -10,7 +10,7 @@ use Rattle.algebra.specs.Matrix.{Vector}
 use Rattle.algebra.specs.Span.{Combines}
 use Rattle.checks.specs.Prime.{IsModulus}
 use Rattle.checks.specs.Refusal.{IsRefusal}
-use Rattle.checks.specs.Told.{results}
+use Rattle.checks.specs.Told.{Told, results}
 use Rattle.field.specs.Residue.{reduce, residues}
 use Rattle.frame.specs.Reading.{frameMultipliers}
 use Rattle.ledger.specs.Ledger.{Entry, ledger, Assignment, MeetsAll, Settled, multiplierRows}
@@ -40,63 +40,74 @@ pub record IsMix (p n : ℕ) (es : List Entry) (xs mix : List ℕ) : Type 0 wher
       → (i : ℕ) → i < length es → u i ≡ reduce p (getD mix i 0)
   pub rest : (i : ℕ) → length es ≤ i → getD mix i 0 ≡ 0
 
-module _ (p : ℕ) (ok : IsModulus p) (n : ℕ) (ws : List ℕ) where
+-- what an answer that carries a count tells of the count k that the board then has: new and repeat carry it, withdraw answers it, and
+-- show answers n minus it
+abbrev pub Counted : (n : ℕ) → Call → Told → ℕ → Type 0
+Counted n (take frame mix) told k = (IsRefusal (told .number) → ⊥) → told .values ≡ pos k ∷ []
+Counted n (withdraw t) told k = (IsRefusal (told .number) → ⊥) → told ≡ results k
+Counted n (show marks numbers) told k = (IsRefusal (told .number) → ⊥) → told ≡ results (n - k)
+
+module _ (p n : ℕ) (ws : List ℕ) where
   -- the board that open wrote into the words ws
   abbrev pub freshBoard : List ℕ
   freshBoard = openCall p n ws .lent
 
-  -- after calls from there: the board's words, the replies, and the frames that stand in the ledger that is fed the same calls
+  -- after calls from there: the board's words, and the replies
   abbrev pub wordsAfter : List Call → List ℕ
   wordsAfter cs = boardRun freshBoard cs .state
 
   abbrev pub repliesTo : List Call → List Reply
   repliesTo cs = boardRun freshBoard cs .replies
 
-  abbrev pub standing : List Call → List Entry
-  standing cs = ledgerRun p ok n (ledger []) cs .state .entries
-
   -- the reply to a call of a list
   abbrev pub replyAt : {cs : List Call} → Turn cs → Reply
   replyAt t = answered boardStep freshBoard t
 
+-- the frames that stand after calls: the entries of the ledger that is fed them
+abbrev pub standing : (p : ℕ) → IsModulus p → (n : ℕ) → List Call → List Entry
+standing p ok n cs = ledgerRun p ok n (ledger []) cs .state .entries
+
+module _ (p : ℕ) (ok : IsModulus p) (n : ℕ) (ws : List ℕ) where
   pub record Demand3 (cs : List Call) : Type 0 where
     -- "After the list these equal the ledger's: every answer ..; every mix, mark and number as its call left it; all board words,
     -- being the board laid out as above with the count as k and the entries as its rows." Each call has one reply.
-    pub as-ledger : boardRun freshBoard cs ≡ onBoard p n (ledgerRun p ok n (ledger []) cs)
-    pub each-answered : length (repliesTo cs) ≡ length cs
+    pub as-ledger : boardRun (freshBoard p n ws) cs ≡ onBoard p n (ledgerRun p ok n (ledger []) cs)
+    pub each-answered : length (repliesTo p n ws cs) ≡ length cs
+    -- "answer new, with the count", "The answer is the count": of the board that the call left
+    pub counted : (t : Turn cs) → Counted n (t .call) (replyAt p n ws t .told) (countWord (left boardStep (freshBoard p n ws) t))
     -- "Refused calls change no board word."
-    pub refused-keeps : (t : Turn cs) → IsRefusal (replyAt t .told .number) → left boardStep freshBoard t ≡ got boardStep freshBoard t
+    pub refused-keeps : (t : Turn cs) → IsRefusal (replyAt p n ws t .told .number) → left boardStep (freshBoard p n ws) t ≡ got boardStep (freshBoard p n ws) t
     -- "in a list of calls 11 never occurs"
-    pub never-eleven : (t : Turn cs) → replyAt t .told .number ≡ 11 → ⊥
+    pub never-eleven : (t : Turn cs) → replyAt p n ws t .told .number ≡ 11 → ⊥
     -- "After accepted takes only, adding g entries, a withdrawal of g restores every word." Shows and refused takes may stand
     -- between them.
     pub restores : (before takes : List Call) → cs ≡ before ++ takes → NoWithdrawal takes
-        → (g : ℕ) → countWord (wordsAfter cs) ≡ countWord (wordsAfter before) + g
-        → wordsAfter (cs ++ (withdraw g ∷ [])) ≡ wordsAfter before
+        → (g : ℕ) → countWord (wordsAfter p n ws cs) ≡ countWord (wordsAfter p n ws before) + g
+        → wordsAfter p n ws (cs ++ (withdraw g ∷ [])) ≡ wordsAfter p n ws before
     -- "Its entries are the standing frames; their number is the count." "The count of frames held is the rank of the ledger's
     -- rows."
-    pub count-standing : countWord (wordsAfter cs) ≡ length (standing cs)
-    pub count-rank : countWord (wordsAfter cs) ≡ rowsRank p ok n (ledgerRows (standing cs))
+    pub count-standing : countWord (wordsAfter p n ws cs) ≡ length (standing p ok n cs)
+    pub count-rank : countWord (wordsAfter p n ws cs) ≡ rowsRank p ok n (ledgerRows (standing p ok n cs))
     -- "in a history without withdrawals that is also the rank of the multipliers of all frames answered new or repeat, in
     -- whatever order they came": hs is any order of those that the board's own replies answer so
-    pub heard-rank : NoWithdrawal cs → (hs : List (List ℕ)) → Perm (heard p n cs (repliesTo cs)) hs
-        → rowsRank p ok n hs ≡ countWord (wordsAfter cs)
+    pub heard-rank : NoWithdrawal cs → (hs : List (List ℕ)) → Perm (heard p n cs (repliesTo p n ws cs)) hs
+        → rowsRank p ok n hs ≡ countWord (wordsAfter p n ws cs)
     -- "A show not refused gives a record exactly when all assignments meeting the frames then standing agree on it, and gives
     -- what they agree on."
     pub shows : (t : Turn cs) (marks : List ℕ) (numbers : List ℤ) → t .call ≡ show marks numbers
-        → (IsRefusal (replyAt t .told .number) → ⊥) → Shows p n (standing (t .before)) (replyAt t)
+        → (IsRefusal (replyAt p n ws t .told .number) → ⊥) → Shows p n (standing p ok n (t .before)) (replyAt p n ws t)
     -- the standing frames have a common assignment
-    pub common : (x : Assignment p) × MeetsAll p n (standing cs) x
+    pub common : (x : Assignment p) × MeetsAll p n (standing p ok n cs) x
     -- "Otherwise the combination is unique; its multipliers are written to the mix, the rest 0.": of a frame that is answered
     -- repeat, 100, or refused by 9
     pub mixes : (t : Turn cs) (frame mix : List ℕ) → t .call ≡ take frame mix
-        → (replyAt t .told .number ≡ 100) ⊎ (replyAt t .told .number ≡ 9)
-        → IsMix p n (standing (t .before)) (frameMultipliers n frame) (replyAt t .words)
+        → (replyAt p n ws t .told .number ≡ 100) ⊎ (replyAt p n ws t .told .number ≡ 9)
+        → IsMix p n (standing p ok n (t .before)) (frameMultipliers n frame) (replyAt p n ws t .words)
     -- "Missing = n - k: every list of further calls after which all records are settled has at least n - k takes answered new"
-    pub missing-at-least : (ds : List Call) → AllSettled p n (standing (cs ++ ds))
-        → n - countWord (wordsAfter cs) ≤ news ds (boardRun (wordsAfter cs) ds .replies)
+    pub missing-at-least : (ds : List Call) → AllSettled p n (standing p ok n (cs ++ ds))
+        → n - countWord (wordsAfter p n ws cs) ≤ news ds (boardRun (wordsAfter p n ws cs) ds .replies)
     -- "and after some n - k takes, all answered new, all are settled": takes of frames that carry one record each
-    pub missing-enough : (columns : List ℕ) × (length columns ≡ n - countWord (wordsAfter cs))
-        × ((r : Reply) → List·Memᴰ r (boardRun (wordsAfter cs) (map (unitTake n) columns) .replies) → r .told .number ≡ 0)
-        × (news (map (unitTake n) columns) (boardRun (wordsAfter cs) (map (unitTake n) columns) .replies) ≡ length columns)
-        × AllSettled p n (standing (cs ++ map (unitTake n) columns))
+    pub missing-enough : (columns : List ℕ) × (length columns ≡ n - countWord (wordsAfter p n ws cs))
+        × ((r : Reply) → List·Memᴰ r (boardRun (wordsAfter p n ws cs) (map (unitTake n) columns) .replies) → r .told .number ≡ 0)
+        × (news (map (unitTake n) columns) (boardRun (wordsAfter p n ws cs) (map (unitTake n) columns) .replies) ≡ length columns)
+        × AllSettled p n (standing p ok n (cs ++ map (unitTake n) columns))

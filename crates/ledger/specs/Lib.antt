@@ -9,4 +9,5 @@ pub mod Heard
 pub mod Settle
 pub mod Turns
 pub mod Demand3
+pub mod Honest
 pub mod Changes

@@ -1,0 +1,68 @@
+-- The mission's own sentence: a heat whose frames all carry what seal gives for one set of records, whichever frames were lost,
+-- doubled or summed, is shown as those records or as unknown, and a frame that is the sum of two others is never new.
+use mathlib.Core.Path.{_≡_}
+use mathlib.Core.List.{List, List·Memᴰ}
+use Prim.Native.Nat.{ℕ, _+_, _%_, _<_}
+use lib.IntN.{ℤ, pos}
+use lib.ListN.{length, getD}
+use Rattle.checks.specs.Prime.{IsModulus}
+use Rattle.checks.specs.Refusal.{IsRefusal}
+use Rattle.checks.specs.Told.{gives}
+use Rattle.checks.specs.Outcome.{outcome}
+use Rattle.field.specs.Residue.{reduce}
+use Rattle.signed.specs.Reading.{residueOf}
+use Rattle.frame.specs.Sealing.{Records}
+use Rattle.frame.specs.Calls.{readCall, sealCall}
+use Rattle.ledger.specs.Ledger.{Entry, noEntry, Assignment, MeetsAll}
+use Rattle.ledger.specs.History.{Call, take, show}
+use Rattle.ledger.specs.Turns.{Turn}
+use Rattle.ledger.specs.Demand3.{standing, replyAt}
+
+-- n records in the signed range
+pub record Heat (p n : ℕ) (zs : List ℤ) : Type 0 where
+  pub many : length zs ≡ n
+  pub in-range : Records p zs
+
+-- the assignment that the records are
+abbrev pub recordResidues : (p : ℕ) → List ℤ → Assignment p
+recordResidues p zs j = reduce p (residueOf p (getD zs j (pos 0)))
+
+-- the bytes read as the multipliers xs and the value v
+abbrev pub ReadsAs : (p n : ℕ) (frame xs : List ℕ) (v : ℕ) → Type 0
+ReadsAs p n frame xs v = (lent : List ℕ) → length lent ≡ n → readCall p n frame lent ≡ outcome (gives (pos v)) xs
+
+-- seal gives the value v for the records zs and the multipliers xs
+abbrev pub SealsAs : (p n : ℕ) → List ℤ → (xs : List ℕ) (v : ℕ) → Type 0
+SealsAs p n zs xs v = sealCall p n zs xs .told ≡ gives (pos v)
+
+-- a frame comes from the records: what it reads as, if it reads as anything, is what seal gives for them
+abbrev pub ComesFrom : (p n : ℕ) → List ℤ → (frame : List ℕ) → Type 0
+ComesFrom p n zs frame = (xs : List ℕ) (v : ℕ) → ReadsAs p n frame xs v → SealsAs p n zs xs v
+
+-- every frame taken comes from the records, in whatever order, however often, with any calls between
+abbrev pub Honest : (p n : ℕ) → List ℤ → List Call → Type 0
+Honest p n zs cs = (frame mix : List ℕ) → List·Memᴰ (take frame mix) cs → ComesFrom p n zs frame
+
+-- what a 9 proves: the frames es that stood and the refused one come from no one set of records
+abbrev pub NoRecords : (p n : ℕ) → List Entry → (frame : List ℕ) → Type 0
+NoRecords p n es frame =
+    (zs : List ℤ) → Heat p n zs
+    → ((i : ℕ) → i < length es → SealsAs p n zs (getD es i noEntry .multipliers) (getD es i noEntry .value))
+    → ComesFrom p n zs frame → ⊥
+
+-- n multipliers are the sum of xs and ys, modulo p
+pub record IsSum (p n : ℕ) (xs ys summed : List ℕ) : Type 0 where
+  pub long : length summed ≡ n
+  pub sums : (j : ℕ) → j < n → getD summed j 0 ≡ (getD xs j 0 + getD ys j 0) % p
+
+module _ (p : ℕ) (ok : IsModulus p) (n : ℕ) (ws : List ℕ) where
+  -- what holds of an honest list of calls on the board that open wrote into ws
+  pub record HonestHeat (zs : List ℤ) (cs : List Call) : Type 0 where
+    -- no take is refused by 9
+    pub never-nine : (t : Turn cs) → replyAt p n ws t .told .number ≡ 9 → ⊥
+    -- the records meet all standing frames
+    pub records-meet : MeetsAll p n (standing p ok n cs) (recordResidues p zs)
+    -- every record that a show marks is that record
+    pub shows-records : (t : Turn cs) (marks : List ℕ) (numbers : List ℤ) → t .call ≡ show marks numbers
+        → (IsRefusal (replyAt p n ws t .told .number) → ⊥) → (j : ℕ) → j < n
+        → getD (replyAt p n ws t .words) j 0 ≡ 1 → getD (replyAt p n ws t .numbers) j (pos 0) ≡ getD zs j (pos 0)
