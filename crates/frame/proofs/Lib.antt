@@ -11,6 +11,6 @@ pub mod WriteMap
 pub mod WriteNumbers
 pub mod WriteFrame
 pub mod Calls
-pub mod SealedValue
+pub mod RecordsMeet
 pub mod SealSums
 pub mod Examples

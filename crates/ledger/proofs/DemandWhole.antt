@@ -13,9 +13,9 @@ use Rattle.frame.specs.Reading.{frameMultipliers}
 use Rattle.ledger.specs.Ledger.{Ledger, ledger}
 use Rattle.ledger.specs.Board.{countWord, layout}
 use Rattle.ledger.specs.Calls.{openCall}
-use Rattle.ledger.specs.History.{Call, Reply, After, ledgerStep, boardStep, run, ledgerRun, boardRun, onBoard}
+use Rattle.ledger.specs.History.{Call, Reply, After, ledgerStep, boardStep, ledgerRun, boardRun}
 use Rattle.ledger.specs.Turns.{Turn, noReply, replyOf, got, left}
-use Rattle.ledger.specs.Heard.{NoWithdrawal, news, heard, ledgerRows, rowsRank}
+use Rattle.ledger.specs.Heard.{NoWithdrawal, news, heard}
 use Rattle.ledger.specs.Settle.{AllSettled, unitTake}
 use Rattle.ledger.specs.Proper.{Proper}
 use Rattle.ledger.specs.Demand3.{Shows, IsMix, Counted, freshBoard, wordsAfter, repliesTo, standing, replyAt, Demand3}

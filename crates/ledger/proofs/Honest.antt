@@ -3,7 +3,7 @@
 -- frame is refused by 9, and what all assignments agree on is the record. The other way round, a 9 shows that there are no such
 -- records.
 use mathlib.Core.Path.{_≡_, refl, sym, ap, _∙_, subst}
-use mathlib.Core.List.{List, [], _∷_, _++_, List·Memᴰ, List·Memᴰ·head, List·Memᴰ·tail, Memᴰ·append-left, Memᴰ·append-right, Memᴰ·cast}
+use mathlib.Core.List.{List, [], _∷_, List·Memᴰ, List·Memᴰ·head, List·Memᴰ·tail, Memᴰ·append-left, Memᴰ·append-right}
 use Prim.Native.Nat.{ℕ, _-_, _<_}
 use native.Mathlib.Nat.{not-suc-le-zero, sub-le}
 use native.Mathlib.Omega.{arith}
@@ -11,7 +11,7 @@ use lib.IntN.{ℤ, pos}
 use lib.ListN.{length, getD, take}
 use lib.Seq.{length-take-le, getD-take}
 use Rattle.algebra.specs.Ring.{IsCommutativeRing}
-use Rattle.algebra.specs.Matrix.{sum, apply, mixed}
+use Rattle.algebra.specs.Matrix.{apply, mixed}
 use Rattle.algebra.proofs.Sums as sums
 use Rattle.algebra.proofs.Applied as applied
 use Rattle.checks.specs.Prime.{IsModulus}
@@ -20,21 +20,20 @@ use Rattle.checks.specs.Refusal.{IsRefusal}
 use Rattle.checks.specs.InOrder.{AllHold}
 use Rattle.checks.specs.Sizes.{frameSizes}
 use Rattle.checks.specs.Outcome.{Outcome}
-use Rattle.checks.proofs.Refusals.{refusal-number}
 use Rattle.checks.proofs.InOrder.{none-left, _and-then_}
-use Rattle.field.specs.Residue.{Residue, reduce, residues, _⊗_}
+use Rattle.field.specs.Residue.{reduce, residues, _⊗_}
 use Rattle.field.proofs.Residues.{reduce-small}
 use Rattle.field.proofs.Field.{residues-field}
 use Rattle.signed.specs.Reading.{reading, residueOf}
 use Rattle.signed.proofs.Readings.{reading-of-residue}
 use Rattle.frame.specs.Reading.{accepted, readFrame}
-use Rattle.frame.proofs.SealedValue.{sealed-met, seal-told, read-as-told}
+use Rattle.frame.proofs.RecordsMeet.{sealed-met, seal-told, read-as-told}
 use Rattle.ledger.specs.Ledger.{Entry, entry, noEntry, Ledger, ledger, Assignment, Meets, MeetsAll, InSpan, GivesValue, multiplierRows, valueColumn}
 use Rattle.ledger.specs.Calls.{openCall}
-use Rattle.ledger.specs.History.{Call, Reply, After, ledgerStep, run, ledgerRun}
+use Rattle.ledger.specs.History.{Call, Reply, ledgerStep, run, ledgerRun}
 use Rattle.ledger.specs.Turns.{Turn, replyOf}
 use Rattle.ledger.specs.Demand3.{standing, replyAt}
-use Rattle.ledger.specs.Honest.{Heat, recordResidues, ReadsAs, SealsAs, ComesFrom, Honest, HonestHeat, NoRecords}
+use Rattle.ledger.specs.Honest.{Heat, recordResidues, SealsAs, ComesFrom, Honest, HonestHeat, NoRecords}
 use Rattle.ledger.proofs.EntryMore.{each-more}
 use Rattle.ledger.proofs.LedgerSteps.{Took, new, repeat, conflict, refusal, took, Withdrew, dropped, overlong, withdrew}
 use Rattle.ledger.proofs.LedgerSteps.{Showed, answered, unshown, showed}

@@ -1,8 +1,7 @@
 -- Lists of calls on the ledger: a list after a list, that a ledger stays proper, that without withdrawals entries are only
 -- added behind those that stand, and that no reply tells 11.
-use mathlib.Core.Path.{_≡_, refl, sym, ap, _∙_, subst}
-use mathlib.Core.Logic.{⊎-elim}
-use mathlib.Core.List.{List, [], _∷_, _++_, append-nil, append-assoc, List·Memᴰ, List·Memᴰ·not-nil, List·Memᴰ·append-cases, List·Memᴰ·eq-of-singleton}
+use mathlib.Core.Path.{_≡_, refl, sym, ap, _∙_}
+use mathlib.Core.List.{List, [], _∷_, _++_, append-nil, append-assoc}
 use Prim.Native.Nat.{ℕ, _-_}
 use native.Mathlib.Nat.{sub-le}
 use native.Mathlib.Omega.{arith}
@@ -16,8 +15,8 @@ use Rattle.checks.specs.Told.{results}
 use Rattle.checks.proofs.Refusals.{refusal-number}
 use Rattle.checks.specs.Outcome.{Outcome}
 use Rattle.ledger.specs.Ledger.{Entry, entry, Ledger}
-use Rattle.ledger.specs.Steps.{ledgerTake, ledgerWithdraw}
-use Rattle.ledger.specs.History.{Call, Reply, After, after, ledgerStep, run, ledgerRun}
+use Rattle.ledger.specs.Steps.{ledgerTake}
+use Rattle.ledger.specs.History.{Call, After, after, ledgerStep, run, ledgerRun}
 use Rattle.ledger.specs.Turns.{replyOf}
 use Rattle.ledger.specs.Demand3.{Counted}
 use Rattle.ledger.specs.Heard.{NoWithdrawal}

@@ -1,11 +1,11 @@
 -- What a take or a show replies where proper frames stand, by 01's sentences: a show that is not refused gives what `Shows` says,
 -- and the mix of a frame that is a combination of the standing rows is the one combination, `IsMix`.
 use mathlib.Core.Path.{_≡_, refl, sym, ap, _∙_, subst}
-use mathlib.Core.Logic.{_↔_, _⊎_, ⊎-elim}
-use mathlib.Core.List.{List, [], _∷_, _++_}
+use mathlib.Core.Logic.{_⊎_, ⊎-elim}
+use mathlib.Core.List.{List, _++_}
 use Prim.Native.Nat.{ℕ, zero, suc, _+_, _-_, _≤_, _<_}
 use native.Mathlib.Omega.{arith}
-use lib.IntN.{ℤ, pos}
+use lib.IntN.{ℤ}
 use lib.ListN.{length, getD, replicate, length-append, length-replicate, List·getD-append}
 use lib.Seq.{getD-append-add}
 use Rattle.algebra.proofs.Applied as applied
@@ -16,17 +16,17 @@ use Rattle.checks.proofs.Refusals.{refusal-number}
 use Rattle.checks.proofs.InOrder.{in-order-elim}
 use Rattle.words.proofs.Zeros.{zeros-at}
 use Rattle.field.specs.Residue.{reduce, residues}
-use Rattle.field.specs.Written.{tabulate, numbers}
+use Rattle.field.specs.Written.{numbers}
 use Rattle.field.proofs.Residues.{reduce-value, value-below}
 use Rattle.field.proofs.Written.{length-tabulate, getD-tabulate}
-use Rattle.frame.specs.Reading.{frameMultipliers, accepted, readFrame}
+use Rattle.frame.specs.Reading.{frameMultipliers}
 use Rattle.frame.proofs.Round.{accepted-found}
 use Rattle.ledger.specs.Ledger.{Entry, Ledger, ledger, InSpan, multiplierRows}
-use Rattle.ledger.specs.Steps.{mixWords, tabulateℤ, shownMark, shownNumber, ledgerTake, ledgerShow}
+use Rattle.ledger.specs.Steps.{mixWords, tabulateℤ, shownMark, shownNumber, ledgerShow}
 use Rattle.ledger.specs.History.{Reply, reply}
 use Rattle.ledger.specs.Proper.{Proper}
 use Rattle.ledger.specs.Demand3.{Shows, IsMix}
-use Rattle.ledger.proofs.LedgerSteps.{Took, new, repeat, conflict, refusal, took}
+use Rattle.ledger.proofs.LedgerSteps.{Took, new, repeat, conflict, refusal}
 use Rattle.ledger.proofs.LedgerLaws.{getD-tabulateℤ, combination-once, shown-exactly, marked-exactly, show-accepted}
 
 length-tabulateℤ : (k : ℕ) (f : ℕ → ℤ) → length (tabulateℤ k f) ≡ k

@@ -14,7 +14,7 @@ use Rattle.algebra.proofs.Alike.{combination-alike}
 use Rattle.algebra.proofs.Sums as sums
 use Rattle.checks.specs.Prime.{IsModulus}
 use Rattle.checks.specs.Largest.{FrameSize}
-use Rattle.checks.specs.Told.{Told, gives}
+use Rattle.checks.specs.Told.{gives}
 use Rattle.checks.specs.Outcome.{Outcome}
 use Rattle.checks.specs.InOrder.{AllHold}
 use Rattle.checks.specs.Sizes.{frameSizes}
@@ -27,10 +27,9 @@ use Rattle.signed.specs.Reading.{residueOf}
 use Rattle.words.specs.Words.{Below}
 use Rattle.frame.specs.Reading.{accepted, readFrame}
 use Rattle.frame.specs.Sealing.{sealed}
-use Rattle.frame.specs.Calls.{sealCall}
 use Rattle.frame.proofs.Round.{accepted-found}
 use Rattle.frame.proofs.Calls.{seal-done}
-use Rattle.frame.proofs.SealedValue.{seal-told, read-told}
+use Rattle.frame.proofs.RecordsMeet.{seal-told, read-told}
 use Rattle.ledger.specs.Ledger.{Entry, noEntry, Ledger, ledger, InSpan, multiplierRows}
 use Rattle.ledger.specs.Calls.{openCall}
 use Rattle.ledger.specs.History.{Call, Reply, ledgerStep}

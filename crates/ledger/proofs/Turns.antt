@@ -1,14 +1,13 @@
 -- What a turn of a list of calls is, from its step: the state that it left is its step's, its reply is its step's reply, and a
 -- list has as many replies as calls. For every machine whose steps reply once, so for the board and for the ledger.
-use mathlib.Core.Path.{_≡_, refl, sym, ap, _∙_}
+use mathlib.Core.Path.{_≡_, refl, ap, _∙_}
 use mathlib.Core.List.{List, [], _∷_, _++_}
 use Prim.Native.Nat.{ℕ}
 use native.Mathlib.Omega.{arith}
-use lib.ListN.{length, getD, length-append}
+use lib.ListN.{length, getD}
 use lib.Seq.{getD-at}
 use Rattle.checks.specs.Prime.{IsModulus}
-use Rattle.ledger.specs.Ledger.{Ledger}
-use Rattle.ledger.specs.History.{Call, Reply, After, ledgerStep, boardStep, run}
+use Rattle.ledger.specs.History.{Call, After, ledgerStep, boardStep, run}
 use Rattle.ledger.specs.Turns.{Turn, noReply, replyOf, got, left, answered}
 use Rattle.ledger.proofs.LedgerRuns.{run-append}
 

@@ -16,7 +16,7 @@ use Rattle.frame.specs.Reading.{frameMultipliers}
 use Rattle.ledger.specs.Ledger.{Entry, ledger, Assignment, MeetsAll, Settled, multiplierRows}
 use Rattle.ledger.specs.Board.{countWord}
 use Rattle.ledger.specs.Calls.{openCall}
-use Rattle.ledger.specs.History.{Call, take, withdraw, show, Reply, After, boardStep, ledgerRun, boardRun, onBoard}
+use Rattle.ledger.specs.History.{Call, take, withdraw, show, Reply, boardStep, ledgerRun, boardRun, onBoard}
 use Rattle.ledger.specs.Turns.{Turn, got, left, answered}
 use Rattle.ledger.specs.Heard.{NoWithdrawal, news, heard, ledgerRows, rowsRank}
 use Rattle.ledger.specs.Settle.{Gives, AllSettled, unitTake}

@@ -2,7 +2,6 @@
 -- speaks of every call of a list, and not only of the last one.
 use mathlib.Core.Path.{_≡_}
 use mathlib.Core.List.{List, [], _∷_, _++_}
-use Prim.Native.Nat.{ℕ}
 use lib.ListN.{length, getD}
 use Rattle.checks.specs.Told.{done}
 use Rattle.ledger.specs.History.{Call, Reply, reply, After, run}

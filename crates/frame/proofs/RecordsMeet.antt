@@ -1,25 +1,22 @@
 -- What seal's value says of the records: their residues meet the frame that is sealed, which is why a sealed frame and the records
 -- agree. And what the calls read and seal answered, from what they told.
-use mathlib.Core.Path.{_≡_, refl, sym, ap, _∙_}
-use mathlib.Core.List.{List, [], _∷_}
-use Prim.Native.Nat.{ℕ, _+_, _%_, _<_}
+use mathlib.Core.Path.{_≡_, sym, ap, _∙_}
+use mathlib.Core.List.{List}
+use Prim.Native.Nat.{ℕ, _<_}
 use native.Mathlib.Omega.{arith}
 use lib.IntN.{ℤ, pos}
 use lib.ListN.{length, getD}
 use Rattle.algebra.specs.Matrix.{sum}
-use Rattle.algebra.specs.Ring.{IsCommutativeRing}
 use Rattle.algebra.proofs.Sums as sums
 use Rattle.checks.specs.declared.Refusal.{Refusal}
-use Rattle.checks.specs.Prime.{IsModulus}
-use Rattle.checks.specs.Largest.{FrameSize}
 use Rattle.checks.specs.Told.{Told, gives, refused}
-use Rattle.checks.specs.Outcome.{Outcome, outcome, untouched}
+use Rattle.checks.specs.Outcome.{Outcome, outcome}
 use Rattle.checks.specs.InOrder.{AllHold}
 use Rattle.checks.specs.Sizes.{frameSizes}
 use Rattle.checks.proofs.Refusals.{refusal-number}
-use Rattle.checks.proofs.InOrder.{none-left, in-order-elim, _and-then_}
-use Rattle.field.specs.Residue.{Residue, reduce, residues, _⊕_, _⊗_}
-use Rattle.field.proofs.Residues.{reduce-value, reduce-plus}
+use Rattle.checks.proofs.InOrder.{in-order-elim}
+use Rattle.field.specs.Residue.{reduce, residues, _⊗_}
+use Rattle.field.proofs.Residues.{reduce-value}
 use Rattle.field.proofs.Field.{residues-ring}
 use Rattle.signed.specs.Reading.{residueOf}
 use Rattle.frame.specs.Sealing.{sealed}
