@@ -1,2 +1,5 @@
 pub mod FreshBoard
+pub mod Opened
+pub mod HeatChecker
+pub mod Heat
 pub mod Starred
