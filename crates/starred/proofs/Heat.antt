@@ -2,15 +2,14 @@
 -- over the last ones, and a heat that passes holds (`passed-holds`): on the ledger by what the tests tell (HeatChecker), and so on the
 -- board, since a list of calls there is the ledger's (`history`).
 use mathlib.Core.Path.{_≡_, refl, sym, ap, ap₂, _∙_, subst}
-use mathlib.Core.Bool.{Bool, true, not}
-use mathlib.Core.List.{List, [], _∷_, _++_, append-nil, append-assoc}
+use mathlib.Core.Bool.{Bool, true}
+use mathlib.Core.List.{List, [], _∷_, _++_, append-nil, append-assoc, Memᴰ·of-map, List·Memᴰ, List·Memᴰ·head}
 use Prim.Native.Nat.{ℕ, zero, suc, _-_, _<_}
 use lib.Dec.{eqb, ltb}
 use lib.IntN.{ℤ, pos}
 use lib.ListN.{length, getD}
 use lib.Seq.{ext-getD}
 use borrow.Author.Tests.{eqb-true, ltb-true}
-use Rattle.checks.specs.Largest.{FrameSize}
 use Rattle.checks.specs.Outcome.{Outcome, outcome}
 use Rattle.checks.specs.Prime.{IsModulus}
 use Rattle.checks.specs.Told.{results}
@@ -23,22 +22,21 @@ use Rattle.frame.specs.Format.{mapLength, stands, mapByte, mapBytes, packed, va
 use Rattle.frame.specs.Reading.{accepted, readFrame}
 use Rattle.frame.proofs.Round.{written-reads-back}
 use Rattle.signed.specs.Reading.{reading}
-use Rattle.matrix.proofs.Checker.{_and_, everyBelow, both, every-below}
+use Rattle.matrix.proofs.Checker.{_and_, every, everyBelow, both, every-below, every-member}
 use Rattle.matrix.proofs.CheckedTables.{areBelow, all-below, areSame, all-same, isPrime, same}
 use Rattle.ledger.specs.Ledger.{Entry, Ledger, ledger, multiplierRows, valueColumn}
 use Rattle.ledger.specs.Board.{layout}
-use Rattle.ledger.specs.Calls.{laidOut, openCall, takeCall}
-use Rattle.ledger.specs.History.{Call, Reply, reply, After, after, ledgerStep, run, ledgerRun, boardRun, onBoard}
+use Rattle.ledger.specs.History.{Call, reply, After, after, ledgerStep, run, ledgerRun, boardRun, onBoard}
 use Rattle.ledger.specs.Proper.{Proper}
 use Rattle.ledger.specs.Steps.{mixWords, ledgerTake, tabulateℤ, shownMark, shownNumber, ledgerShow}
 use Rattle.ledger.proofs.Demand3.{history}
 use Rattle.ledger.proofs.LedgerLaws.{getD-tabulateℤ, take-accepted, show-accepted}
 use Rattle.ledger.proofs.LedgerRuns.{run-append, run-proper}
 use Rattle.ledger.proofs.Proper.{empty-proper, step-proper}
-use Rattle.starred.specs.Heat.{Answer, HeatFrame, HeatExample, sheetHeat, told, mixAfter, entryOf, kept, takes, replies, standing}
-use Rattle.starred.specs.Heat.{HeatRoom, HeatHolds}
+use Rattle.starred.specs.Heat.{HeatFrame, HeatExample, firstFrames, sheetHeat, unsettledHeat, heatExamples, told, mixAfter, entryOf, kept}
+use Rattle.starred.specs.Heat.{takes, replies, standing, HeatHolds}
 use Rattle.starred.proofs.Opened.{areSizes, sizes-checked, opened}
-use Rattle.starred.proofs.HeatChecker.{sameℤ, Witness, settledBy, sendToZero, isCombination, isMix, isAnswer, answered}
+use Rattle.starred.proofs.HeatChecker.{sameℤ, Witness, settledBy, freeBy, sendToZero, isCombination, isMix, isAnswer, answered}
 use Rattle.starred.proofs.HeatChecker.{isShown, shown}
 
 -- ---- signed numbers that are written (as in board_solve, which this crate does not rest on)
@@ -198,20 +196,40 @@ passed-holds h w t =
           (replies (h .frames) mixes ++ (reply (results k) (h .marks) (h .numbers) ∷ []))) (eqb-true _ _ many);
     }
 
--- ---- 01's heat
+-- ---- 01's heats
 
-unfoldable sheetWitnesses : Witnesses
-sheetWitnesses =
-    record {
-      separating = (1 ∷ 0 ∷ 0 ∷ []) ∷ (5 ∷ 1 ∷ 0 ∷ []) ∷ (6 ∷ 4 ∷ 1 ∷ []) ∷ [];
-      settling = settledBy (1 ∷ 5 ∷ 6 ∷ []) ∷ settledBy (0 ∷ 1 ∷ 4 ∷ []) ∷ settledBy (0 ∷ 0 ∷ 1 ∷ []) ∷ [];
-    }
+unfoldable witnessed : List (HeatExample × Witnesses)
+witnessed = (
+  sheetHeat,
+  record {
+    separating = (1 ∷ 0 ∷ 0 ∷ []) ∷ (5 ∷ 1 ∷ 0 ∷ []) ∷ (6 ∷ 4 ∷ 1 ∷ []) ∷ [];
+    settling = settledBy (1 ∷ 5 ∷ 6 ∷ []) ∷ settledBy (0 ∷ 1 ∷ 4 ∷ []) ∷ settledBy (0 ∷ 0 ∷ 1 ∷ []) ∷ [];
+  },
+)
+    ∷ (
+      unsettledHeat,
+      record {
+        separating = (1 ∷ 0 ∷ 0 ∷ []) ∷ (5 ∷ 1 ∷ 0 ∷ []) ∷ [];
+        settling = freeBy (6 ∷ 4 ∷ 1 ∷ []) ∷ freeBy (6 ∷ 4 ∷ 1 ∷ []) ∷ freeBy (6 ∷ 4 ∷ 1 ∷ []) ∷ [];
+      },
+    )
+    ∷ []
 
-sheet-passes : passes sheetHeat sheetWitnesses ≡ true
-unfolding passes sheetHeat sheetWitnesses standing areSizes isPrime areTaken isTaken isWritten isAnswer isMix areShown isShown
-    sendToZero isCombination areBelow areSame everyBelow _and_ same sameℤ multiplierRows valueColumn mixWords sum unit apply mixed
-    tabulate reduce _⊕_ _⊗_ reading frameOf mapBytes mapByte mapLength stands packed valueBytes bytesOf width
-sheet-passes = refl
+-- each passes, computed
+all-pass : every (λ (q : HeatExample × Witnesses). passes (q .0) (q .1)) witnessed ≡ true
+unfolding every witnessed passes sheetHeat unsettledHeat firstFrames standing areSizes isPrime areTaken isTaken isWritten isAnswer isMix
+    areShown isShown sendToZero isCombination areBelow areSame everyBelow _and_ same sameℤ multiplierRows valueColumn mixWords
+    sum unit apply mixed tabulate reduce _⊕_ _⊗_ reading frameOf mapBytes mapByte mapLength stands packed valueBytes bytesOf width
+all-pass = refl
 
+-- every heat holds
+pub heats-hold : (h : HeatExample) → List·Memᴰ h heatExamples → HeatHolds h
+unfolding heatExamples witnessed
+heats-hold h m =
+    let (q, i, e) = Memᴰ·of-map (λ (q : HeatExample × Witnesses). q .0) witnessed m in
+    subst HeatHolds e (passed-holds (q .0) (q .1) (every-member _ witnessed all-pass q i))
+
+-- 01's heat does
 pub heat-holds : HeatHolds sheetHeat
-heat-holds = passed-holds sheetHeat sheetWitnesses sheet-passes
+unfolding heatExamples
+heat-holds = heats-hold sheetHeat (List·Memᴰ·head refl)

@@ -27,7 +27,7 @@ use Rattle.field.proofs.Residues.{residue-path}
 use Rattle.signed.specs.Reading.{reading}
 use Rattle.matrix.proofs.Checker.{_and_, everyBelow, both, every-below}
 use Rattle.matrix.proofs.CheckedTables.{areSame, all-same, same}
-use Rattle.ledger.specs.Ledger.{Entry, entry, Ledger, ledger, Assignment, MeetsAll, Settled, multiplierRows, valueColumn}
+use Rattle.ledger.specs.Ledger.{Entry, entry, ledger, Assignment, MeetsAll, Settled, multiplierRows, valueColumn}
 use Rattle.ledger.specs.Proper.{Proper}
 use Rattle.ledger.specs.Steps.{newTold, repeatTold, mixWords, takeAccepted, shownMark, shownNumber}
 use Rattle.ledger.proofs.LedgerLaws.{take-new, take-repeat, take-conflict, standing-met, shown-exactly}

@@ -1,4 +1,3 @@
-pub mod FreshBoard
 pub mod Opened
 pub mod HeatChecker
 pub mod Heat

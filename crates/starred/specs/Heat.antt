@@ -1,4 +1,4 @@
--- A heat from open to show, as data, and what it is for it to hold of the definitions that the calls' contracts name. 01, "The
+-- Heats from open to show, as data, and what it is for one to hold of the definitions that the calls' contracts name. 01, "The
 -- sheet program and the C side": "With p = 7, n = 3 and the frames (1 2 0) 5, (0 1 3) 4, (1 3 3) 2, (1 3 3) 3, (0 0 1) 6 it prints
 -- all of: `new 1`, `new 2`, `repeat 2`, `conflict 2`, `new 3`, `0 -2`, `1 0`, `2 -1`, `missing 0`."
 use mathlib.Core.Path.{_≡_}
@@ -38,26 +38,32 @@ pub record HeatExample : Type 0 where
   pub numbers : List ℤ
   pub missing : ℕ
 
--- 01's heat
+-- (1 2 0) 5 and (0 1 3) 4
+unfoldable pub firstFrames : List HeatFrame
+firstFrames =
+    record {
+      bytes = 0x03 ∷ 0 ∷ 0 ∷ 0 ∷ 1 ∷ 0 ∷ 0 ∷ 0 ∷ 2 ∷ 0 ∷ 0 ∷ 0 ∷ 5 ∷ [];
+      multipliers = 1 ∷ 2 ∷ 0 ∷ [];
+      value = 5;
+      answer = new 1;
+    }
+    ∷ record {
+      bytes = 0x06 ∷ 0 ∷ 0 ∷ 0 ∷ 1 ∷ 0 ∷ 0 ∷ 0 ∷ 3 ∷ 0 ∷ 0 ∷ 0 ∷ 4 ∷ [];
+      multipliers = 0 ∷ 1 ∷ 3 ∷ [];
+      value = 4;
+      answer = new 2;
+    }
+    ∷ []
+
+-- 01's heat; 1 3 3 is the sum of the first two rows, 2 the sum of their values
 unfoldable pub sheetHeat : HeatExample
 sheetHeat =
     record {
       modulus = 7;
       size = 3;
       frames =
-          record {
-            bytes = 0x03 ∷ 0 ∷ 0 ∷ 0 ∷ 1 ∷ 0 ∷ 0 ∷ 0 ∷ 2 ∷ 0 ∷ 0 ∷ 0 ∷ 5 ∷ [];
-            multipliers = 1 ∷ 2 ∷ 0 ∷ [];
-            value = 5;
-            answer = new 1;
-          }
-          ∷ record {
-            bytes = 0x06 ∷ 0 ∷ 0 ∷ 0 ∷ 1 ∷ 0 ∷ 0 ∷ 0 ∷ 3 ∷ 0 ∷ 0 ∷ 0 ∷ 4 ∷ [];
-            multipliers = 0 ∷ 1 ∷ 3 ∷ [];
-            value = 4;
-            answer = new 2;
-          }
-          ∷ record {
+          firstFrames
+          ++ (record {
             bytes = 0x07 ∷ 0 ∷ 0 ∷ 0 ∷ 1 ∷ 0 ∷ 0 ∷ 0 ∷ 3 ∷ 0 ∷ 0 ∷ 0 ∷ 3 ∷ 0 ∷ 0 ∷ 0 ∷ 2 ∷ [];
             multipliers = 1 ∷ 3 ∷ 3 ∷ [];
             value = 2;
@@ -75,11 +81,26 @@ sheetHeat =
             value = 6;
             answer = new 3;
           }
-          ∷ [];
+          ∷ []);
       marks = 1 ∷ 1 ∷ 1 ∷ [];
       numbers = negsuc 1 ∷ pos 0 ∷ negsuc 0 ∷ [];
       missing = 0;
     }
+
+-- 01, "Three ways to a wrong sheet": "With (1 2 0), (0 1 3) columns 0 and 1 are in I, and no record is settled."
+unfoldable pub unsettledHeat : HeatExample
+unsettledHeat =
+    record {
+      modulus = 7;
+      size = 3;
+      frames = firstFrames;
+      marks = 0 ∷ 0 ∷ 0 ∷ [];
+      numbers = pos 0 ∷ pos 0 ∷ pos 0 ∷ [];
+      missing = 1;
+    }
+
+unfoldable pub heatExamples : List HeatExample
+heatExamples = sheetHeat ∷ unsettledHeat ∷ []
 
 -- ---- what it is for a heat to hold
 
