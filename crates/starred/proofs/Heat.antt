@@ -1,4 +1,4 @@
--- 01's heat holds. It passes a test that computes (`passes`), frame by frame over the entries that then stand and record by record
+-- 01's heats hold. Each passes a test that computes (`passes`), frame by frame over the entries that then stand and record by record
 -- over the last ones, and a heat that passes holds (`passed-holds`): on the ledger by what the tests tell (HeatChecker), and so on the
 -- board, since a list of calls there is the ledger's (`history`).
 use mathlib.Core.Path.{_≡_, refl, sym, ap, ap₂, _∙_, subst}
@@ -36,8 +36,8 @@ use Rattle.ledger.proofs.Proper.{empty-proper, step-proper}
 use Rattle.starred.specs.Heat.{HeatFrame, HeatExample, firstFrames, sheetHeat, unsettledHeat, heatExamples, told, mixAfter, entryOf, kept}
 use Rattle.starred.specs.Heat.{takes, replies, standing, HeatHolds}
 use Rattle.starred.proofs.Opened.{areSizes, sizes-checked, opened}
-use Rattle.starred.proofs.HeatChecker.{sameℤ, Witness, settledBy, freeBy, sendToZero, isCombination, isMix, isAnswer, answered}
-use Rattle.starred.proofs.HeatChecker.{isShown, shown}
+use Rattle.starred.proofs.HeatChecker.{sameℤ, Witness, settledBy, freeBy, sendToZero, isCombination, isMix, isAnswer, answer-taken}
+use Rattle.starred.proofs.HeatChecker.{isShown, record-shown}
 
 -- ---- signed numbers that are written (as in board_solve, which this crate does not rest on)
 
@@ -62,7 +62,7 @@ module _ (p n : ℕ) where
       and ltb (f .value) p
       and areSame (frameOf n (f .multipliers) (f .value ∷ [])) (f .bytes)
 
-  -- the frame is answered so where the entries es stand; a vector in xs separates a new one from them
+  -- the frame is answer-taken so where the entries es stand; a vector in xs separates a new one from them
   unfoldable pub isTaken : List (List ℕ) → List Entry → HeatFrame → Bool
   isTaken xs es f = isWritten f and isAnswer p n es (f .multipliers) (f .value) (getD xs (length es) []) (f .answer)
 
@@ -92,6 +92,7 @@ passes h w =
 -- ---- a frame that passes is taken so
 
 module _ (p n : ℕ) (ok : IsModulus p) where
+  -- its bytes read as its multipliers and its value
   reads : (f : HeatFrame) → isWritten p n f ≡ true → readFrame p n (f .bytes) ≡ accepted (f .multipliers) (f .value)
   unfolding isWritten
   reads f t =
@@ -101,25 +102,25 @@ module _ (p n : ℕ) (ok : IsModulus p) where
       ap (readFrame p n) (sym (all-same _ _ bytes))
       ∙ written-reads-back p n (f .multipliers) (f .value) (ok .in-range) (eqb-true _ _ long) (all-below p _ below) (ltb-true _ _ value)
 
-  pub taken-so : (xs : List (List ℕ)) (es : List Entry) → Proper p n es → (f : HeatFrame) → isTaken p n xs es f ≡ true
+  pub frame-taken : (xs : List (List ℕ)) (es : List Entry) → Proper p n es → (f : HeatFrame) → isTaken p n xs es f ≡ true
       → (mix : List ℕ) → length mix ≡ n
       → ledgerTake p ok n (ledger es) (f .bytes) mix ≡ outcome (told (f .answer)) (ledger (es ++ kept (f .answer) (entryOf f)), mixAfter (f .answer) mix)
   unfolding isTaken
-  taken-so xs es proper f t mix long =
+  frame-taken xs es proper f t mix long =
       let (written, answer) = both _ _ t in
       take-accepted p ok n es (f .bytes) mix (f .multipliers) (f .value) long (reads f written)
-      ∙ answered p n es ok proper (f .multipliers) (f .value) (getD xs (length es) []) mix (f .answer) answer
+      ∙ answer-taken p n es ok proper (f .multipliers) (f .value) (getD xs (length es) []) mix (f .answer) answer
 
-  take-step : (xs : List (List ℕ)) (es : List Entry) → Proper p n es → (f : HeatFrame) → isTaken p n xs es f ≡ true
+  frame-step : (xs : List (List ℕ)) (es : List Entry) → Proper p n es → (f : HeatFrame) → isTaken p n xs es f ≡ true
       → (mix : List ℕ) → length mix ≡ n
       → ledgerStep p ok n (ledger es) (Call.take (f .bytes) mix)
       ≡ after (ledger (es ++ kept (f .answer) (entryOf f))) (reply (told (f .answer)) (mixAfter (f .answer) mix) [] ∷ [])
   unfolding ledgerStep
-  take-step xs es proper f t mix long =
+  frame-step xs es proper f t mix long =
       ap (λ (r : Outcome (Ledger × List ℕ)). after (r .lent .0) (reply (r .told) (r .lent .1) [] ∷ []))
-      (taken-so xs es proper f t mix long)
+      (frame-taken xs es proper f t mix long)
 
-  -- and so are frames one after the other
+  -- frames one after the other are taken so
   frames-taken : (xs : List (List ℕ)) (es : List Entry) → Proper p n es → (fs : List HeatFrame) → areTaken p n xs es fs ≡ true
       → (mixes : ℕ → List ℕ) → ((i : ℕ) → length (mixes i) ≡ n)
       → ledgerRun p ok n (ledger es) (takes fs mixes) ≡ after (ledger (es ++ standing fs)) (replies fs mixes)
@@ -128,7 +129,7 @@ module _ (p n : ℕ) (ok : IsModulus p) where
   frames-taken xs es proper (f ∷ fs) t mixes long =
       let (first, others) = both _ _ t in
       let lent : ℕ → List ℕ = λ i. mixes (suc i) in
-      let one = take-step xs es proper f first (mixes 0) (long 0) in
+      let one = frame-step xs es proper f first (mixes 0) (long 0) in
       let stays =
       subst (λ (a : After Ledger). Proper p n (a .state .entries)) one (step-proper p n es proper ok (Call.take (f .bytes) (mixes 0))) in
       ap
@@ -140,15 +141,15 @@ module _ (p n : ℕ) (ok : IsModulus p) where
 
   -- ---- what passes is shown
 
-  shown-so : (ws : List Witness) (es : List Entry) → Proper p n es → (ms : List ℕ) (zs : List ℤ) → areShown p n ws es ms zs ≡ true
+  records-shown : (ws : List Witness) (es : List Entry) → Proper p n es → (ms : List ℕ) (zs : List ℤ) → areShown p n ws es ms zs ≡ true
       → (marks : List ℕ) (numbers : List ℤ) → length marks ≡ n → length numbers ≡ n
       → ledgerShow p ok n (ledger es) marks numbers ≡ outcome (results (n - length es)) (ms, zs)
   unfolding areShown
-  shown-so ws es proper ms zs t marks numbers marks-long numbers-long =
+  records-shown ws es proper ms zs t marks numbers marks-long numbers-long =
       let (t, each) = both _ _ t in
       let (ms-long, zs-long) = both _ _ t in
       let so : (j : ℕ) → j < n → (getD ms j 0 ≡ shownMark p ok n es j) × (getD zs j (pos 0) ≡ shownNumber p ok n es j) = λ j l.
-      shown p n es ok proper j _ _ _ l (every-below n _ each j l) in
+      record-shown p n es ok proper j _ _ _ l (every-below n _ each j l) in
       show-accepted p ok n es proper marks numbers marks-long numbers-long
       ∙ sym
       (ap₂ (λ xs ys. outcome (results (n - length es)) (xs, ys)) (is-tabulate n _ ms (eqb-true _ _ ms-long) (λ j l. so j l .0))
@@ -156,13 +157,13 @@ module _ (p n : ℕ) (ok : IsModulus p) where
 
   -- ---- frames and then a show
 
-  all-goes : (xs : List (List ℕ)) (ws : List Witness) (fs : List HeatFrame) (ms : List ℕ) (zs : List ℤ)
+  frames-and-show : (xs : List (List ℕ)) (ws : List Witness) (fs : List HeatFrame) (ms : List ℕ) (zs : List ℤ)
       → areTaken p n xs [] fs ≡ true → areShown p n ws (standing fs) ms zs ≡ true
       → (mixes : ℕ → List ℕ) (marks : List ℕ) (numbers : List ℤ) → ((i : ℕ) → length (mixes i) ≡ n) → length marks ≡ n → length numbers ≡ n
       → ledgerRun p ok n (ledger []) (takes fs mixes ++ (Call.show marks numbers ∷ []))
       ≡ after (ledger (standing fs)) (replies fs mixes ++ (reply (results (n - length (standing fs))) ms zs ∷ []))
   unfolding run ledgerStep
-  all-goes xs ws fs ms zs taken shown mixes marks numbers mixes-long marks-long numbers-long =
+  frames-and-show xs ws fs ms zs taken shown mixes marks numbers mixes-long marks-long numbers-long =
       let ran = frames-taken xs [] (empty-proper p n) fs taken mixes mixes-long in
       let proper =
       subst (λ (a : After Ledger). Proper p n (a .state .entries)) ran (run-proper p ok n (ledger []) (empty-proper p n) (takes fs mixes)) in
@@ -171,7 +172,7 @@ module _ (p n : ℕ) (ok : IsModulus p) where
       (λ (a : After Ledger).
       let last = run (ledgerStep p ok n) (a .state) (Call.show marks numbers ∷ []) in after (last .state) (a .replies ++ last .replies)) ran
       ∙ ap (λ (r : Outcome (List ℕ × List ℤ)). after (ledger (standing fs)) (replies fs mixes ++ (reply (r .told) (r .lent .0) (r .lent .1) ∷ [])))
-      (shown-so ws (standing fs) proper ms zs shown marks numbers marks-long numbers-long)
+      (records-shown ws (standing fs) proper ms zs shown marks numbers marks-long numbers-long)
 
 -- ---- a heat that passes holds
 
@@ -189,7 +190,7 @@ passed-holds h w t =
           ap (λ (o : Outcome (List ℕ)). boardRun (o .lent) cs) (opened (h .modulus) (h .size) ok size ws (room .ws-long))
           ∙ history (h .modulus) (h .size) ok size (ledger []) (empty-proper (h .modulus) (h .size)) cs
           ∙ ap (onBoard (h .modulus) (h .size))
-          (all-goes (h .modulus) (h .size) ok (w .separating) (w .settling) (h .frames) (h .marks) (h .numbers) taken shown
+          (frames-and-show (h .modulus) (h .size) ok (w .separating) (w .settling) (h .frames) (h .marks) (h .numbers) taken shown
           mixes marks numbers (room .mixes-long) (room .marks-long) (room .numbers-long))
           ∙ ap
           (λ k. after (layout (h .modulus) (h .size) (standing (h .frames)))
@@ -198,28 +199,30 @@ passed-holds h w t =
 
 -- ---- 01's heats
 
+-- (6 4 1) is the kernel of the first two rows; the combinations are the inverse of the three that stand at the end, row by row
+unfoldable sheetWitnesses : Witnesses
+sheetWitnesses =
+    record {
+      separating = (1 ∷ 0 ∷ 0 ∷ []) ∷ (5 ∷ 1 ∷ 0 ∷ []) ∷ (6 ∷ 4 ∷ 1 ∷ []) ∷ [];
+      settling = settledBy (1 ∷ 5 ∷ 6 ∷ []) ∷ settledBy (0 ∷ 1 ∷ 4 ∷ []) ∷ settledBy (0 ∷ 0 ∷ 1 ∷ []) ∷ [];
+    }
+
+unfoldable unsettledWitnesses : Witnesses
+unsettledWitnesses =
+    record {
+      separating = (1 ∷ 0 ∷ 0 ∷ []) ∷ (5 ∷ 1 ∷ 0 ∷ []) ∷ [];
+      settling = freeBy (6 ∷ 4 ∷ 1 ∷ []) ∷ freeBy (6 ∷ 4 ∷ 1 ∷ []) ∷ freeBy (6 ∷ 4 ∷ 1 ∷ []) ∷ [];
+    }
+
 unfoldable witnessed : List (HeatExample × Witnesses)
-witnessed = (
-  sheetHeat,
-  record {
-    separating = (1 ∷ 0 ∷ 0 ∷ []) ∷ (5 ∷ 1 ∷ 0 ∷ []) ∷ (6 ∷ 4 ∷ 1 ∷ []) ∷ [];
-    settling = settledBy (1 ∷ 5 ∷ 6 ∷ []) ∷ settledBy (0 ∷ 1 ∷ 4 ∷ []) ∷ settledBy (0 ∷ 0 ∷ 1 ∷ []) ∷ [];
-  },
-)
-    ∷ (
-      unsettledHeat,
-      record {
-        separating = (1 ∷ 0 ∷ 0 ∷ []) ∷ (5 ∷ 1 ∷ 0 ∷ []) ∷ [];
-        settling = freeBy (6 ∷ 4 ∷ 1 ∷ []) ∷ freeBy (6 ∷ 4 ∷ 1 ∷ []) ∷ freeBy (6 ∷ 4 ∷ 1 ∷ []) ∷ [];
-      },
-    )
-    ∷ []
+witnessed = (sheetHeat, sheetWitnesses) ∷ (unsettledHeat, unsettledWitnesses) ∷ []
 
 -- each passes, computed
 all-pass : every (λ (q : HeatExample × Witnesses). passes (q .0) (q .1)) witnessed ≡ true
-unfolding every witnessed passes sheetHeat unsettledHeat firstFrames standing areSizes isPrime areTaken isTaken isWritten isAnswer isMix
-    areShown isShown sendToZero isCombination areBelow areSame everyBelow _and_ same sameℤ multiplierRows valueColumn mixWords
-    sum unit apply mixed tabulate reduce _⊕_ _⊗_ reading frameOf mapBytes mapByte mapLength stands packed valueBytes bytesOf width
+unfolding every witnessed sheetHeat sheetWitnesses unsettledHeat unsettledWitnesses firstFrames standing passes areSizes isPrime
+    areTaken isTaken isWritten isAnswer isMix areShown isShown sendToZero isCombination areBelow areSame everyBelow _and_ same sameℤ
+    multiplierRows valueColumn mixWords sum unit apply mixed tabulate reduce _⊕_ _⊗_ reading
+    frameOf mapBytes mapByte mapLength stands packed valueBytes bytesOf width
 all-pass = refl
 
 -- every heat holds

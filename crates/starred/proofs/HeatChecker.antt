@@ -49,7 +49,7 @@ sameℤ (negsuc a) (negsuc b) = eqb a b
 sameℤ (pos a) (negsuc b) = false
 sameℤ (negsuc a) (pos b) = false
 
-pub same-number : (x y : ℤ) → sameℤ x y ≡ true → x ≡ y
+same-number : (x y : ℤ) → sameℤ x y ≡ true → x ≡ y
 unfolding sameℤ
 same-number (pos a) (pos b) t = ap pos (eqb-true _ _ t)
 same-number (negsuc a) (negsuc b) t = ap negsuc (eqb-true _ _ t)
@@ -163,32 +163,32 @@ module _ (p n : ℕ) (es : List Entry) where
           ∙ rings.minus-zero (residues p) L)
 
       -- the answer that passes is take's
-      pub answered : (xs : List ℕ) (v : ℕ) (x mix : List ℕ) (a : Answer) → isAnswer xs v x a ≡ true
+      pub answer-taken : (xs : List ℕ) (v : ℕ) (x mix : List ℕ) (a : Answer) → isAnswer xs v x a ≡ true
           → takeAccepted p ok n (ledger es) xs v mix ≡ outcome (told a) (ledger (es ++ kept a (entry xs v)), mixAfter a mix)
       unfolding isAnswer isMix
-      answered xs v x mix (new count) t =
+      answer-taken xs v x mix (new count) t =
           let (t, other) = both _ _ t in
           let (many, zero) = both _ _ t in
           take-new p ok n es xs v mix (separated (vector p xs) (vector p x) (sent _ zero) (other-residue _ _ other))
           ∙ ap (λ k. outcome (newTold k) (ledger (es ++ (entry xs v ∷ [])), mix)) (eqb-true _ _ many)
-      answered xs v x mix (repeat count u) t =
+      answer-taken xs v x mix (repeat count u) t =
           let (t, value) = both _ _ t in
           let (many, mixed) = both _ _ t in
           let (combination, words) = both _ _ mixed in
           take-repeat p ok n es proper xs v mix (vector p u, combined _ _ combination) (same-residue _ _ value)
           ∙ ap (λ k. outcome (repeatTold k) (ledger es, mixWords p n es (vector p u))) (eqb-true _ _ many)
           ∙ ap₂ (λ ds ws. outcome (repeatTold count) (ledger ds, ws)) (sym (append-nil es)) (all-same _ _ words)
-      answered xs v x mix (conflict u) t =
+      answer-taken xs v x mix (conflict u) t =
           let (mixed, value) = both _ _ t in
           let (combination, words) = both _ _ mixed in
           take-conflict p ok n es proper xs v mix (vector p u, combined _ _ combination) (other-residue _ _ value)
           ∙ ap₂ (λ ds ws. outcome (refused Conflict) (ledger ds, ws)) (sym (append-nil es)) (all-same _ _ words)
 
       -- the mark and the number that pass are show's
-      pub shown : (j mark : ℕ) (number : ℤ) (w : Witness) → j < n → isShown j mark number w ≡ true
+      pub record-shown : (j mark : ℕ) (number : ℤ) (w : Witness) → j < n → isShown j mark number w ≡ true
           → (mark ≡ shownMark p ok n es j) × (number ≡ shownNumber p ok n es j)
       unfolding isShown
-      shown j mark number (settledBy u) l t =
+      record-shown j mark number (settledBy u) l t =
           let (t, combination) = both _ _ t in
           let (marked, read) = both _ _ t in
           let at = settled-at (vector p u) j l (combined _ _ combination) in
@@ -197,7 +197,7 @@ module _ (p n : ℕ) (es : List Entry) where
             sym (eqb-true _ _ marked) ∙ sym one,
             sym (same-number _ _ read) ∙ ap (λ (a : Residue p). reading p (a .value)) (sym (at x met)) ∙ sym read-off,
           )
-      shown j mark number (freeBy x) l t =
+      record-shown j mark number (freeBy x) l t =
           let (t, other) = both _ _ t in
           let (t, zero) = both _ _ t in
           let (marked, read) = both _ _ t in

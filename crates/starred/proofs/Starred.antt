@@ -26,7 +26,7 @@ use Rattle.ledger.proofs.WordsCalls.{take-at-layout}
 use Rattle.starred.specs.Starred.{BoardExample, boardExamples, Starred, table, frame, board, starred, BoardHolds, FrameHolds, Holds}
 use Rattle.starred.proofs.Opened.{areSizes, sizes-checked, sizes-hold, opened}
 use Rattle.starred.proofs.HeatChecker.{isCombination, isMix, isAnswer}
-use Rattle.starred.proofs.Heat.{isWritten, isTaken, taken-so}
+use Rattle.starred.proofs.Heat.{isWritten, isTaken, frame-taken}
 
 -- ---- the frame
 
@@ -57,7 +57,7 @@ passed-holds e t ws mix ws-long long =
     let fresh = empty-proper (e .modulus) (e .size) in
     ap (λ (o : Outcome (List _)). takeCall (o .lent) (e .taken .bytes) mix) (opened (e .modulus) (e .size) ok size ws ws-long)
     ∙ take-at-layout (e .modulus) (e .size) [] ok size fresh (e .taken .bytes) mix
-    ∙ ap (laidOut (e .modulus) (e .size)) (taken-so (e .modulus) (e .size) ok [] [] fresh (e .taken) taken mix long)
+    ∙ ap (laidOut (e .modulus) (e .size)) (frame-taken (e .modulus) (e .size) ok [] [] fresh (e .taken) taken mix long)
 
 -- every example passes, computed
 boards-pass : every passes boardExamples ≡ true
