@@ -1,2 +1,4 @@
-pub mod FreshBoard
+pub mod Opened
+pub mod HeatChecker
+pub mod Heat
 pub mod Starred

@@ -1,36 +1,72 @@
--- 01's starred examples hold: those of tables and frames by the theorems of their crates, those of the board by the laws of the
--- frame with no multipliers on a fresh board (FreshBoard).
-use mathlib.Core.Path.{refl, sym, subst}
+-- 01's starred examples hold: those of tables by the theorem of their crate, the frame by that of its crate and the sizes that let it
+-- come to read's, those of the board by the test of a heat's frame, on the entries of a fresh board (Heat).
+use mathlib.Core.Path.{_≡_, refl, sym, ap, _∙_, subst}
+use mathlib.Core.Bool.{Bool, true}
 use mathlib.Core.Logic.{⊎-elim}
-use mathlib.Core.List.{List, map, Memᴰ·of-map, List·Memᴰ, List·Memᴰ·cases-cons, List·Memᴰ·append-cases, List·Memᴰ·eq-of-singleton}
-use native.Mathlib.Omega.{arith}
-use Rattle.checks.specs.Prime.{IsModulus}
+use mathlib.Core.List.{List, [], map, Memᴰ·of-map, List·Memᴰ, List·Memᴰ·append-cases}
+use Rattle.algebra.specs.Matrix.{sum, mixed}
+use Rattle.checks.specs.Outcome.{Outcome}
+use Rattle.codec.specs.BigEndian.{width, bytesOf}
+use Rattle.field.specs.Residue.{reduce, _⊕_, _⊗_}
 use Rattle.field.specs.Written.{tabulate}
 use Rattle.matrix.specs.Examples.{tableExamples}
-use Rattle.matrix.proofs.Checker.{_and_, everyBelow}
-use Rattle.matrix.proofs.CheckedTables.{isPrime, prime-checked}
+use Rattle.matrix.proofs.Checker.{_and_, every, everyBelow, both, every-member}
+use Rattle.matrix.proofs.CheckedTables.{areBelow, areSame, isPrime, same}
 use Rattle.matrix.proofs.Examples.{starred-tables-hold}
+use Rattle.frame.specs.Calls.{readOutcome}
+use Rattle.frame.specs.Examples.{FrameExample, frameExamples}
 use Rattle.frame.specs.Format.{mapLength, stands, mapByte, mapBytes, packed, valueBytes, frameOf}
-use Rattle.codec.specs.BigEndian.{width, bytesOf}
-use Rattle.frame.specs.Examples.{frameExamples}
+use Rattle.frame.proofs.Calls.{read-done}
 use Rattle.frame.proofs.Examples.{starred-frames-read}
-use Rattle.starred.specs.Starred.{BoardExample, boardExamples, Starred, table, frame, board, starred, BoardHolds, Holds}
-use Rattle.starred.proofs.FreshBoard.{empty-repeats, empty-conflicts}
+use Rattle.ledger.specs.Calls.{laidOut, takeCall}
+use Rattle.ledger.specs.Ledger.{valueColumn}
+use Rattle.ledger.specs.Steps.{mixWords}
+use Rattle.ledger.proofs.Proper.{empty-proper}
+use Rattle.ledger.proofs.WordsCalls.{take-at-layout}
+use Rattle.starred.specs.Starred.{BoardExample, boardExamples, Starred, table, frame, board, starred, BoardHolds, FrameHolds, Holds}
+use Rattle.starred.proofs.Opened.{areSizes, sizes-checked, sizes-hold, opened}
+use Rattle.starred.proofs.HeatChecker.{isCombination, isMix, isAnswer}
+use Rattle.starred.proofs.Heat.{isWritten, isTaken, frame-taken}
+
+-- ---- the frame
+
+-- the sizes of every example pass, computed
+frame-sizes : every (λ (e : FrameExample). areSizes (e .modulus) (e .size)) frameExamples ≡ true
+unfolding every frameExamples areSizes isPrime everyBelow _and_
+frame-sizes = refl
+
+-- so read comes to what reading its bytes finds
+starred-frames-hold : (e : FrameExample) → List·Memᴰ e frameExamples → FrameHolds e
+unfolding readOutcome
+starred-frames-hold e m lent long =
+    let (ok, size) = sizes-checked (e .modulus) (e .size) (every-member _ frameExamples frame-sizes e m) in
+    sym (read-done (e .modulus) (e .size) (e .bytes) lent (sizes-hold (e .modulus) (e .size) ok size) long)
+    ∙ ap (readOutcome lent) (starred-frames-read e m)
 
 -- ---- the board
 
--- 7 is a modulus, computed
-seven : IsModulus 7
-unfolding isPrime everyBelow _and_
-seven = record { prime = prime-checked 7 refl; in-range = omega arith }
+-- the sizes pass, and the frame where no entries stand
+unfoldable passes : BoardExample → Bool
+passes e = areSizes (e .modulus) (e .size) and isTaken (e .modulus) (e .size) [] [] (e .taken)
 
--- `00 00000000` and `00 00000001` are the frames with no multipliers, computed
+passed-holds : (e : BoardExample) → passes e ≡ true → BoardHolds e
+unfolding passes
+passed-holds e t ws mix ws-long long =
+    let (sizes, taken) = both _ _ t in
+    let (ok, size) = sizes-checked (e .modulus) (e .size) sizes in
+    let fresh = empty-proper (e .modulus) (e .size) in
+    ap (λ (o : Outcome (List _)). takeCall (o .lent) (e .taken .bytes) mix) (opened (e .modulus) (e .size) ok size ws ws-long)
+    ∙ take-at-layout (e .modulus) (e .size) [] ok size fresh (e .taken .bytes) mix
+    ∙ ap (laidOut (e .modulus) (e .size)) (frame-taken (e .modulus) (e .size) ok [] [] fresh (e .taken) taken mix long)
+
+-- every example passes, computed
+boards-pass : every passes boardExamples ≡ true
+unfolding every passes boardExamples areSizes isPrime isTaken isWritten isAnswer isMix isCombination areBelow areSame everyBelow _and_ same
+    valueColumn mixWords sum mixed tabulate reduce _⊕_ _⊗_ frameOf mapBytes mapByte mapLength stands packed valueBytes bytesOf width
+boards-pass = refl
+
 starred-boards-hold : (e : BoardExample) → List·Memᴰ e boardExamples → BoardHolds e
-unfolding boardExamples frameOf mapBytes mapByte mapLength stands packed valueBytes bytesOf width tabulate
-starred-boards-hold e m =
-    ⊎-elim (λ q. subst BoardHolds (sym q) (empty-repeats 7 3 seven (omega arith)))
-    (λ r. subst BoardHolds (sym (List·Memᴰ·eq-of-singleton r)) (empty-conflicts 7 3 seven (omega arith) 1 (omega arith) (omega arith)))
-    (List·Memᴰ·cases-cons m)
+starred-boards-hold e m = passed-holds e (every-member passes boardExamples boards-pass e m)
 
 -- ---- all of them
 
@@ -45,6 +81,6 @@ unfolding starred
 starred-hold s m =
     ⊎-elim (mapped table tableExamples starred-tables-hold s)
     (λ r.
-    ⊎-elim (mapped frame frameExamples starred-frames-read s) (mapped board boardExamples starred-boards-hold s)
+    ⊎-elim (mapped frame frameExamples starred-frames-hold s) (mapped board boardExamples starred-boards-hold s)
     (List·Memᴰ·append-cases (map frame frameExamples) r))
     (List·Memᴰ·append-cases (map table tableExamples) m)

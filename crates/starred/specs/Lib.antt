@@ -1,1 +1,2 @@
+pub mod Heat
 pub mod Starred

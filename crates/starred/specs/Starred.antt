@@ -3,24 +3,22 @@
 use mathlib.Core.Path.{_≡_}
 use mathlib.Core.List.{List, [], _∷_, _++_, map}
 use Prim.Native.Nat.{ℕ}
+use lib.IntN.{pos}
 use lib.ListN.{length}
-use Rattle.checks.specs.declared.Refusal.the-variants.{Conflict}
-use Rattle.checks.specs.Told.{Told, refused}
+use Rattle.checks.specs.Told.{gives}
 use Rattle.checks.specs.Outcome.{outcome}
 use Rattle.matrix.specs.Examples.{TableExample, tableExamples, Holds as TableHolds}
-use Rattle.frame.specs.Reading.{accepted, readFrame}
+use Rattle.frame.specs.Calls.{readCall}
 use Rattle.frame.specs.Examples.{FrameExample, frameExamples}
-use Rattle.ledger.specs.Board.{layout}
-use Rattle.ledger.specs.Steps.{repeatTold}
-use Rattle.ledger.specs.Calls.{takeCall}
+use Rattle.ledger.specs.Board.{boardLength, layout}
+use Rattle.ledger.specs.Calls.{openCall, takeCall}
+use Rattle.starred.specs.Heat.{repeat, conflict, HeatFrame, told, mixAfter, entryOf, kept}
 
--- a frame's bytes on a fresh board, what take tells and the mix that it writes
+-- a frame on a fresh board
 pub record BoardExample : Type 0 where
   pub modulus : ℕ
   pub size : ℕ
-  pub bytes : List ℕ
-  pub told : Told
-  pub mix : List ℕ
+  pub taken : HeatFrame
 
 -- "n = 3, p = 7: `00 00000000` on a fresh board is a repeat, and with value 1 it gives 9"
 unfoldable pub boardExamples : List BoardExample
@@ -28,16 +26,24 @@ boardExamples =
     record {
       modulus = 7;
       size = 3;
-      bytes = 0x00 ∷ 0 ∷ 0 ∷ 0 ∷ 0 ∷ [];
-      told = repeatTold 0;
-      mix = 0 ∷ 0 ∷ 0 ∷ [];
+      taken =
+          record {
+            bytes = 0x00 ∷ 0 ∷ 0 ∷ 0 ∷ 0 ∷ [];
+            multipliers = 0 ∷ 0 ∷ 0 ∷ [];
+            value = 0;
+            answer = repeat 0 (0 ∷ 0 ∷ 0 ∷ []);
+          };
     }
     ∷ record {
       modulus = 7;
       size = 3;
-      bytes = 0x00 ∷ 0 ∷ 0 ∷ 0 ∷ 1 ∷ [];
-      told = refused Conflict;
-      mix = 0 ∷ 0 ∷ 0 ∷ [];
+      taken =
+          record {
+            bytes = 0x00 ∷ 0 ∷ 0 ∷ 0 ∷ 1 ∷ [];
+            multipliers = 0 ∷ 0 ∷ 0 ∷ [];
+            value = 1;
+            answer = conflict (0 ∷ 0 ∷ 0 ∷ []);
+          };
     }
     ∷ []
 
@@ -51,16 +57,20 @@ pub data Starred : Type 0 where
 unfoldable pub starred : List Starred
 starred = map table tableExamples ++ (map frame frameExamples ++ map board boardExamples)
 
--- the frame is taken as told whatever the lent mix holds, and the board stays fresh
+-- on the board that open wrote the frame is answered so, whatever the memory lent to open and to take holds; what is then laid out is
+-- the frame if it is new, otherwise a fresh board still
 abbrev pub BoardHolds : BoardExample → Type 0
 BoardHolds e =
-    (mix : List ℕ) → length mix ≡ e .size
-    → takeCall (layout (e .modulus) (e .size) []) (e .bytes) mix
-    ≡ outcome (e .told) (layout (e .modulus) (e .size) [], e .mix)
+    (ws mix : List ℕ) → length ws ≡ boardLength (e .size) → length mix ≡ e .size
+    → takeCall (openCall (e .modulus) (e .size) ws .lent) (e .taken .bytes) mix
+    ≡ outcome (told (e .taken .answer))
+    (layout (e .modulus) (e .size) (kept (e .taken .answer) (entryOf (e .taken))), mixAfter (e .taken .answer) mix)
 
--- the frame's bytes read as its multipliers and its value
+-- read gives the value and writes the multipliers, whatever the memory lent to it holds
 abbrev pub FrameHolds : FrameExample → Type 0
-FrameHolds e = readFrame (e .modulus) (e .size) (e .bytes) ≡ accepted (e .multipliers) (e .value)
+FrameHolds e =
+    (multipliers : List ℕ) → length multipliers ≡ e .size
+    → readCall (e .modulus) (e .size) (e .bytes) multipliers ≡ outcome (gives (pos (e .value))) (e .multipliers)
 
 abbrev pub Holds : Starred → Type 0
 Holds (table e) = TableHolds e

@@ -1,0 +1,238 @@
+-- 01's heats hold. Each passes a test that computes (`passes`), frame by frame over the entries that then stand and record by record
+-- over the last ones, and a heat that passes holds (`passed-holds`): on the ledger by what the tests tell (HeatChecker), and so on the
+-- board, since a list of calls there is the ledger's (`history`).
+use mathlib.Core.Path.{_≡_, refl, sym, ap, ap₂, _∙_, subst}
+use mathlib.Core.Bool.{Bool, true}
+use mathlib.Core.List.{List, [], _∷_, _++_, append-nil, append-assoc, Memᴰ·of-map, List·Memᴰ, List·Memᴰ·head}
+use Prim.Native.Nat.{ℕ, zero, suc, _-_, _<_}
+use lib.Dec.{eqb, ltb}
+use lib.IntN.{ℤ, pos}
+use lib.ListN.{length, getD}
+use lib.Seq.{ext-getD}
+use borrow.Author.Tests.{eqb-true, ltb-true}
+use Rattle.checks.specs.Outcome.{Outcome, outcome}
+use Rattle.checks.specs.Prime.{IsModulus}
+use Rattle.checks.specs.Told.{results}
+use Rattle.field.specs.Residue.{reduce, _⊕_, _⊗_}
+use Rattle.field.specs.Written.{tabulate}
+use Rattle.field.proofs.Written.{is-tabulate}
+use Rattle.algebra.specs.Matrix.{sum, unit, apply, mixed}
+use Rattle.codec.specs.BigEndian.{width, bytesOf}
+use Rattle.frame.specs.Format.{mapLength, stands, mapByte, mapBytes, packed, valueBytes, frameOf}
+use Rattle.frame.specs.Reading.{accepted, readFrame}
+use Rattle.frame.proofs.Round.{written-reads-back}
+use Rattle.signed.specs.Reading.{reading}
+use Rattle.matrix.proofs.Checker.{_and_, every, everyBelow, both, every-below, every-member}
+use Rattle.matrix.proofs.CheckedTables.{areBelow, all-below, areSame, all-same, isPrime, same}
+use Rattle.ledger.specs.Ledger.{Entry, Ledger, ledger, multiplierRows, valueColumn}
+use Rattle.ledger.specs.Board.{layout}
+use Rattle.ledger.specs.History.{Call, reply, After, after, ledgerStep, run, ledgerRun, boardRun, onBoard}
+use Rattle.ledger.specs.Proper.{Proper}
+use Rattle.ledger.specs.Steps.{mixWords, ledgerTake, tabulateℤ, shownMark, shownNumber, ledgerShow}
+use Rattle.ledger.proofs.Demand3.{history}
+use Rattle.ledger.proofs.LedgerLaws.{getD-tabulateℤ, take-accepted, show-accepted}
+use Rattle.ledger.proofs.LedgerRuns.{run-append, run-proper}
+use Rattle.ledger.proofs.Proper.{empty-proper, step-proper}
+use Rattle.starred.specs.Heat.{HeatFrame, HeatExample, firstFrames, sheetHeat, unsettledHeat, heatExamples, told, mixAfter, entryOf, kept}
+use Rattle.starred.specs.Heat.{takes, replies, standing, HeatHolds}
+use Rattle.starred.proofs.Opened.{areSizes, sizes-checked, opened}
+use Rattle.starred.proofs.HeatChecker.{sameℤ, Witness, settledBy, freeBy, sendToZero, isCombination, isMix, isAnswer, answer-taken}
+use Rattle.starred.proofs.HeatChecker.{isShown, record-shown}
+
+-- ---- signed numbers that are written (as in board_solve, which this crate does not rest on)
+
+length-tabulateℤ : (k : ℕ) (f : ℕ → ℤ) → length (tabulateℤ k f) ≡ k
+unfolding tabulateℤ
+length-tabulateℤ zero f = refl
+length-tabulateℤ (suc k) f = ap suc (length-tabulateℤ k (λ i. f (suc i)))
+
+is-tabulateℤ : (k : ℕ) (f : ℕ → ℤ) (zs : List ℤ) → length zs ≡ k → ((i : ℕ) → i < k → getD zs i (pos 0) ≡ f i) → zs ≡ tabulateℤ k f
+is-tabulateℤ k f zs long h =
+    ext-getD (pos 0) zs (tabulateℤ k f) (long ∙ sym (length-tabulateℤ k f))
+    (λ i b. h i (rw long at b) ∙ sym (getD-tabulateℤ k f i (rw long at b)))
+
+-- ---- the test
+
+module _ (p n : ℕ) where
+  -- the bytes are what the multipliers and the value write, all below p
+  unfoldable pub isWritten : HeatFrame → Bool
+  isWritten f =
+      eqb (length (f .multipliers)) n
+      and areBelow p (f .multipliers)
+      and ltb (f .value) p
+      and areSame (frameOf n (f .multipliers) (f .value ∷ [])) (f .bytes)
+
+  -- the frame is answer-taken so where the entries es stand; a vector in xs separates a new one from them
+  unfoldable pub isTaken : List (List ℕ) → List Entry → HeatFrame → Bool
+  isTaken xs es f = isWritten f and isAnswer p n es (f .multipliers) (f .value) (getD xs (length es) []) (f .answer)
+
+  unfoldable areTaken : List (List ℕ) → List Entry → List HeatFrame → Bool
+  areTaken xs es [] = true
+  areTaken xs es (f ∷ fs) = isTaken xs es f and areTaken xs (es ++ kept (f .answer) (entryOf f)) fs
+
+  -- show gives these marks and numbers
+  unfoldable areShown : List Witness → List Entry → (marks : List ℕ) (numbers : List ℤ) → Bool
+  areShown ws es marks numbers =
+      eqb (length marks) n
+      and eqb (length numbers) n
+      and everyBelow n (λ j. isShown p n es j (getD marks j 0) (getD numbers j (pos 0)) (getD ws j (settledBy [])))
+
+-- for each entry a vector that the entries before it send to zero and it does not; for each record what settles it or leaves it free
+pub record Witnesses : Type 0 where
+  pub separating : List (List ℕ)
+  pub settling : List Witness
+
+unfoldable passes : HeatExample → Witnesses → Bool
+passes h w =
+    areSizes (h .modulus) (h .size)
+    and areTaken (h .modulus) (h .size) (w .separating) [] (h .frames)
+    and areShown (h .modulus) (h .size) (w .settling) (standing (h .frames)) (h .marks) (h .numbers)
+    and eqb (h .size - length (standing (h .frames))) (h .missing)
+
+-- ---- a frame that passes is taken so
+
+module _ (p n : ℕ) (ok : IsModulus p) where
+  -- its bytes read as its multipliers and its value
+  reads : (f : HeatFrame) → isWritten p n f ≡ true → readFrame p n (f .bytes) ≡ accepted (f .multipliers) (f .value)
+  unfolding isWritten
+  reads f t =
+      let (t, bytes) = both _ _ t in
+      let (t, value) = both _ _ t in
+      let (long, below) = both _ _ t in
+      ap (readFrame p n) (sym (all-same _ _ bytes))
+      ∙ written-reads-back p n (f .multipliers) (f .value) (ok .in-range) (eqb-true _ _ long) (all-below p _ below) (ltb-true _ _ value)
+
+  pub frame-taken : (xs : List (List ℕ)) (es : List Entry) → Proper p n es → (f : HeatFrame) → isTaken p n xs es f ≡ true
+      → (mix : List ℕ) → length mix ≡ n
+      → ledgerTake p ok n (ledger es) (f .bytes) mix ≡ outcome (told (f .answer)) (ledger (es ++ kept (f .answer) (entryOf f)), mixAfter (f .answer) mix)
+  unfolding isTaken
+  frame-taken xs es proper f t mix long =
+      let (written, answer) = both _ _ t in
+      take-accepted p ok n es (f .bytes) mix (f .multipliers) (f .value) long (reads f written)
+      ∙ answer-taken p n es ok proper (f .multipliers) (f .value) (getD xs (length es) []) mix (f .answer) answer
+
+  frame-step : (xs : List (List ℕ)) (es : List Entry) → Proper p n es → (f : HeatFrame) → isTaken p n xs es f ≡ true
+      → (mix : List ℕ) → length mix ≡ n
+      → ledgerStep p ok n (ledger es) (Call.take (f .bytes) mix)
+      ≡ after (ledger (es ++ kept (f .answer) (entryOf f))) (reply (told (f .answer)) (mixAfter (f .answer) mix) [] ∷ [])
+  unfolding ledgerStep
+  frame-step xs es proper f t mix long =
+      ap (λ (r : Outcome (Ledger × List ℕ)). after (r .lent .0) (reply (r .told) (r .lent .1) [] ∷ []))
+      (frame-taken xs es proper f t mix long)
+
+  -- frames one after the other are taken so
+  frames-taken : (xs : List (List ℕ)) (es : List Entry) → Proper p n es → (fs : List HeatFrame) → areTaken p n xs es fs ≡ true
+      → (mixes : ℕ → List ℕ) → ((i : ℕ) → length (mixes i) ≡ n)
+      → ledgerRun p ok n (ledger es) (takes fs mixes) ≡ after (ledger (es ++ standing fs)) (replies fs mixes)
+  unfolding areTaken run takes replies standing
+  frames-taken xs es proper [] t mixes long = ap (λ ds. after (ledger ds) []) (sym (append-nil es))
+  frames-taken xs es proper (f ∷ fs) t mixes long =
+      let (first, others) = both _ _ t in
+      let lent : ℕ → List ℕ = λ i. mixes (suc i) in
+      let one = frame-step xs es proper f first (mixes 0) (long 0) in
+      let stays =
+      subst (λ (a : After Ledger). Proper p n (a .state .entries)) one (step-proper p n es proper ok (Call.take (f .bytes) (mixes 0))) in
+      ap
+      (λ (a : After Ledger).
+      let rest = run (ledgerStep p ok n) (a .state) (takes fs lent) in after (rest .state) (a .replies ++ rest .replies)) one
+      ∙ ap (λ (a : After Ledger). after (a .state) (reply (told (f .answer)) (mixAfter (f .answer) (mixes 0)) [] ∷ a .replies))
+      (frames-taken xs (es ++ kept (f .answer) (entryOf f)) stays fs others lent (λ i. long (suc i)))
+      ∙ ap (λ ds. after (ledger ds) (replies (f ∷ fs) mixes)) (append-assoc es (kept (f .answer) (entryOf f)) (standing fs))
+
+  -- ---- what passes is shown
+
+  records-shown : (ws : List Witness) (es : List Entry) → Proper p n es → (ms : List ℕ) (zs : List ℤ) → areShown p n ws es ms zs ≡ true
+      → (marks : List ℕ) (numbers : List ℤ) → length marks ≡ n → length numbers ≡ n
+      → ledgerShow p ok n (ledger es) marks numbers ≡ outcome (results (n - length es)) (ms, zs)
+  unfolding areShown
+  records-shown ws es proper ms zs t marks numbers marks-long numbers-long =
+      let (t, each) = both _ _ t in
+      let (ms-long, zs-long) = both _ _ t in
+      let so : (j : ℕ) → j < n → (getD ms j 0 ≡ shownMark p ok n es j) × (getD zs j (pos 0) ≡ shownNumber p ok n es j) = λ j l.
+      record-shown p n es ok proper j _ _ _ l (every-below n _ each j l) in
+      show-accepted p ok n es proper marks numbers marks-long numbers-long
+      ∙ sym
+      (ap₂ (λ xs ys. outcome (results (n - length es)) (xs, ys)) (is-tabulate n _ ms (eqb-true _ _ ms-long) (λ j l. so j l .0))
+      (is-tabulateℤ n _ zs (eqb-true _ _ zs-long) (λ j l. so j l .1)))
+
+  -- ---- frames and then a show
+
+  frames-and-show : (xs : List (List ℕ)) (ws : List Witness) (fs : List HeatFrame) (ms : List ℕ) (zs : List ℤ)
+      → areTaken p n xs [] fs ≡ true → areShown p n ws (standing fs) ms zs ≡ true
+      → (mixes : ℕ → List ℕ) (marks : List ℕ) (numbers : List ℤ) → ((i : ℕ) → length (mixes i) ≡ n) → length marks ≡ n → length numbers ≡ n
+      → ledgerRun p ok n (ledger []) (takes fs mixes ++ (Call.show marks numbers ∷ []))
+      ≡ after (ledger (standing fs)) (replies fs mixes ++ (reply (results (n - length (standing fs))) ms zs ∷ []))
+  unfolding run ledgerStep
+  frames-and-show xs ws fs ms zs taken shown mixes marks numbers mixes-long marks-long numbers-long =
+      let ran = frames-taken xs [] (empty-proper p n) fs taken mixes mixes-long in
+      let proper =
+      subst (λ (a : After Ledger). Proper p n (a .state .entries)) ran (run-proper p ok n (ledger []) (empty-proper p n) (takes fs mixes)) in
+      run-append (ledgerStep p ok n) (ledger []) (takes fs mixes) (Call.show marks numbers ∷ [])
+      ∙ ap
+      (λ (a : After Ledger).
+      let last = run (ledgerStep p ok n) (a .state) (Call.show marks numbers ∷ []) in after (last .state) (a .replies ++ last .replies)) ran
+      ∙ ap (λ (r : Outcome (List ℕ × List ℤ)). after (ledger (standing fs)) (replies fs mixes ++ (reply (r .told) (r .lent .0) (r .lent .1) ∷ [])))
+      (records-shown ws (standing fs) proper ms zs shown marks numbers marks-long numbers-long)
+
+-- ---- a heat that passes holds
+
+passed-holds : (h : HeatExample) (w : Witnesses) → passes h w ≡ true → HeatHolds h
+unfolding passes
+passed-holds h w t =
+    let (t, many) = both _ _ t in
+    let (t, shown) = both _ _ t in
+    let (sizes, taken) = both _ _ t in
+    let (ok, size) = sizes-checked (h .modulus) (h .size) sizes in
+    record {
+      opens = λ ws long. ap (λ (o : Outcome (List ℕ)). o .told) (opened (h .modulus) (h .size) ok size ws long);
+      goes = λ ws mixes marks numbers room.
+          let cs = takes (h .frames) mixes ++ (Call.show marks numbers ∷ []) in
+          ap (λ (o : Outcome (List ℕ)). boardRun (o .lent) cs) (opened (h .modulus) (h .size) ok size ws (room .ws-long))
+          ∙ history (h .modulus) (h .size) ok size (ledger []) (empty-proper (h .modulus) (h .size)) cs
+          ∙ ap (onBoard (h .modulus) (h .size))
+          (frames-and-show (h .modulus) (h .size) ok (w .separating) (w .settling) (h .frames) (h .marks) (h .numbers) taken shown
+          mixes marks numbers (room .mixes-long) (room .marks-long) (room .numbers-long))
+          ∙ ap
+          (λ k. after (layout (h .modulus) (h .size) (standing (h .frames)))
+          (replies (h .frames) mixes ++ (reply (results k) (h .marks) (h .numbers) ∷ []))) (eqb-true _ _ many);
+    }
+
+-- ---- 01's heats
+
+-- (6 4 1) is the kernel of the first two rows; the combinations are the inverse of the three that stand at the end, row by row
+unfoldable sheetWitnesses : Witnesses
+sheetWitnesses =
+    record {
+      separating = (1 ∷ 0 ∷ 0 ∷ []) ∷ (5 ∷ 1 ∷ 0 ∷ []) ∷ (6 ∷ 4 ∷ 1 ∷ []) ∷ [];
+      settling = settledBy (1 ∷ 5 ∷ 6 ∷ []) ∷ settledBy (0 ∷ 1 ∷ 4 ∷ []) ∷ settledBy (0 ∷ 0 ∷ 1 ∷ []) ∷ [];
+    }
+
+unfoldable unsettledWitnesses : Witnesses
+unsettledWitnesses =
+    record {
+      separating = (1 ∷ 0 ∷ 0 ∷ []) ∷ (5 ∷ 1 ∷ 0 ∷ []) ∷ [];
+      settling = freeBy (6 ∷ 4 ∷ 1 ∷ []) ∷ freeBy (6 ∷ 4 ∷ 1 ∷ []) ∷ freeBy (6 ∷ 4 ∷ 1 ∷ []) ∷ [];
+    }
+
+unfoldable witnessed : List (HeatExample × Witnesses)
+witnessed = (sheetHeat, sheetWitnesses) ∷ (unsettledHeat, unsettledWitnesses) ∷ []
+
+-- each passes, computed
+all-pass : every (λ (q : HeatExample × Witnesses). passes (q .0) (q .1)) witnessed ≡ true
+unfolding every witnessed sheetHeat sheetWitnesses unsettledHeat unsettledWitnesses firstFrames standing passes areSizes isPrime
+    areTaken isTaken isWritten isAnswer isMix areShown isShown sendToZero isCombination areBelow areSame everyBelow _and_ same sameℤ
+    multiplierRows valueColumn mixWords sum unit apply mixed tabulate reduce _⊕_ _⊗_ reading
+    frameOf mapBytes mapByte mapLength stands packed valueBytes bytesOf width
+all-pass = refl
+
+-- every heat holds
+pub heats-hold : (h : HeatExample) → List·Memᴰ h heatExamples → HeatHolds h
+unfolding heatExamples witnessed
+heats-hold h m =
+    let (q, i, e) = Memᴰ·of-map (λ (q : HeatExample × Witnesses). q .0) witnessed m in
+    subst HeatHolds e (passed-holds (q .0) (q .1) (every-member _ witnessed all-pass q i))
+
+-- 01's heat does
+pub heat-holds : HeatHolds sheetHeat
+unfolding heatExamples
+heat-holds = heats-hold sheetHeat (List·Memᴰ·head refl)

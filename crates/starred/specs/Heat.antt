@@ -1,0 +1,154 @@
+-- Heats from open to show, as data, and what it is for one to hold of the definitions that the calls' contracts name. 01, "The
+-- sheet program and the C side": "With p = 7, n = 3 and the frames (1 2 0) 5, (0 1 3) 4, (1 3 3) 2, (1 3 3) 3, (0 0 1) 6 it prints
+-- all of: `new 1`, `new 2`, `repeat 2`, `conflict 2`, `new 3`, `0 -2`, `1 0`, `2 -1`, `missing 0`."
+use mathlib.Core.Path.{_≡_}
+use mathlib.Core.List.{List, [], _∷_, _++_}
+use Prim.Native.Nat.{ℕ, suc}
+use lib.IntN.{ℤ, pos, negsuc}
+use lib.ListN.{length}
+use Rattle.checks.specs.declared.Refusal.the-variants.{Conflict}
+use Rattle.checks.specs.Told.{Told, done, refused, results}
+use Rattle.ledger.specs.Ledger.{Entry, entry}
+use Rattle.ledger.specs.Board.{boardLength, layout}
+use Rattle.ledger.specs.Steps.{newTold, repeatTold}
+use Rattle.ledger.specs.Calls.{openCall}
+use Rattle.ledger.specs.History.{Call, Reply, reply, after, boardRun}
+
+-- ---- heats
+
+-- what take answers: new or repeat with the count, or a conflict; beside the last two the mix that it writes
+pub data Answer : Type 0 where
+  new : (count : ℕ) → Answer
+  repeat : (count : ℕ) (mix : List ℕ) → Answer
+  conflict : (mix : List ℕ) → Answer
+
+-- a frame's bytes, the multipliers and the value that they read as, and its answer
+pub record HeatFrame : Type 0 where
+  pub bytes : List ℕ
+  pub multipliers : List ℕ
+  pub value : ℕ
+  pub answer : Answer
+
+-- the frames in the order in which they come, then the marks and numbers that show gives, and the missing count
+pub record HeatExample : Type 0 where
+  pub modulus : ℕ
+  pub size : ℕ
+  pub frames : List HeatFrame
+  pub marks : List ℕ
+  pub numbers : List ℤ
+  pub missing : ℕ
+
+-- (1 2 0) 5 and (0 1 3) 4
+unfoldable pub firstFrames : List HeatFrame
+firstFrames =
+    record {
+      bytes = 0x03 ∷ 0 ∷ 0 ∷ 0 ∷ 1 ∷ 0 ∷ 0 ∷ 0 ∷ 2 ∷ 0 ∷ 0 ∷ 0 ∷ 5 ∷ [];
+      multipliers = 1 ∷ 2 ∷ 0 ∷ [];
+      value = 5;
+      answer = new 1;
+    }
+    ∷ record {
+      bytes = 0x06 ∷ 0 ∷ 0 ∷ 0 ∷ 1 ∷ 0 ∷ 0 ∷ 0 ∷ 3 ∷ 0 ∷ 0 ∷ 0 ∷ 4 ∷ [];
+      multipliers = 0 ∷ 1 ∷ 3 ∷ [];
+      value = 4;
+      answer = new 2;
+    }
+    ∷ []
+
+-- 01's heat; 1 3 3 is the sum of the first two rows, 2 the sum of their values
+unfoldable pub sheetHeat : HeatExample
+sheetHeat =
+    record {
+      modulus = 7;
+      size = 3;
+      frames =
+          firstFrames
+          ++ (record {
+            bytes = 0x07 ∷ 0 ∷ 0 ∷ 0 ∷ 1 ∷ 0 ∷ 0 ∷ 0 ∷ 3 ∷ 0 ∷ 0 ∷ 0 ∷ 3 ∷ 0 ∷ 0 ∷ 0 ∷ 2 ∷ [];
+            multipliers = 1 ∷ 3 ∷ 3 ∷ [];
+            value = 2;
+            answer = repeat 2 (1 ∷ 1 ∷ 0 ∷ []);
+          }
+          ∷ record {
+            bytes = 0x07 ∷ 0 ∷ 0 ∷ 0 ∷ 1 ∷ 0 ∷ 0 ∷ 0 ∷ 3 ∷ 0 ∷ 0 ∷ 0 ∷ 3 ∷ 0 ∷ 0 ∷ 0 ∷ 3 ∷ [];
+            multipliers = 1 ∷ 3 ∷ 3 ∷ [];
+            value = 3;
+            answer = conflict (1 ∷ 1 ∷ 0 ∷ []);
+          }
+          ∷ record {
+            bytes = 0x04 ∷ 0 ∷ 0 ∷ 0 ∷ 1 ∷ 0 ∷ 0 ∷ 0 ∷ 6 ∷ [];
+            multipliers = 0 ∷ 0 ∷ 1 ∷ [];
+            value = 6;
+            answer = new 3;
+          }
+          ∷ []);
+      marks = 1 ∷ 1 ∷ 1 ∷ [];
+      numbers = negsuc 1 ∷ pos 0 ∷ negsuc 0 ∷ [];
+      missing = 0;
+    }
+
+-- 01, "Three ways to a wrong sheet": "With (1 2 0), (0 1 3) columns 0 and 1 are in I, and no record is settled."
+unfoldable pub unsettledHeat : HeatExample
+unsettledHeat =
+    record {
+      modulus = 7;
+      size = 3;
+      frames = firstFrames;
+      marks = 0 ∷ 0 ∷ 0 ∷ [];
+      numbers = pos 0 ∷ pos 0 ∷ pos 0 ∷ [];
+      missing = 1;
+    }
+
+unfoldable pub heatExamples : List HeatExample
+heatExamples = sheetHeat ∷ unsettledHeat ∷ []
+
+-- ---- what it is for a heat to hold
+
+-- what is told of a frame so answered, what becomes of the mix lent to it, and what of the frame then stands
+abbrev pub told : Answer → Told
+told (new count) = newTold count
+told (repeat count mix) = repeatTold count
+told (conflict mix) = refused Conflict
+
+abbrev pub mixAfter : Answer → List ℕ → List ℕ
+mixAfter (new count) lent = lent
+mixAfter (repeat count mix) lent = mix
+mixAfter (conflict mix) lent = mix
+
+abbrev pub entryOf : HeatFrame → Entry
+entryOf f = entry (f .multipliers) (f .value)
+
+abbrev pub kept : Answer → Entry → List Entry
+kept (new count) e = e ∷ []
+kept (repeat count mix) e = []
+kept (conflict mix) e = []
+
+-- the takes of the frames, the first with the mix lent 0, the next with lent 1, and so on; their replies; and the entries that
+-- stand after them
+unfoldable pub takes : List HeatFrame → (lent : ℕ → List ℕ) → List Call
+takes [] lent = []
+takes (f ∷ fs) lent = Call.take (f .bytes) (lent 0) ∷ takes fs (λ i. lent (suc i))
+
+unfoldable pub replies : List HeatFrame → (lent : ℕ → List ℕ) → List Reply
+replies [] lent = []
+replies (f ∷ fs) lent = reply (told (f .answer)) (mixAfter (f .answer) (lent 0)) [] ∷ replies fs (λ i. lent (suc i))
+
+unfoldable pub standing : List HeatFrame → List Entry
+standing [] = []
+standing (f ∷ fs) = kept (f .answer) (entryOf f) ++ standing fs
+
+-- memory lent to open, to the takes and to show, of the lengths named
+pub record HeatRoom (n : ℕ) (ws : List ℕ) (mixes : ℕ → List ℕ) (marks : List ℕ) (numbers : List ℤ) : Type 0 where
+  pub ws-long : length ws ≡ boardLength n
+  pub mixes-long : (i : ℕ) → length (mixes i) ≡ n
+  pub marks-long : length marks ≡ n
+  pub numbers-long : length numbers ≡ n
+
+-- open is done, and the frames and a show after it are answered, and leave the board and the memory lent to them, as the heat says,
+-- whatever the lent memory holds
+pub record HeatHolds (h : HeatExample) : Type 0 where
+  pub opens : (ws : List ℕ) → length ws ≡ boardLength (h .size) → openCall (h .modulus) (h .size) ws .told ≡ done
+  pub goes : (ws : List ℕ) (mixes : ℕ → List ℕ) (marks : List ℕ) (numbers : List ℤ) → HeatRoom (h .size) ws mixes marks numbers
+      → boardRun (openCall (h .modulus) (h .size) ws .lent) (takes (h .frames) mixes ++ (Call.show marks numbers ∷ []))
+      ≡ after (layout (h .modulus) (h .size) (standing (h .frames)))
+      (replies (h .frames) mixes ++ (reply (results (h .missing)) (h .marks) (h .numbers) ∷ []))
