@@ -1,13 +1,13 @@
 -- The loop of `show_records` writes a mark and a number a turn: what stands there after j turns, and that after the last turn the
 -- marks and the numbers are those of the ledger.
-use mathlib.Core.Path.{_≡_, refl, sym, ap, _∙_}
+use mathlib.Core.Path.{_≡_, sym, _∙_}
 use mathlib.Core.List.{List}
-use Prim.Native.Nat.{ℕ, zero, suc, _+_, _<_}
+use Prim.Native.Nat.{ℕ, _+_, _<_}
 use native.Mathlib.Omega.{arith}
 use borrow.Author.Count.{below-none, below-more}
 use lib.IntN.{ℤ, pos}
 use lib.ListN.{length, getD, set, length-set}
-use lib.Seq.{getD-set-same, getD-set-other, ext-getD}
+use lib.Seq.{getD-set-same, getD-set-other}
 use mir.Syntax.{w32}
 use mir.Val.{SFits, toZ, ofZ}
 use mir.ValLaws.{toZ-ofZ}
@@ -18,22 +18,9 @@ use Rattle.signed.specs.Reading.{reading}
 use Rattle.ledger.specs.Board.{modulusWord, sizeWord, entriesOf}
 use Rattle.ledger.specs.Ledger.{Entry}
 use Rattle.ledger.specs.Steps.{shownMark, shownNumber, tabulateℤ}
-use Rattle.ledger.proofs.LedgerLaws.{getD-tabulateℤ}
+use Rattle.ledger.proofs.LedgerLaws.{is-tabulateℤ}
 use Rattle.board_words.specs.Inverse.{BoardInverse}
 use Rattle.board_solve.proofs.RecordSettled.{UnitIn, valueIn, shown-at, hidden-at}
-
--- ---- signed numbers written one after the other, as numbers are
-
-length-tabulateℤ : (n : ℕ) (f : ℕ → ℤ) → length (tabulateℤ n f) ≡ n
-unfolding tabulateℤ
-length-tabulateℤ zero f = refl
-length-tabulateℤ (suc n) f = ap suc (length-tabulateℤ n (λ k. f (suc k)))
-
--- a list of n signed numbers with f i at each place i
-pub is-tabulateℤ : (n : ℕ) (f : ℕ → ℤ) (zs : List ℤ) → length zs ≡ n → ((i : ℕ) → i < n → getD zs i (pos 0) ≡ f i) → zs ≡ tabulateℤ n f
-is-tabulateℤ n f zs l h =
-    ext-getD (pos 0) zs (tabulateℤ n f) (l ∙ sym (length-tabulateℤ n f))
-    (λ i b. h i (rw l at b) ∙ sym (getD-tabulateℤ n f i (rw l at b)))
 
 -- ---- one place more of a list
 

@@ -1,21 +1,30 @@
--- What read, write and seal come to: refused by the first check that fails, of the sizes or of what comes after them, or done.
-use mathlib.Core.Path.{_≡_, refl, sym, _∙_}
+-- What read, write and seal come to: refused by the first check that fails, of the sizes or of what comes after them, or done. Last,
+-- what holds where a call told a value.
+use mathlib.Core.Path.{_≡_, refl, sym, ap, _∙_}
 use mathlib.Core.List.{List, [], _∷_}
 use Prim.Native.Nat.{ℕ}
+use native.Mathlib.Omega.{arith}
 use lib.IntN.{ℤ, pos}
 use lib.ListN.{length}
 use Rattle.checks.specs.declared.Refusal.{Refusal}
-use Rattle.checks.specs.Told.{gives}
-use Rattle.checks.specs.Outcome.{outcome, untouched}
+use Rattle.checks.specs.Largest.{FrameSize}
+use Rattle.checks.specs.Prime.{IsModulus}
+use Rattle.checks.specs.Told.{Told, gives, refused}
+use Rattle.checks.specs.Outcome.{Outcome, outcome, untouched}
 use Rattle.checks.specs.declared.Refusal.the-variants.{Length}
 use Rattle.checks.specs.InOrder.{passed, _else_, _⨾_, andThen, AllHold, FirstFailing}
 use Rattle.checks.specs.Decide.{long?}
 use Rattle.checks.specs.Sizes.{frameSizes}
-use Rattle.checks.proofs.InOrder.{none-left, in-order-done, in-order-refused, in-order-map, in-order-then, hold-and-then, fails-in-front, fails-then, _and-then_}
+use Rattle.checks.proofs.Refusals.{refusal-number}
+use Rattle.checks.proofs.InOrder.{none-left, in-order-done, in-order-refused, in-order-elim, in-order-map, in-order-then, hold-and-then, fails-in-front, fails-then, _and-then_}
 use Rattle.frame.specs.Format.{frameOf}
-use Rattle.frame.specs.Reading.{frameChecks, readFrame}
+use Rattle.frame.specs.Reading.{frameChecks, Found, accepted, rejected, readFrame}
 use Rattle.frame.specs.Sealing.{sealed}
 use Rattle.frame.specs.Calls.{readOutcome, readRest, readCall, writeRest, written, writeCall, sealRest, sealCall}
+
+-- the checks of a modulus and a size hold
+pub sizes-hold : (p n : ℕ) → IsModulus p → FrameSize n → AllHold (frameSizes p n)
+sizes-hold p n ok size = ok and-then size and-then none-left
 
 module _ (p n : ℕ) (bytes lent : List ℕ) where
   pub read-no-sizes : {k : Refusal} → FirstFailing (frameSizes p n) k → untouched lent k ≡ readCall p n bytes lent
@@ -65,3 +74,37 @@ module _ (p n : ℕ) (zs : List ℤ) (xs : List ℕ) where
     pub seal-done : AllHold (sealRest p n zs xs) → outcome (gives (pos (sealed p n zs xs))) tt ≡ sealCall p n zs xs
     unfolding sealCall
     seal-done a = sym (in-order-done _ _ _ (hold-and-then {cs = frameSizes p n} {more = λ _. sealRest p n zs xs} sizes (λ _. a)) (λ _. refl))
+
+-- ---- from what a call told
+
+-- a value that seal told is the sealed value
+pub seal-told : (p n : ℕ) (zs : List ℤ) (xs : List ℕ) (v : ℕ) → sealCall p n zs xs .told ≡ gives (pos v) → v ≡ sealed p n zs xs
+unfolding sealCall
+seal-told p n zs xs v =
+    in-order-elim _ _ (λ (o : Outcome (Unit {0})). o .told ≡ gives (pos v) → v ≡ sealed p n zs xs)
+    (λ hs e. sym (same e))
+    (λ k _ e. absurd (no-value k e))
+  where
+    same : gives (pos (sealed p n zs xs)) ≡ gives (pos v) → sealed p n zs xs ≡ v
+    same e = let values = ap (λ (t : Told). t .values) e in cc
+
+    no-value : (k : Refusal) → refused k ≡ gives (pos v) → ⊥
+    no-value k e = omega (arith, refusal-number k, ap (λ (t : Told). t .number) e)
+
+-- what read told, where the sizes hold and n numbers were lent: what reading found
+pub read-told : (p n : ℕ) (bytes lent xs : List ℕ) (v : ℕ) → AllHold (frameSizes p n) → length lent ≡ n
+    → readCall p n bytes lent ≡ outcome (gives (pos v)) xs → readFrame p n bytes ≡ accepted xs v
+unfolding readOutcome
+read-told p n bytes lent xs v sizes long e = go (readFrame p n bytes) (read-done p n bytes lent sizes long ∙ e)
+  where
+    go : (f : Found) → readOutcome lent f ≡ outcome (gives (pos v)) xs → f ≡ accepted xs v
+    go (accepted ys w) q =
+        let values = ap (λ (o : Outcome (List ℕ)). o .told .values) q in
+        let lent = ap (λ (o : Outcome (List ℕ)). o .lent) q in cc
+    go (rejected k) q = absurd (omega (arith, refusal-number k, ap (λ (o : Outcome (List ℕ)). o .told .number) q))
+
+-- and the other way round
+pub read-as-told : (p n : ℕ) (bytes lent xs : List ℕ) (v : ℕ) → AllHold (frameSizes p n) → length lent ≡ n
+    → readFrame p n bytes ≡ accepted xs v → readCall p n bytes lent ≡ outcome (gives (pos v)) xs
+unfolding readOutcome
+read-as-told p n bytes lent xs v sizes long e = sym (read-done p n bytes lent sizes long) ∙ ap (readOutcome lent) e

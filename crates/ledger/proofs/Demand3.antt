@@ -12,12 +12,13 @@ use lib.Seq.{take-append-seam}
 use Rattle.checks.specs.Prime.{IsModulus}
 use Rattle.checks.specs.Largest.{FrameSize}
 use Rattle.checks.specs.Refusal.{IsRefusal}
-use Rattle.checks.specs.Outcome.{Outcome}
+use Rattle.checks.specs.Told.{done}
+use Rattle.checks.specs.Outcome.{Outcome, outcome}
 use Rattle.checks.proofs.Refusals.{refusal-number}
 use Rattle.checks.proofs.InOrder.{none-left, in-order-done, in-order-elim, _and-then_}
 use Rattle.ledger.specs.Ledger.{Entry, Ledger, ledger}
 use Rattle.ledger.specs.Steps.{ledgerWithdraw}
-use Rattle.ledger.specs.Board.{modulusWord, sizeWord, layout, boardOf, ledgerOf, IsBoard}
+use Rattle.ledger.specs.Board.{modulusWord, sizeWord, boardLength, layout, boardOf, ledgerOf, IsBoard}
 use Rattle.ledger.specs.Decide.{board?}
 use Rattle.ledger.specs.Calls.{openCall, takeCall, withdrawCall}
 use Rattle.ledger.specs.Turns.{replyOf}
@@ -45,6 +46,12 @@ open-accepted p n ws =
     in-order-elim _ _ (λ o. o .told .number ≡ 0 → AcceptedOpen p n o)
     (λ hs _. record { prime = hs .0; size = hs .1 .0; board = refl })
     (λ k _ e. absurd (omega (arith, refusal-number k)))
+
+-- with a modulus, a size and a board's length open is accepted, and writes a fresh board
+pub open-done : (p n : ℕ) (ws : List ℕ) → IsModulus p → FrameSize n → length ws ≡ boardLength n
+    → openCall p n ws ≡ outcome done (layout p n [])
+unfolding openCall
+open-done p n ws ok size long = in-order-done _ _ _ (ok and-then size and-then long and-then none-left) (λ _. refl)
 
 -- ---- a list of calls
 

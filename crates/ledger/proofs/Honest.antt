@@ -17,17 +17,15 @@ use Rattle.algebra.proofs.Applied as applied
 use Rattle.checks.specs.Prime.{IsModulus}
 use Rattle.checks.specs.Largest.{FrameSize}
 use Rattle.checks.specs.Refusal.{IsRefusal}
-use Rattle.checks.specs.InOrder.{AllHold}
-use Rattle.checks.specs.Sizes.{frameSizes}
 use Rattle.checks.specs.Outcome.{Outcome}
-use Rattle.checks.proofs.InOrder.{none-left, _and-then_}
 use Rattle.field.specs.Residue.{reduce, residues, _⊗_}
 use Rattle.field.proofs.Residues.{reduce-small}
 use Rattle.field.proofs.Field.{residues-field}
 use Rattle.signed.specs.Reading.{reading, residueOf}
 use Rattle.signed.proofs.Readings.{reading-of-residue}
 use Rattle.frame.specs.Reading.{accepted, readFrame}
-use Rattle.frame.proofs.RecordsMeet.{sealed-met, seal-told, read-as-told}
+use Rattle.frame.proofs.Calls.{sizes-hold, seal-told, read-as-told}
+use Rattle.frame.proofs.RecordsMeet.{sealed-met}
 use Rattle.ledger.specs.Ledger.{Entry, entry, noEntry, Ledger, ledger, Assignment, Meets, MeetsAll, InSpan, GivesValue, multiplierRows, valueColumn}
 use Rattle.ledger.specs.Calls.{openCall}
 use Rattle.ledger.specs.History.{Call, Reply, ledgerStep, run, ledgerRun}
@@ -65,13 +63,10 @@ module _ (p : ℕ) (ok : IsModulus p) (n : ℕ) where
         sealed-met p n zs xs (omega (arith, ok .prime .two-or-more)) ∙ ap (reduce p) (sym (seal-told p n zs xs v e))
 
     module _ (size : FrameSize n) where
-      sizes : AllHold (frameSizes p n)
-      sizes = ok and-then size and-then none-left
-
       -- and so is what a frame that comes from them reads as
       comes-met : (frame xs : List ℕ) (v : ℕ) → ComesFrom p n zs frame → readFrame p n frame ≡ accepted xs v
           → Meets p n (entry xs v) (recordResidues p zs)
-      comes-met frame xs v from e = seals-met xs v (from xs v (λ lent long. read-as-told p n frame lent xs v sizes long e))
+      comes-met frame xs v from e = seals-met xs v (from xs v (λ lent long. read-as-told p n frame lent xs v (sizes-hold p n ok size) long e))
 
       -- they meet the frames after a take, a withdrawal, a list of calls
       took-met : (l : Ledger) (frame mix : List ℕ) {r : Outcome (Ledger × List ℕ)} → Took p ok n l frame mix r

@@ -10,6 +10,7 @@ use native.Mathlib.Decide.{map-dec}
 use native.Mathlib.Omega.{arith}
 use lib.IntN.{ℤ, pos}
 use lib.ListN.{length, getD, replicate}
+use lib.Seq.{ext-getD}
 use Rattle.algebra.specs.Matrix.{apply}
 use Rattle.algebra.specs.Ring.{IsField}
 use Rattle.algebra.proofs.Choice.{pick-by-elim, pick-by-same, pick-by-no}
@@ -39,12 +40,23 @@ use Rattle.ledger.proofs.RankRows as rows
 tabulate-same : (k : ℕ) {f g : ℕ → ℕ} → ((i : ℕ) → i < k → f i ≡ g i) → tabulate k f ≡ tabulate k g
 tabulate-same k {f} {g} h = is-tabulate k g (tabulate k f) (length-tabulate k f) (λ i l. getD-tabulate k f i l ∙ h i l)
 
--- what stands at each place of the signed numbers written
+-- how many signed numbers are written, and what stands at each place
+pub length-tabulateℤ : (k : ℕ) (f : ℕ → ℤ) → length (tabulateℤ k f) ≡ k
+unfolding tabulateℤ
+length-tabulateℤ zero f = refl
+length-tabulateℤ (suc k) f = ap suc (length-tabulateℤ k (λ t. f (suc t)))
+
 pub getD-tabulateℤ : (k : ℕ) (f : ℕ → ℤ) (i : ℕ) → i < k → getD (tabulateℤ k f) i (pos 0) ≡ f i
 unfolding tabulateℤ
 getD-tabulateℤ zero f i h = absurd (not-suc-le-zero h)
 getD-tabulateℤ (suc k) f zero h = refl
 getD-tabulateℤ (suc k) f (suc i) h = getD-tabulateℤ k (λ t. f (suc t)) i (le-of-suc-le-suc h)
+
+-- a list of k signed numbers with f i at each place i is what is written
+pub is-tabulateℤ : (k : ℕ) (f : ℕ → ℤ) (zs : List ℤ) → length zs ≡ k → ((i : ℕ) → i < k → getD zs i (pos 0) ≡ f i) → zs ≡ tabulateℤ k f
+is-tabulateℤ k f zs l h =
+    ext-getD (pos 0) zs (tabulateℤ k f) (l ∙ sym (length-tabulateℤ k f))
+    (λ i b. h i (rw l at b) ∙ sym (getD-tabulateℤ k f i (rw l at b)))
 
 module _ (p : ℕ) (ok : IsModulus p) (n : ℕ) (es : List Entry) where
   F : IsField (residues p)

@@ -3,7 +3,7 @@
 use mathlib.Core.Path.{_≡_, refl, sym, ap, _∙_, subst}
 use mathlib.Core.Logic.{_⊎_, ⊎-elim}
 use mathlib.Core.List.{List, _++_}
-use Prim.Native.Nat.{ℕ, zero, suc, _+_, _-_, _≤_, _<_}
+use Prim.Native.Nat.{ℕ, _+_, _-_, _≤_, _<_}
 use native.Mathlib.Omega.{arith}
 use lib.IntN.{ℤ}
 use lib.ListN.{length, getD, replicate, length-append, length-replicate, List·getD-append}
@@ -22,17 +22,12 @@ use Rattle.field.proofs.Written.{length-tabulate, getD-tabulate}
 use Rattle.frame.specs.Reading.{frameMultipliers}
 use Rattle.frame.proofs.Round.{accepted-found}
 use Rattle.ledger.specs.Ledger.{Entry, Ledger, ledger, InSpan, multiplierRows}
-use Rattle.ledger.specs.Steps.{mixWords, tabulateℤ, shownMark, shownNumber, ledgerShow}
+use Rattle.ledger.specs.Steps.{mixWords, shownMark, shownNumber, ledgerShow}
 use Rattle.ledger.specs.History.{Reply, reply}
 use Rattle.ledger.specs.Proper.{Proper}
 use Rattle.ledger.specs.Demand3.{Shows, IsMix}
 use Rattle.ledger.proofs.LedgerSteps.{Took, new, repeat, conflict, refusal}
-use Rattle.ledger.proofs.LedgerLaws.{getD-tabulateℤ, combination-once, shown-exactly, marked-exactly, show-accepted}
-
-length-tabulateℤ : (k : ℕ) (f : ℕ → ℤ) → length (tabulateℤ k f) ≡ k
-unfolding tabulateℤ
-length-tabulateℤ zero f = refl
-length-tabulateℤ (suc k) f = ap suc (length-tabulateℤ k (λ t. f (suc t)))
+use Rattle.ledger.proofs.LedgerLaws.{length-tabulateℤ, getD-tabulateℤ, combination-once, shown-exactly, marked-exactly, show-accepted}
 
 module _ (p : ℕ) (ok : IsModulus p) (n : ℕ) (es : List Entry) (proper : Proper p n es) where
   -- ---- show

@@ -16,8 +16,6 @@ use Rattle.checks.specs.Prime.{IsModulus}
 use Rattle.checks.specs.Largest.{FrameSize}
 use Rattle.checks.specs.Told.{gives}
 use Rattle.checks.specs.Outcome.{Outcome}
-use Rattle.checks.specs.InOrder.{AllHold}
-use Rattle.checks.specs.Sizes.{frameSizes}
 use Rattle.checks.proofs.Refusals.{refusal-number}
 use Rattle.checks.proofs.InOrder.{none-left, _and-then_}
 use Rattle.field.specs.Residue.{Residue, reduce, residues, _⊕_, _⊗_}
@@ -28,8 +26,7 @@ use Rattle.words.specs.Words.{Below}
 use Rattle.frame.specs.Reading.{accepted, readFrame}
 use Rattle.frame.specs.Sealing.{sealed}
 use Rattle.frame.proofs.Round.{accepted-found}
-use Rattle.frame.proofs.Calls.{seal-done}
-use Rattle.frame.proofs.RecordsMeet.{seal-told, read-told}
+use Rattle.frame.proofs.Calls.{sizes-hold, seal-done, seal-told, read-told}
 use Rattle.ledger.specs.Ledger.{Entry, noEntry, Ledger, ledger, InSpan, multiplierRows}
 use Rattle.ledger.specs.Calls.{openCall}
 use Rattle.ledger.specs.History.{Call, Reply, ledgerStep}
@@ -79,9 +76,6 @@ module _ (p : ℕ) (ok : IsModulus p) (n : ℕ) where
     size : FrameSize n
     size = open-accepted p n ws done .size
 
-    sizes : AllHold (frameSizes p n)
-    sizes = ok and-then size and-then none-left
-
     module _ {cs : List Call} (t : Turn cs) (frame mix : List ℕ) (e : t .call ≡ Call.take frame mix)
         (summed : List ℕ) (v : ℕ) (reads : ReadsAs p n frame summed v) where
       combination-never-new : InSpan p n (standing p ok n (t .before)) summed → replyAt p n ws t .told .number ≡ 0 → ⊥
@@ -90,7 +84,7 @@ module _ (p : ℕ) (ok : IsModulus p) (n : ℕ) where
           let l = ledger (standing p ok n (t .before)) in
           let same = turn-replied p ok n ws done t ∙ ap (λ d. replyOf (ledgerStep p ok n l d)) e in
           took-not-new l frame mix summed v (took p ok n l frame mix)
-          (read-told p n frame (replicate n 0) summed v sizes (length-replicate n 0) (reads (replicate n 0) (length-replicate n 0))) c
+          (read-told p n frame (replicate n 0) summed v (sizes-hold p n ok size) (length-replicate n 0) (reads (replicate n 0) (length-replicate n 0))) c
           (sym (ap (λ (r : Reply). r .told .number) same) ∙ zero-told)
 
       -- a frame whose multipliers are the sum of those of two standing frames is never answered new
@@ -135,7 +129,7 @@ module _ (p : ℕ) (ok : IsModulus p) (n : ℕ) where
       → SealsAs p n zs xs v → SealsAs p n zs ys w → IsSum p n xs ys summed → SealsAs p n zs summed ((v + w) % p)
   seals-sum size zs heat xs ys summed v w e f s =
       ap (λ (o : Outcome (Unit {0})). o .told)
-      (sym (seal-done p n zs summed (ok and-then size and-then none-left)
+      (sym (seal-done p n zs summed (sizes-hold p n ok size)
       (heat .many and-then s .long and-then below and-then heat .in-range and-then none-left)))
       ∙ ap (λ (k : ℕ). gives (pos k))
       (sealed-sum zs xs ys summed s ∙ ap₂ (λ a b. (a + b) % p) (sym (seal-told p n zs xs v e)) (sym (seal-told p n zs ys w f)))

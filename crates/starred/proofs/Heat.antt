@@ -4,11 +4,10 @@
 use mathlib.Core.Path.{_≡_, refl, sym, ap, ap₂, _∙_, subst}
 use mathlib.Core.Bool.{Bool, true}
 use mathlib.Core.List.{List, [], _∷_, _++_, append-nil, append-assoc, Memᴰ·of-map, List·Memᴰ, List·Memᴰ·head}
-use Prim.Native.Nat.{ℕ, zero, suc, _-_, _<_}
+use Prim.Native.Nat.{ℕ, suc, _-_, _<_}
 use lib.Dec.{eqb, ltb}
 use lib.IntN.{ℤ, pos}
 use lib.ListN.{length, getD}
-use lib.Seq.{ext-getD}
 use borrow.Author.Tests.{eqb-true, ltb-true}
 use Rattle.checks.specs.Outcome.{Outcome, outcome}
 use Rattle.checks.specs.Prime.{IsModulus}
@@ -28,28 +27,16 @@ use Rattle.ledger.specs.Ledger.{Entry, Ledger, ledger, multiplierRows, valueCol
 use Rattle.ledger.specs.Board.{layout}
 use Rattle.ledger.specs.History.{Call, reply, After, after, ledgerStep, run, ledgerRun, boardRun, onBoard}
 use Rattle.ledger.specs.Proper.{Proper}
-use Rattle.ledger.specs.Steps.{mixWords, ledgerTake, tabulateℤ, shownMark, shownNumber, ledgerShow}
-use Rattle.ledger.proofs.Demand3.{history}
-use Rattle.ledger.proofs.LedgerLaws.{getD-tabulateℤ, take-accepted, show-accepted}
+use Rattle.ledger.specs.Steps.{mixWords, ledgerTake, shownMark, shownNumber, ledgerShow}
+use Rattle.ledger.proofs.Demand3.{open-done, history}
+use Rattle.ledger.proofs.LedgerLaws.{is-tabulateℤ, take-accepted, show-accepted}
 use Rattle.ledger.proofs.LedgerRuns.{run-append, run-proper}
 use Rattle.ledger.proofs.Proper.{empty-proper, step-proper}
 use Rattle.starred.specs.Heat.{HeatFrame, HeatExample, firstFrames, sheetHeat, unsettledHeat, heatExamples, told, mixAfter, entryOf, kept}
 use Rattle.starred.specs.Heat.{takes, replies, standing, HeatHolds}
-use Rattle.starred.proofs.Opened.{areSizes, sizes-checked, opened}
+use Rattle.starred.proofs.Sizes.{areSizes, sizes-checked}
 use Rattle.starred.proofs.HeatChecker.{sameℤ, Witness, settledBy, freeBy, sendToZero, isCombination, isMix, isAnswer, answer-taken}
 use Rattle.starred.proofs.HeatChecker.{isShown, record-shown}
-
--- ---- signed numbers that are written (as in board_solve, which this crate does not rest on)
-
-length-tabulateℤ : (k : ℕ) (f : ℕ → ℤ) → length (tabulateℤ k f) ≡ k
-unfolding tabulateℤ
-length-tabulateℤ zero f = refl
-length-tabulateℤ (suc k) f = ap suc (length-tabulateℤ k (λ i. f (suc i)))
-
-is-tabulateℤ : (k : ℕ) (f : ℕ → ℤ) (zs : List ℤ) → length zs ≡ k → ((i : ℕ) → i < k → getD zs i (pos 0) ≡ f i) → zs ≡ tabulateℤ k f
-is-tabulateℤ k f zs long h =
-    ext-getD (pos 0) zs (tabulateℤ k f) (long ∙ sym (length-tabulateℤ k f))
-    (λ i b. h i (rw long at b) ∙ sym (getD-tabulateℤ k f i (rw long at b)))
 
 -- ---- the test
 
@@ -184,10 +171,10 @@ passed-holds h w t =
     let (sizes, taken) = both _ _ t in
     let (ok, size) = sizes-checked (h .modulus) (h .size) sizes in
     record {
-      opens = λ ws long. ap (λ (o : Outcome (List ℕ)). o .told) (opened (h .modulus) (h .size) ok size ws long);
+      opens = λ ws long. ap (λ (o : Outcome (List ℕ)). o .told) (open-done (h .modulus) (h .size) ws ok size long);
       goes = λ ws mixes marks numbers room.
           let cs = takes (h .frames) mixes ++ (Call.show marks numbers ∷ []) in
-          ap (λ (o : Outcome (List ℕ)). boardRun (o .lent) cs) (opened (h .modulus) (h .size) ok size ws (room .ws-long))
+          ap (λ (o : Outcome (List ℕ)). boardRun (o .lent) cs) (open-done (h .modulus) (h .size) ws ok size (room .ws-long))
           ∙ history (h .modulus) (h .size) ok size (ledger []) (empty-proper (h .modulus) (h .size)) cs
           ∙ ap (onBoard (h .modulus) (h .size))
           (frames-and-show (h .modulus) (h .size) ok (w .separating) (w .settling) (h .frames) (h .marks) (h .numbers) taken shown

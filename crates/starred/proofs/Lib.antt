@@ -1,4 +1,4 @@
-pub mod Opened
+pub mod Sizes
 pub mod HeatChecker
 pub mod Heat
 pub mod Starred

@@ -1,6 +1,6 @@
 -- 01's starred examples hold: those of tables by the theorem of their crate, the frame by that of its crate and the sizes that let it
 -- come to read's, those of the board by the test of a heat's frame, on the entries of a fresh board (Heat).
-use mathlib.Core.Path.{_≡_, refl, sym, ap, _∙_, subst}
+use mathlib.Core.Path.{_≡_, refl, ap, _∙_, subst}
 use mathlib.Core.Bool.{Bool, true}
 use mathlib.Core.Logic.{⊎-elim}
 use mathlib.Core.List.{List, [], map, Memᴰ·of-map, List·Memᴰ, List·Memᴰ·append-cases}
@@ -13,18 +13,18 @@ use Rattle.matrix.specs.Examples.{tableExamples}
 use Rattle.matrix.proofs.Checker.{_and_, every, everyBelow, both, every-member}
 use Rattle.matrix.proofs.CheckedTables.{areBelow, areSame, isPrime, same}
 use Rattle.matrix.proofs.Examples.{starred-tables-hold}
-use Rattle.frame.specs.Calls.{readOutcome}
 use Rattle.frame.specs.Examples.{FrameExample, frameExamples}
 use Rattle.frame.specs.Format.{mapLength, stands, mapByte, mapBytes, packed, valueBytes, frameOf}
-use Rattle.frame.proofs.Calls.{read-done}
+use Rattle.frame.proofs.Calls.{sizes-hold, read-as-told}
 use Rattle.frame.proofs.Examples.{starred-frames-read}
 use Rattle.ledger.specs.Calls.{laidOut, takeCall}
 use Rattle.ledger.specs.Ledger.{valueColumn}
 use Rattle.ledger.specs.Steps.{mixWords}
 use Rattle.ledger.proofs.Proper.{empty-proper}
+use Rattle.ledger.proofs.Demand3.{open-done}
 use Rattle.ledger.proofs.WordsCalls.{take-at-layout}
 use Rattle.starred.specs.Starred.{BoardExample, boardExamples, Starred, table, frame, board, starred, BoardHolds, FrameHolds, Holds}
-use Rattle.starred.proofs.Opened.{areSizes, sizes-checked, sizes-hold, opened}
+use Rattle.starred.proofs.Sizes.{areSizes, sizes-checked}
 use Rattle.starred.proofs.HeatChecker.{isCombination, isMix, isAnswer}
 use Rattle.starred.proofs.Heat.{isWritten, isTaken, frame-taken}
 
@@ -37,11 +37,10 @@ frame-sizes = refl
 
 -- so read comes to what reading its bytes finds
 starred-frames-hold : (e : FrameExample) → List·Memᴰ e frameExamples → FrameHolds e
-unfolding readOutcome
 starred-frames-hold e m lent long =
     let (ok, size) = sizes-checked (e .modulus) (e .size) (every-member _ frameExamples frame-sizes e m) in
-    sym (read-done (e .modulus) (e .size) (e .bytes) lent (sizes-hold (e .modulus) (e .size) ok size) long)
-    ∙ ap (readOutcome lent) (starred-frames-read e m)
+    read-as-told (e .modulus) (e .size) (e .bytes) lent (e .multipliers) (e .value) (sizes-hold (e .modulus) (e .size) ok size) long
+    (starred-frames-read e m)
 
 -- ---- the board
 
@@ -55,7 +54,7 @@ passed-holds e t ws mix ws-long long =
     let (sizes, taken) = both _ _ t in
     let (ok, size) = sizes-checked (e .modulus) (e .size) sizes in
     let fresh = empty-proper (e .modulus) (e .size) in
-    ap (λ (o : Outcome (List _)). takeCall (o .lent) (e .taken .bytes) mix) (opened (e .modulus) (e .size) ok size ws ws-long)
+    ap (λ (o : Outcome (List _)). takeCall (o .lent) (e .taken .bytes) mix) (open-done (e .modulus) (e .size) ws ok size ws-long)
     ∙ take-at-layout (e .modulus) (e .size) [] ok size fresh (e .taken .bytes) mix
     ∙ ap (laidOut (e .modulus) (e .size)) (frame-taken (e .modulus) (e .size) ok [] [] fresh (e .taken) taken mix long)
 
