@@ -2,7 +2,7 @@
 -- the missing line, by show. Show is not refused on a board, so that there is no other text.
 use mathlib.Core.Path.{_≡_, refl, sym, ap, _∙_, subst}
 use mathlib.Core.List.{List, _++_}
-use Prim.Native.Nat.{ℕ, suc, _+_}
+use Prim.Native.Nat.{ℕ, _+_}
 use native.Mathlib.Omega.{arith}
 use native.Mathlib.Numerals.{add-one}
 use lib.IntN.{ℤ, pos}
@@ -18,7 +18,7 @@ use Rattle.ledger.specs.Calls.{takeCall, showCall}
 use Rattle.sheet_text.specs.Lines.{frameLine, recordLine, recordLines, missingLine}
 use Rattle.sheet_text.specs.Written.{Printed}
 use Rattle.sheet_text.proofs.Written.{put-line}
-use Rattle.sheet_heat.specs.Sheet.{carried, endingFrom}
+use Rattle.sheet_heat.specs.Sheet.{endingFrom}
 use Rattle.sheet_heat.specs.Calls.{takenLine, FrameWritten, endingOf}
 use Rattle.sheet_heat.proofs.Boards.{take-keeps-board, show-board, show-same}
 
