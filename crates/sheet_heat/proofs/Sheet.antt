@@ -35,7 +35,7 @@ use Rattle.board_calls.proofs.CallOpen.{open-no-sizes}
 use Rattle.sheet_text.specs.Lines.{frameLine, refusedLine}
 use Rattle.sheet_text.specs.Input.{headerCall, frameStart, frameBody}
 use Rattle.sheet_text.proofs.Input.{body-cut, body-whole}
-use Rattle.sheet_heat.specs.Sheet.{cutLine, endingFrom, ledgerEnding, ledgerTakes, linesWithin, heatOf, sheetOf}
+use Rattle.sheet_heat.specs.Sheet.{cutLine, endingFrom, ledgerEnding, cutEnding, ledgerTakes, ledgerLine, linesWithin, heatOf, sheetOf}
 use Rattle.sheet_heat.specs.Calls.{takenLine, endingOf, byInput, framesByCalls, sheetByCalls}
 use Rattle.sheet_heat.proofs.Boards.{open-accepts}
 use Rattle.sheet_heat.proofs.Mixes.{take-same, take-long}
@@ -92,7 +92,11 @@ module _ (p n : ℕ) (ok : IsModulus p) (small : FrameSize n) where
       ap (λ m. endingFrom m (showCall ws (replicate m 0) (replicate m (pos 0)))) (layout-size p n (l .entries))
       ∙ ap (endingFrom n) (show-at-layout p n (l .entries) ok small P (replicate n 0) (replicate n (pos 0)))
 
-  -- a whole frame, from what is written behind it
+  cut-by-calls : (l : Ledger) → Proper p n (l .entries) → cutLine ++ endingOf (boardOf p n l) ≡ cutEnding p ok n l
+  unfolding cutEnding
+  cut-by-calls l P = ap (λ x. cutLine ++ x) (ending-by-calls l P)
+
+  -- a frame whose length came, from what is written behind it
   module _ (k m : ℕ) (l : Ledger) (P : Proper p n (l .entries)) (mix : List ℕ) (long : length mix ≡ n) (high low : ℕ) (rest : List ℕ) where
     abbrev frame : List ℕ
     frame = take (numberFrom 0 (high ∷ low ∷ [])) rest
@@ -106,7 +110,7 @@ module _ (p n : ℕ) (ok : IsModulus p) (small : FrameSize n) where
     whole-by-calls : numberFrom 0 (high ∷ low ∷ []) ≤ length rest
         → framesByCalls k (boardOf p n (after .lent .0)) (after .lent .1) behind ≡ linesWithin p ok n m (after .lent .0) behind
         → framesByCalls (suc k) (boardOf p n l) mix (high ∷ low ∷ rest) ≡ linesWithin p ok n (suc m) l (high ∷ low ∷ rest)
-    unfolding takenLine ledgerTakes
+    unfolding takenLine ledgerTakes ledgerLine
     whole-by-calls h e =
         frames-frame k (boardOf p n l) mix high low rest h
         ∙ ap
@@ -123,7 +127,7 @@ module _ (p n : ℕ) (ok : IsModulus p) (small : FrameSize n) where
     frame-by-calls (yes h) e = whole-by-calls h e
     frame-by-calls (no f) e =
         frames-cut-frame k (boardOf p n l) mix high low rest (omega arith)
-        ∙ ap (λ x. cutLine ++ x) (ending-by-calls l P)
+        ∙ cut-by-calls l P
         ∙ sym (within-cut-frame p ok n m l high low rest (omega arith))
 
   frames-by-calls : (k m : ℕ) (l : Ledger) → Proper p n (l .entries) → (mix : List ℕ) → length mix ≡ n
@@ -135,7 +139,7 @@ module _ (p n : ℕ) (ok : IsModulus p) (small : FrameSize n) where
   frames-by-calls (suc k) m l P mix long [] h g = frames-end (suc k) _ mix ∙ ending-by-calls l P ∙ sym (within-end p ok n m l)
   frames-by-calls (suc k) zero l P mix long (b ∷ bytes) h g = absurd (omega arith)
   frames-by-calls (suc k) (suc m) l P mix long (high ∷ []) h g =
-      frames-cut-length k _ mix high ∙ ap (λ x. cutLine ++ x) (ending-by-calls l P) ∙ sym (within-cut-length p ok n m l high)
+      frames-cut-length k _ mix high ∙ cut-by-calls l P ∙ sym (within-cut-length p ok n m l high)
   frames-by-calls (suc k) (suc m) l P mix long (high ∷ low ∷ rest) h g =
       let size = numberFrom 0 (high ∷ low ∷ []) in
       let frame = take size rest in

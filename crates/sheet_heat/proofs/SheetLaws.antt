@@ -11,18 +11,17 @@ use Rattle.algebra.specs.Choice.{choose}
 use Rattle.checks.specs.Prime.{IsModulus}
 use Rattle.codec.specs.BigEndian.{numberFrom}
 use Rattle.ledger.specs.Ledger.{Ledger}
-use Rattle.sheet_text.specs.Lines.{frameLine}
-use Rattle.sheet_heat.specs.Sheet.{cutLine, ledgerEnding, ledgerTakes, linesWithin, linesFrom}
+use Rattle.sheet_heat.specs.Sheet.{ledgerEnding, cutEnding, ledgerAfter, ledgerLine, linesWithin, linesFrom}
 
 module _ (p : ℕ) (ok : IsModulus p) (n : ℕ) where
   -- the clause of a frame whose length came
   lines-more : (k : ℕ) (l : Ledger) (high low : ℕ) (rest : List ℕ) →
       let size = numberFrom 0 (high ∷ low ∷ []) in
-      let taken = ledgerTakes p ok n l (take size rest) in
+      let frame = take size rest in
       linesWithin p ok n (suc k) l (high ∷ low ∷ rest)
       ≡ choose (ltb (length rest) size)
-      (cutLine ++ ledgerEnding p ok n l)
-      (frameLine (taken .told) (length (taken .lent .0 .entries)) ++ linesWithin p ok n k (taken .lent .0) (drop size rest))
+      (cutEnding p ok n l)
+      (ledgerLine p ok n l frame ++ linesWithin p ok n k (ledgerAfter p ok n l frame) (drop size rest))
   unfolding linesWithin
   lines-more k l high low rest = refl
 
@@ -35,7 +34,7 @@ module _ (p : ℕ) (ok : IsModulus p) (n : ℕ) where
         go zero = refl
         go (suc m) = refl
 
-    pub within-cut-length : (high : ℕ) → linesWithin p ok n (suc k) l (high ∷ []) ≡ cutLine ++ ledgerEnding p ok n l
+    pub within-cut-length : (high : ℕ) → linesWithin p ok n (suc k) l (high ∷ []) ≡ cutEnding p ok n l
     unfolding linesWithin
     within-cut-length high = refl
 
@@ -43,13 +42,13 @@ module _ (p : ℕ) (ok : IsModulus p) (n : ℕ) where
       abbrev size : ℕ
       size = numberFrom 0 (high ∷ low ∷ [])
 
-      pub within-cut-frame : length rest < size → linesWithin p ok n (suc k) l (high ∷ low ∷ rest) ≡ cutLine ++ ledgerEnding p ok n l
+      pub within-cut-frame : length rest < size → linesWithin p ok n (suc k) l (high ∷ low ∷ rest) ≡ cutEnding p ok n l
       within-cut-frame h = rw (lines-more k l high low rest, lt-ltb (length rest) size h)
 
       pub within-frame : size ≤ length rest →
-          let taken = ledgerTakes p ok n l (take size rest) in
+          let frame = take size rest in
           linesWithin p ok n (suc k) l (high ∷ low ∷ rest)
-          ≡ frameLine (taken .told) (length (taken .lent .0 .entries)) ++ linesWithin p ok n k (taken .lent .0) (drop size rest)
+          ≡ ledgerLine p ok n l frame ++ linesWithin p ok n k (ledgerAfter p ok n l frame) (drop size rest)
       within-frame h = rw (lines-more k l high low rest, le-ltb (length rest) size h)
 
   -- a bound that the bytes do not exceed makes no difference
@@ -62,7 +61,7 @@ module _ (p : ℕ) (ok : IsModulus p) (n : ℕ) where
   lines-within (suc k) (suc m) l (high ∷ []) h g = within-cut-length k l high ∙ sym (within-cut-length m l high)
   lines-within (suc k) (suc m) l (high ∷ low ∷ rest) h g =
       let size = numberFrom 0 (high ∷ low ∷ []) in
-      let after : Ledger = ledgerTakes p ok n l (take size rest) .lent .0 in
+      let after = ledgerAfter p ok n l (take size rest) in
       rw (
         lines-more k l high low rest,
         lines-more m l high low rest,
@@ -73,22 +72,21 @@ module _ (p : ℕ) (ok : IsModulus p) (n : ℕ) where
     pub lines-end : linesFrom p ok n l [] ≡ ledgerEnding p ok n l
     lines-end = within-end 0 l
 
-    pub lines-cut-length : (high : ℕ) → linesFrom p ok n l (high ∷ []) ≡ cutLine ++ ledgerEnding p ok n l
+    pub lines-cut-length : (high : ℕ) → linesFrom p ok n l (high ∷ []) ≡ cutEnding p ok n l
     lines-cut-length high = within-cut-length 0 l high
 
     module _ (high low : ℕ) (rest : List ℕ) where
-      pub lines-cut-frame : length rest < numberFrom 0 (high ∷ low ∷ []) → linesFrom p ok n l (high ∷ low ∷ rest) ≡ cutLine ++ ledgerEnding p ok n l
+      pub lines-cut-frame : length rest < numberFrom 0 (high ∷ low ∷ []) → linesFrom p ok n l (high ∷ low ∷ rest) ≡ cutEnding p ok n l
       lines-cut-frame h = within-cut-frame (suc (length rest)) l high low rest h
 
       pub lines-frame : numberFrom 0 (high ∷ low ∷ []) ≤ length rest →
           let size = numberFrom 0 (high ∷ low ∷ []) in
-          let taken = ledgerTakes p ok n l (take size rest) in
+          let frame = take size rest in
           linesFrom p ok n l (high ∷ low ∷ rest)
-          ≡ frameLine (taken .told) (length (taken .lent .0 .entries)) ++ linesFrom p ok n (taken .lent .0) (drop size rest)
+          ≡ ledgerLine p ok n l frame ++ linesFrom p ok n (ledgerAfter p ok n l frame) (drop size rest)
       lines-frame h =
           let size = numberFrom 0 (high ∷ low ∷ []) in
-          let taken = ledgerTakes p ok n l (take size rest) in
+          let after = ledgerAfter p ok n l (take size rest) in
           within-frame (suc (length rest)) l high low rest h
-          ∙ ap (λ x. frameLine (taken .told) (length (taken .lent .0 .entries)) ++ x)
-          (lines-within (suc (length rest)) (length (drop size rest)) (taken .lent .0) (drop size rest)
-          (omega (arith, length-drop size rest)) (omega arith))
+          ∙ ap (λ x. ledgerLine p ok n l (take size rest) ++ x)
+          (lines-within (suc (length rest)) (length (drop size rest)) after (drop size rest) (omega (arith, length-drop size rest)) (omega arith))

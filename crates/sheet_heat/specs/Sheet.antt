@@ -18,7 +18,7 @@ use Rattle.ledger.specs.Ledger.{Ledger, ledger}
 use Rattle.ledger.specs.Steps.{ledgerTake, ledgerShow}
 use Rattle.sheet_text.specs.Lines.{frameLine, refusedLine, recordLines, missingLine}
 
--- a cut header, and a last frame "cut in its length or its bytes", are the line `refused 6`
+-- the line of a cut header, and of a cut frame
 abbrev pub cutLine : List ℕ
 cutLine = refusedLine 6
 
@@ -35,23 +35,33 @@ module _ (p : ℕ) (ok : IsModulus p) (n : ℕ) where
   unfoldable pub ledgerEnding : Ledger → List ℕ
   ledgerEnding l = endingFrom n (ledgerShow p ok n l (replicate n 0) (replicate n (pos 0)))
 
+  -- "a last frame cut in its length or its bytes is one `refused 6` line, then the records and the missing line"
+  unfoldable pub cutEnding : Ledger → List ℕ
+  cutEnding l = cutLine ++ ledgerEnding l
+
   -- a frame that the ledger takes, with any mix of n words
   unfoldable pub ledgerTakes : Ledger → List ℕ → Outcome (Ledger × List ℕ)
   ledgerTakes l frame = ledgerTake p ok n l frame (replicate n 0)
 
-  -- what is printed for the bytes behind the header, from a ledger on, of so many frames at most: for each frame its line, "K the
-  -- count afterwards", where no byte is left the ending, and where a frame is cut `refused 6`, "then the records and the missing line"
+  abbrev pub ledgerAfter : Ledger → List ℕ → Ledger
+  ledgerAfter l frame = ledgerTakes l frame .lent .0
+
+  -- its line: what take tells, "K the count afterwards"
+  unfoldable pub ledgerLine : Ledger → List ℕ → List ℕ
+  ledgerLine l frame = frameLine (ledgerTakes l frame .told) (length (ledgerAfter l frame .entries))
+
+  -- what is printed for the bytes behind the header, from a ledger on, of so many frames at most: the line of each frame, and the ending
+  -- where no byte is left or a frame is cut
   unfoldable pub linesWithin : ℕ → Ledger → List ℕ → List ℕ
   linesWithin zero l bytes = ledgerEnding l
   linesWithin (suc k) l [] = ledgerEnding l
-  linesWithin (suc k) l (high ∷ []) = cutLine ++ ledgerEnding l
+  linesWithin (suc k) l (high ∷ []) = cutEnding l
   linesWithin (suc k) l (high ∷ low ∷ rest) =
       let size = numberFrom 0 (high ∷ low ∷ []) in
-      let taken = ledgerTakes l (take size rest) in
-      let after : Ledger = taken .lent .0 in
+      let frame = take size rest in
       choose (ltb (length rest) size)
-      (cutLine ++ ledgerEnding l)
-      (frameLine (taken .told) (length (after .entries)) ++ linesWithin k after (drop size rest))
+      (cutEnding l)
+      (ledgerLine l frame ++ linesWithin k (ledgerAfter l frame) (drop size rest))
 
   -- every frame has two bytes at least, so that there are fewer frames than bytes
   abbrev pub linesFrom : Ledger → List ℕ → List ℕ
