@@ -1,40 +1,33 @@
-// The frames of the input, taken one by one, each with its line.
+// The frames of the input, taken one by one, each with its line. The board stays one.
 ghost use mathlib.Core.Path.{_≡_};
 ghost use Prim.Native.Nat.{_≤_};
 ghost use lib.ListN.{length};
-ghost use Rattle.ledger.specs.Board.{headerLength};
+ghost use Rattle.ledger.specs.Board.{IsBoard};
 ghost use Rattle.checks.specs.Largest.{largest};
 use super::lent;
 use super::lines;
-use board_words::layout;
 use checks::Refusal;
 use libc::STDIN_FILENO;
 use sheet_text::FrameInput;
 
-// A whole frame: the board takes it, and its count word is the count afterwards.
-fn take(board: &mut [u32], frame: &[u8], mix: &mut [u32])
-    requires { ⌜ headerLength ≤ length (now board) ⌝ }
-{
-    let answer = board_calls::take(board, frame, mix);
-    lines::answer(answer, board[layout::COUNT]);
-}
-
 // Reads a frame's bytes into the lent ones, which are as many as its length says, and takes it. Answers whether it was whole.
 fn take_body(board: &mut [u32], frame: &mut [u8], mix: &mut [u32]) -> bool
-    requires { ⌜ headerLength ≤ length (now board) ⌝ }
+    requires { ⌜ IsBoard (now board) ⌝ }
+    ensures { λ _. ⌜ IsBoard (now (board .exit)) ⌝ }
 {
     let came = io::read_full(STDIN_FILENO, frame);
     let FrameInput::Frame(_) = sheet_text::frame_body(frame.len(), came) else {
         lines::refused(Refusal::FrameLength);
         return false;
     };
-    take(board, frame, mix);
+    lines::frame(board, frame, mix);
     true
 }
 
 // Reads and takes the next frame. Answers whether there was one, and whole.
 fn take_next(board: &mut [u32], bytes: &mut [u8], mix: &mut [u32]) -> bool
-    requires { ⌜ (headerLength ≤ length (now board)) × (65536 ≡ length (now bytes)) ⌝ }
+    requires { ⌜ IsBoard (now board) × (65536 ≡ length (now bytes)) ⌝ }
+    ensures { λ _. ⌜ IsBoard (now (board .exit)) ⌝ }
 {
     let mut pair = lent::frame_length();
     let came = io::read_full(STDIN_FILENO, &mut pair);
@@ -51,7 +44,8 @@ fn take_next(board: &mut [u32], bytes: &mut [u8], mix: &mut [u32]) -> bool
 // Takes the frames one after the other. A proved loop has to end, and nothing says that the input does, so it counts down, from
 // a number of frames that no line sends: at a thousand million frames a second that takes five hundred years.
 fn take_each(board: &mut [u32], bytes: &mut [u8], mix: &mut [u32])
-    requires { ⌜ (headerLength ≤ length (now board)) × (65536 ≡ length (now bytes)) ⌝ }
+    requires { ⌜ IsBoard (now board) × (65536 ≡ length (now bytes)) ⌝ }
+    ensures { λ _. ⌜ IsBoard (now (board .exit)) ⌝ }
 {
     let mut left = u64::MAX;
     while 0 < left && take_next(board, bytes, mix) {
@@ -61,7 +55,8 @@ fn take_each(board: &mut [u32], bytes: &mut [u8], mix: &mut [u32])
 
 // All frames, onto the board of n records. A length has two bytes, so that every frame has room.
 pub fn take_all(n: usize, board: &mut [u32])
-    requires { ⌜ (n ≤ largest) × (headerLength ≤ length (now board)) ⌝ }
+    requires { ⌜ (n ≤ largest) × IsBoard (now board) ⌝ }
+    ensures { λ _. ⌜ IsBoard (now (board .exit)) ⌝ }
 {
     let mut bytes = io::large_buffer();
     let mut mix = lent::words();

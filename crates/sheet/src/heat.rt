@@ -7,7 +7,6 @@ ghost use Rattle.ledger.specs.Board.{headerLength, boardLength, largestBoard};
 use super::frames;
 use super::lent;
 use super::lines;
-use super::records;
 use board_calls::OpenAnswer;
 use board_words::layout;
 
@@ -28,7 +27,7 @@ fn open_in(p: u32, n: u32, board: &mut [u32])
     match board_calls::open(p, n, board) {
         OpenAnswer::Opened => {
             frames::take_all(n as usize, board);
-            records::show(n as usize, board);
+            lines::ending(board);
         }
         OpenAnswer::Refused(kind) => lines::refused(kind),
     }

@@ -27,15 +27,8 @@ pub fn board() -> [u32; LARGEST_BOARD]
     [0; LARGEST_BOARD]
 }
 
-// A word for each of 64 records: the mix, the marks.
+// A word for each of 64 records: the mix.
 pub fn words() -> [u32; ROW]
-    ensures { λ r. ⌜ longestRow ≡ length r ⌝ }
-{
-    [0; ROW]
-}
-
-// A signed number for each of 64 records.
-pub fn numbers() -> [i32; ROW]
     ensures { λ r. ⌜ longestRow ≡ length r ⌝ }
 {
     [0; ROW]
@@ -46,4 +39,11 @@ pub fn line() -> [u8; 32]
     ensures { λ r. ⌜ 32 ≡ length r ⌝ }
 {
     [0; 32]
+}
+
+// The lines of 64 records and the missing line.
+pub fn text() -> [u8; 1024]
+    ensures { λ r. ⌜ 1024 ≡ length r ⌝ }
+{
+    [0; 1024]
 }

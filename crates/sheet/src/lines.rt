@@ -1,22 +1,25 @@
-// The lines that sheet_text makes, written to standard output.
+// The lines that sheet_text and sheet_heat make, written to standard output.
 ghost use Prim.Native.Nat.{_≤_};
 ghost use lib.ListN.{length};
+ghost use Rattle.ledger.specs.Board.{IsBoard};
 use super::lent;
-use board_calls::TakeAnswer;
 use checks::Refusal;
 use libc::STDOUT_FILENO;
 
-// Writes the line at the front of the buffer.
+// Writes the text at the front of the buffer.
 fn write(buffer: &[u8], size: usize)
     requires { ⌜ size ≤ length (now buffer) ⌝ }
 {
     io::write_all(STDOUT_FILENO, &buffer[..size]);
 }
 
-// The line of a frame.
-pub fn answer(answer: TakeAnswer, count: u32) {
+// Takes a frame and writes its line.
+pub fn frame(board: &mut [u32], frame: &[u8], mix: &mut [u32])
+    requires { ⌜ IsBoard (now board) ⌝ }
+    ensures { λ _. ⌜ IsBoard (now (board .exit)) ⌝ }
+{
     let mut line = lent::line();
-    let size = sheet_text::answer_line(answer, count, &mut line);
+    let size = sheet_heat::frame_line(board, frame, mix, &mut line);
     write(&line, size);
 }
 
@@ -27,16 +30,11 @@ pub fn refused(kind: Refusal) {
     write(&line, size);
 }
 
-// The line of a record.
-pub fn record(position: u32, mark: u32, number: i32) {
-    let mut line = lent::line();
-    let size = sheet_text::record_line(position, mark, number, &mut line);
-    write(&line, size);
-}
-
-// The last line.
-pub fn missing(missing: u32) {
-    let mut line = lent::line();
-    let size = sheet_text::missing_line(missing, &mut line);
-    write(&line, size);
+// The records and the missing line.
+pub fn ending(board: &[u32])
+    requires { ⌜ IsBoard (now board) ⌝ }
+{
+    let mut text = lent::text();
+    let size = sheet_heat::ending(board, &mut text);
+    write(&text, size);
 }

@@ -1,11 +1,11 @@
 // The sheet: document 01's program. It reads p, n and frames from standard input and prints a line for each frame as soon as the
-// frame has come, then the records and how many frames are missing. The lines, and what is a cut header or frame, are those of
-// sheet_text; the answers are those of board_calls. This crate reads, lends memory and writes.
+// frame has come, then the records and how many frames are missing. What is a cut header or frame is sheet_text's, what is written
+// of a frame and at the end sheet_heat's. This crate reads, lends memory and writes, and chooses nothing else: what such a program
+// writes is `sheetByCalls` of sheet_heat, which is 01's sheet.
 mod frames;
 mod heat;
 mod lent;
 mod lines;
-mod records;
 
 use checks::Refusal;
 use libc::STDIN_FILENO;

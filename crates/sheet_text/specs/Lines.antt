@@ -1,9 +1,9 @@
 -- 01, "The sheet program and the C side": what the sheet prints. The fixed words, and the lines made of them and of decimal
 -- numbers, each as its list of ASCII bytes.
 use mathlib.Core.List.{List, [], _∷_, _++_}
-use Prim.Native.Nat.{ℕ}
+use Prim.Native.Nat.{ℕ, zero, suc}
 use lib.Dec.{eqb}
-use lib.IntN.{ℤ, pos, natAbs}
+use lib.IntN.{ℤ, pos}
 use lib.ListN.{getD}
 use Rattle.algebra.specs.Choice.{choose}
 use Rattle.checks.specs.Told.{Told}
@@ -65,16 +65,12 @@ refusedLine n = wordLine refusedWord n
 abbrev pub missingLine : ℕ → List ℕ
 missingLine m = wordLine missingWord m
 
--- the count that an answer carries
-abbrev pub carried : Told → ℕ
-carried t = natAbs (getD (t .values) 0 (pos 0))
-
--- the line for what take tells of a frame: 0 is new and 100 is repeat, each with the count that it carries; 9 is conflict, with
--- the count afterwards, which the refusal leaves out; any other number is refused with that number
-unfoldable pub answerLine : Told → ℕ → List ℕ
-answerLine t count =
-    choose (eqb (t .number) 0) (newLine (carried t))
-    (choose (eqb (t .number) 100) (repeatLine (carried t))
+-- "Per frame one line: `new K`, `repeat K`, `conflict K` (refusal 9) or `refused N`, K the count afterwards, N the number": by what
+-- take tells, which is 0 for new and 100 for repeat, and the count afterwards
+unfoldable pub frameLine : Told → ℕ → List ℕ
+frameLine t count =
+    choose (eqb (t .number) 0) (newLine count)
+    (choose (eqb (t .number) 100) (repeatLine count)
     (choose (eqb (t .number) 9) (conflictLine count)
     (refusedLine (t .number))))
 
@@ -85,3 +81,8 @@ recordText mark z = choose (eqb mark 1) (signedDecimal z) unknownWord
 -- the line of record j: its position, a space, and its signed number or `unknown`
 unfoldable pub recordLine : ℕ → ℕ → ℤ → List ℕ
 recordLine j mark z = decimal j ++ space ++ recordText mark z ++ lineFeed
+
+-- the lines of the first k records, from their marks and numbers
+unfoldable pub recordLines : ℕ → List ℕ → List ℤ → List ℕ
+recordLines zero marks numbers = []
+recordLines (suc k) marks numbers = recordLines k marks numbers ++ recordLine k (getD marks k 0) (getD numbers k (pos 0))

@@ -1,12 +1,13 @@
 // The lines of the sheet, written into a lent buffer, and the header and frame lengths that the sheet reads.
 ghost use mathlib.Core.Path.{_≡_};
-ghost use Prim.Native.Nat.{_+_, _≤_};
+ghost use Prim.Native.Nat.{_+_, _≤_, _<_};
 ghost use lib.ListN.{length};
+ghost use Rattle.checks.specs.Largest.{largest};
 ghost use Rattle.checks.specs.Refusal.{refusalNumber};
 ghost use Rattle.checks.specs.Told.{refused};
 ghost use Rattle.codec.specs.Placed.{Put};
 ghost use Rattle.board_solve.specs.Told.{takeTold};
-ghost use Rattle.sheet_text.specs.Lines.{wordLine, refusedLine, missingLine, answerLine, recordText, recordLine};
+ghost use Rattle.sheet_text.specs.Lines.{wordLine, refusedLine, missingLine, frameLine, recordText, recordLine};
 ghost use Rattle.sheet_text.specs.Written.{Printed};
 ghost use Rattle.sheet_text.specs.Input.{headerTold, headerCall, frameTold, frameStart, frameBody, lengthIn};
 use board_calls::TakeAnswer;
@@ -36,65 +37,66 @@ fn put_record(out: &mut [u8], at: usize, mark: u32, number: i32) -> usize
     codec::put_bytes(out, at, b"unknown")
 }
 
-// The line of a word and a number, at the front of the buffer.
-fn word_line(word: &[u8], n: u32, out: &mut [u8]) -> usize
-    requires { ⌜ (length (now word) ≤ 16) × (32 ≤ length (now out)) ⌝ }
-    ensures { λ r. ⌜ Printed (wordLine (now (word .entry)) n) (now (out .entry)) (now (out .exit)) r ⌝ }
+// The line of a word and a number, from `at` on.
+fn word_line(out: &mut [u8], at: usize, word: &[u8], n: u32) -> usize
+    requires { ⌜ (length (now word) ≤ 16) × (at + 32 ≤ length (now out)) ⌝ }
+    ensures { λ r. ⌜ Put at (wordLine (now (word .entry)) n) (now (out .entry)) (now (out .exit)) r ⌝ }
 {
-    let number = codec::put_bytes(out, 0, word);
+    let number = codec::put_bytes(out, at, word);
     let end = codec::put_decimal(out, number, n);
     codec::put_bytes(out, end, b"\n")
 }
 
-// The line of a frame that take refused, with the count that it left.
+// The line of a frame that take refused, with the count that it left, at the front of the buffer.
 fn refusal_line(kind: Refusal, count: u32, out: &mut [u8]) -> usize
     requires { ⌜ 32 ≤ length (now out) ⌝ }
-    ensures { λ r. ⌜ Printed (answerLine (refused kind) count) (now (out .entry)) (now (out .exit)) r ⌝ }
+    ensures { λ r. ⌜ Printed (frameLine (refused kind) count) (now (out .entry)) (now (out .exit)) r ⌝ }
 {
     let number = checks::number_of(kind);
     if number == 9 {
-        return word_line(b"conflict ", count, out);
+        return word_line(out, 0, b"conflict ", count);
     }
-    word_line(b"refused ", number, out)
+    word_line(out, 0, b"refused ", number)
 }
 
-// The line of a frame, from take's answer and the count afterwards.
+// The line of a frame, from take's answer and the count afterwards, at the front of the buffer.
 pub fn answer_line(answer: TakeAnswer, count: u32, out: &mut [u8]) -> usize
     requires { ⌜ 32 ≤ length (now out) ⌝ }
-    ensures { λ r. ⌜ Printed (answerLine (takeTold answer) count) (now (out .entry)) (now (out .exit)) r ⌝ }
+    ensures { λ r. ⌜ Printed (frameLine (takeTold answer) count) (now (out .entry)) (now (out .exit)) r ⌝ }
 {
     match answer {
-        TakeAnswer::New(k) => word_line(b"new ", k, out),
-        TakeAnswer::Repeat(k) => word_line(b"repeat ", k, out),
+        TakeAnswer::New(_) => word_line(out, 0, b"new ", count),
+        TakeAnswer::Repeat(_) => word_line(out, 0, b"repeat ", count),
         TakeAnswer::Refused(kind) => refusal_line(kind, count, out),
     }
 }
 
-// The line of a refusal: of a cut header, a refused open, a frame that was cut.
+// The line of a refusal, at the front of the buffer: of a cut header, a refused open, a frame that was cut.
 pub fn refused_line(kind: Refusal, out: &mut [u8]) -> usize
     requires { ⌜ 32 ≤ length (now out) ⌝ }
     ensures { λ r. ⌜ Printed (refusedLine (refusalNumber kind)) (now (out .entry)) (now (out .exit)) r ⌝ }
 {
-    word_line(b"refused ", checks::number_of(kind), out)
+    word_line(out, 0, b"refused ", checks::number_of(kind))
 }
 
-// The line of a record, from show's mark and number.
-pub fn record_line(position: u32, mark: u32, number: i32, out: &mut [u8]) -> usize
-    requires { ⌜ 32 ≤ length (now out) ⌝ }
-    ensures { λ r. ⌜ Printed (recordLine position mark number) (now (out .entry)) (now (out .exit)) r ⌝ }
+// The line of a record, from show's mark and number, from `at` on: two digits, a space, eleven bytes and the line's end at most.
+pub fn record_line(out: &mut [u8], at: usize, position: u32, mark: u32, number: i32) -> usize
+    requires { ⌜ (position < largest) × (at + 32 ≤ length (now out)) ⌝ }
+    ensures { λ r. ⌜ Put at (recordLine position mark number) (now (out .entry)) (now (out .exit)) r ⌝ }
+    ensures { λ r. ⌜ r ≤ at + 15 ⌝ }
 {
-    let gap = codec::put_decimal(out, 0, position);
+    let gap = codec::put_decimal(out, at, position);
     let text = codec::put_bytes(out, gap, b" ");
     let end = put_record(out, text, mark, number);
     codec::put_bytes(out, end, b"\n")
 }
 
-// The last line, from show's answer.
-pub fn missing_line(missing: u32, out: &mut [u8]) -> usize
-    requires { ⌜ 32 ≤ length (now out) ⌝ }
-    ensures { λ r. ⌜ Printed (missingLine missing) (now (out .entry)) (now (out .exit)) r ⌝ }
+// The last line, from show's answer, from `at` on.
+pub fn missing_line(out: &mut [u8], at: usize, missing: u32) -> usize
+    requires { ⌜ at + 32 ≤ length (now out) ⌝ }
+    ensures { λ r. ⌜ Put at (missingLine missing) (now (out .entry)) (now (out .exit)) r ⌝ }
 {
-    word_line(b"missing ", missing, out)
+    word_line(out, at, b"missing ", missing)
 }
 
 // The header in the first bytes of the input: p in four bytes, most significant first, then n in one.

@@ -1,7 +1,7 @@
 -- `sheet_text::record_line` meets its contract: the position, the space, the number or the word, and the line feed, one behind the
 -- other, make the line.
 use borrow.Author.Needs.{needs}
-use Prim.Native.Nat.{_≤_}
+use Prim.Native.Nat.{_+_, _≤_}
 use native.Mathlib.Omega.{arith}
 use lib.ListN.{length}
 use mir.Syntax.{w32}
@@ -10,24 +10,29 @@ use Rattle.codec.proofs.Decimals.{digits-at-most}
 use Rattle.codec.proofs.Placed.{put-then}
 use Rattle.sheet_text.specs.Lines.{recordLine, space, lineFeed}
 use Rattle.sheet_text.proofs.Records.{record-at-most}
-use Rattle.sheet_text.proofs.Written.{put-line}
 use Rattle.sheet_text.proofs.record_line.Statement.{statement}
 use Rattle.sheet_text.proofs.record_line.Tie as tie
 
 -- how far the line has come behind the position, behind the space and behind the record, in a buffer that keeps its length
-behind-position : (c : tie.After-put-decimal) → (c .put-decimal .result ≤ 10) × (32 ≤ length (c .put-decimal .last .0))
+behind-position : (c : tie.After-put-decimal) →
+    let at = c .before .before .before .args .at in
+    (c .put-decimal .result ≤ at + 2) × (at + 32 ≤ length (c .put-decimal .last .0))
 behind-position c =
     let s = c .before .before .before in
     let d = c .put-decimal in
-    omega (arith, d .ensures .end, d .kept .0, digits-at-most (s .args .position) 9 (omega arith))
+    omega (arith, d .ensures .end, d .kept .0, digits-at-most (s .args .position) 1 (omega arith))
 
-behind-space : (c : tie.After-put-bytes) → (c .put-bytes .result ≤ 11) × (32 ≤ length (c .put-bytes .last .0))
+behind-space : (c : tie.After-put-bytes) →
+    let at = c .before .before .before .before .before .before .before .before .args .at in
+    (c .put-bytes .result ≤ at + 3) × (at + 32 ≤ length (c .put-bytes .last .0))
 behind-space c =
     let p = behind-position (c .before .before .before .before .before) in
     let w = c .put-bytes in
     omega (arith, w .ensures .end, w .kept .0)
 
-behind-record : (c : tie.After-put-record) → (c .put-record .result ≤ 22) × (32 ≤ length (c .put-record .last .0))
+behind-record : (c : tie.After-put-record) →
+    let at = c .before .before .before .before .before .before .before .before .before .before .before .before .args .at in
+    (c .put-record .result ≤ at + 14) × (at + 32 ≤ length (c .put-record .last .0))
 behind-record c =
     let s = c .before .before .before .before .before .before .before .before .before .before .before .before in
     let p = behind-space (c .before .before .before .before) in
@@ -36,7 +41,7 @@ behind-record c =
     omega (arith, rw (toZ-ofZ w32 (s .args .number) (s .fits .number)) at (r .ensures .end), r .kept .0)
 
 put-decimal-requires : tie.Need-put-decimal-requires
-put-decimal-requires c κs = omega (arith, digits-at-most (c .before .before .args .position) 9 (omega arith))
+put-decimal-requires c κs = omega (arith, digits-at-most (c .before .before .args .position) 1 (omega arith))
 
 slice-aggregate-put-bytes : tie.Need-slice-aggregate-put-bytes
 slice-aggregate-put-bytes c = search needs
@@ -64,10 +69,11 @@ returns c =
     let at-space = at-record .before .before .before .before in
     let at-position = at-space .before .before .before .before .before in
     let s = at-position .before .before .before in
-    let inside : 0 ≤ length (s .args .out .now) = omega arith in
+    let inside : s .args .at ≤ length (s .args .out .now) = omega arith in
     let text = rw (toZ-ofZ w32 (s .args .number) (s .fits .number)) at (at-record .put-record .ensures) in
     let spaced = put-then inside (at-position .put-decimal .ensures) (at-space .put-bytes .ensures) in
-    put-line (put-then inside (put-then inside spaced text) (at-end .put-bytes2 .ensures))
+    let written = at-end .put-bytes2 .ensures in
+    (put-then inside (put-then inside spaced text) written, omega (arith, behind-record at-record, written .end))
 
 pub record-line-spec : {M : Type 1} → statement M
 record-line-spec =

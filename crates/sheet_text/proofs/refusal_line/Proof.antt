@@ -3,6 +3,7 @@ use borrow.Author.Needs.{needs}
 use mathlib.Core.Path.{sym, _∙_}
 use Rattle.sheet_text.specs.Lines.{conflictWord, refusedWord}
 use Rattle.sheet_text.proofs.Answers.{conflict-answer, refused-answer}
+use Rattle.sheet_text.proofs.Written.{put-line}
 use Rattle.sheet_text.proofs.refusal_line.Statement.{statement}
 use Rattle.sheet_text.proofs.refusal_line.Tie as tie
 
@@ -23,7 +24,7 @@ unfolding conflictWord
 returns c =
     let a = c .before .before .before .before .before .before .before .before .args in
     let nine = sym (c .before .before .before .before .before .before .number-of .ensures) ∙ c .before .before .before .before .before .if1 .taken in
-    rw (conflict-answer (a .kind) (a .count) nine) (c .before .before .word-line .ensures)
+    rw (conflict-answer (a .kind) (a .count) nine) (put-line (c .before .before .word-line .ensures))
 
 slice-aggregate-word-line-2 : tie.Need-slice-aggregate-word-line-2
 slice-aggregate-word-line-2 c = search needs
@@ -40,7 +41,7 @@ returns-2 c =
     let a = c .before .before .before .before .before .before .before .before .args in
     let number = c .before .before .before .before .before .before .number-of .ensures in
     rw (refused-answer (a .kind) (a .count) (λ e. c .before .before .before .before .before .if1 .left (number ∙ e)))
-    (rw number at (c .before .before .word-line2 .ensures))
+    (put-line (rw number at (c .before .before .word-line2 .ensures)))
 
 pub refusal-line-spec : {M : Type 1} → statement M
 refusal-line-spec =

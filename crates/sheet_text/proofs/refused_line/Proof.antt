@@ -1,6 +1,7 @@
 -- `sheet_text::refused_line` meets its contract: its word is the one written, with the number of the kind.
 use borrow.Author.Needs.{needs}
 use Rattle.sheet_text.specs.Lines.{refusedWord}
+use Rattle.sheet_text.proofs.Written.{put-line}
 use Rattle.sheet_text.proofs.refused_line.Statement.{statement}
 use Rattle.sheet_text.proofs.refused_line.Tie as tie
 
@@ -18,7 +19,7 @@ same-length c = search needs
 
 returns : tie.Need-returns
 unfolding refusedWord
-returns c = rw (c .before .before .before .before .number-of .ensures) at (c .before .before .word-line .ensures)
+returns c = put-line (rw (c .before .before .before .number-of .ensures) at (c .before .before .word-line .ensures))
 
 pub refused-line-spec : {M : Type 1} → statement M
 refused-line-spec =

@@ -1,7 +1,7 @@
--- `sheet::heat::open_in` is safe: where open is accepted there are at most 64 records.
+-- `sheet::heat::open_in` is safe: where open is accepted there are at most 64 records, and the words are a board.
 use Prim.Native.Nat.{_≤_}
 use borrow.Author.Needs.{needs}
-use Rattle.sheet.proofs.Opened.{opened-size}
+use Rattle.sheet.proofs.Opened.{opened-size, opened-board}
 use Rattle.sheet.proofs.heat.open_in.Statement.{statement}
 use Rattle.sheet.proofs.heat.open_in.Tie as tie
 
@@ -16,10 +16,12 @@ enum-told : tie.Need-enum-told
 enum-told c = search needs
 
 take-all-requires : tie.Need-take-all-requires
-take-all-requires c κs = (size (c .before), search needs)
+take-all-requires c κs =
+    let told = c .before in
+    (size told, opened-board _ _ _ _ _ (told .enum-told .given .1) (told .before .before .before .before .«open» .ensures))
 
-show-requires : tie.Need-show-requires
-show-requires c κs = size (c .before .before .before .before .before)
+ending-requires : tie.Need-ending-requires
+ending-requires c κs = c .before .before .before .take-all .ensures
 
 enum-known-kind : tie.Need-enum-known-kind
 enum-known-kind c = search needs
@@ -42,5 +44,5 @@ returns-2 c = search needs
 pub open-in-spec : {M : Type 1} → statement M
 open-in-spec =
     tie.close
-    (tie.spec open-requires enum-told take-all-requires show-requires enum-known-kind refused-requires same-length returns
+    (tie.spec open-requires enum-told take-all-requires ending-requires enum-known-kind refused-requires same-length returns
     same-length-2 returns-2)
