@@ -7,7 +7,7 @@ use mathlib.Core.List.{List, [], _∷_, _++_, append-nil, append-assoc, Memᴰ·
 use Prim.Native.Nat.{ℕ, suc, _-_, _<_}
 use lib.Dec.{eqb, ltb}
 use lib.IntN.{ℤ, pos}
-use lib.ListN.{length, getD}
+use lib.ListN.{length, getD, replicate, length-replicate}
 use borrow.Author.Tests.{eqb-true, ltb-true}
 use Rattle.checks.specs.Outcome.{Outcome, outcome}
 use Rattle.checks.specs.Prime.{IsModulus}
@@ -49,16 +49,16 @@ module _ (p n : ℕ) where
       and ltb (f .value) p
       and areSame (frameOf n (f .multipliers) (f .value ∷ [])) (f .bytes)
 
-  -- the frame is answer-taken so where the entries es stand; a vector in xs separates a new one from them
+  -- the frame is answered so where the entries es stand; a vector in xs separates a new one from them
   unfoldable pub isTaken : List (List ℕ) → List Entry → HeatFrame → Bool
   isTaken xs es f = isWritten f and isAnswer p n es (f .multipliers) (f .value) (getD xs (length es) []) (f .answer)
 
-  unfoldable areTaken : List (List ℕ) → List Entry → List HeatFrame → Bool
+  unfoldable pub areTaken : List (List ℕ) → List Entry → List HeatFrame → Bool
   areTaken xs es [] = true
   areTaken xs es (f ∷ fs) = isTaken xs es f and areTaken xs (es ++ kept (f .answer) (entryOf f)) fs
 
   -- show gives these marks and numbers
-  unfoldable areShown : List Witness → List Entry → (marks : List ℕ) (numbers : List ℤ) → Bool
+  unfoldable pub areShown : List Witness → List Entry → (marks : List ℕ) (numbers : List ℤ) → Bool
   areShown ws es marks numbers =
       eqb (length marks) n
       and eqb (length numbers) n
@@ -69,7 +69,7 @@ pub record Witnesses : Type 0 where
   pub separating : List (List ℕ)
   pub settling : List Witness
 
-unfoldable passes : HeatExample → Witnesses → Bool
+unfoldable pub passes : HeatExample → Witnesses → Bool
 passes h w =
     areSizes (h .modulus) (h .size)
     and areTaken (h .modulus) (h .size) (w .separating) [] (h .frames)
@@ -126,9 +126,17 @@ module _ (p n : ℕ) (ok : IsModulus p) where
       (frames-taken xs (es ++ kept (f .answer) (entryOf f)) stays fs others lent (λ i. long (suc i)))
       ∙ ap (λ ds. after (ledger ds) (replies (f ∷ fs) mixes)) (append-assoc es (kept (f .answer) (entryOf f)) (standing fs))
 
+  -- the entries that then stand are proper
+  pub frames-proper : (xs : List (List ℕ)) (fs : List HeatFrame) → areTaken p n xs [] fs ≡ true → Proper p n (standing fs)
+  frames-proper xs fs taken =
+      let lent : ℕ → List ℕ = λ _. replicate n 0 in
+      subst (λ (a : After Ledger). Proper p n (a .state .entries))
+      (frames-taken xs [] (empty-proper p n) fs taken lent (λ _. length-replicate n 0))
+      (run-proper p ok n (ledger []) (empty-proper p n) (takes fs lent))
+
   -- ---- what passes is shown
 
-  records-shown : (ws : List Witness) (es : List Entry) → Proper p n es → (ms : List ℕ) (zs : List ℤ) → areShown p n ws es ms zs ≡ true
+  pub records-shown : (ws : List Witness) (es : List Entry) → Proper p n es → (ms : List ℕ) (zs : List ℤ) → areShown p n ws es ms zs ≡ true
       → (marks : List ℕ) (numbers : List ℤ) → length marks ≡ n → length numbers ≡ n
       → ledgerShow p ok n (ledger es) marks numbers ≡ outcome (results (n - length es)) (ms, zs)
   unfolding areShown
@@ -152,14 +160,12 @@ module _ (p n : ℕ) (ok : IsModulus p) where
   unfolding run ledgerStep
   frames-and-show xs ws fs ms zs taken shown mixes marks numbers mixes-long marks-long numbers-long =
       let ran = frames-taken xs [] (empty-proper p n) fs taken mixes mixes-long in
-      let proper =
-      subst (λ (a : After Ledger). Proper p n (a .state .entries)) ran (run-proper p ok n (ledger []) (empty-proper p n) (takes fs mixes)) in
       run-append (ledgerStep p ok n) (ledger []) (takes fs mixes) (Call.show marks numbers ∷ [])
       ∙ ap
       (λ (a : After Ledger).
       let last = run (ledgerStep p ok n) (a .state) (Call.show marks numbers ∷ []) in after (last .state) (a .replies ++ last .replies)) ran
       ∙ ap (λ (r : Outcome (List ℕ × List ℤ)). after (ledger (standing fs)) (replies fs mixes ++ (reply (r .told) (r .lent .0) (r .lent .1) ∷ [])))
-      (records-shown ws (standing fs) proper ms zs shown marks numbers marks-long numbers-long)
+      (records-shown ws (standing fs) (frames-proper xs fs taken) ms zs shown marks numbers marks-long numbers-long)
 
 -- ---- a heat that passes holds
 
@@ -187,14 +193,14 @@ passed-holds h w t =
 -- ---- 01's heats
 
 -- (6 4 1) is the kernel of the first two rows; the combinations are the inverse of the three that stand at the end, row by row
-unfoldable sheetWitnesses : Witnesses
+unfoldable pub sheetWitnesses : Witnesses
 sheetWitnesses =
     record {
       separating = (1 ∷ 0 ∷ 0 ∷ []) ∷ (5 ∷ 1 ∷ 0 ∷ []) ∷ (6 ∷ 4 ∷ 1 ∷ []) ∷ [];
       settling = settledBy (1 ∷ 5 ∷ 6 ∷ []) ∷ settledBy (0 ∷ 1 ∷ 4 ∷ []) ∷ settledBy (0 ∷ 0 ∷ 1 ∷ []) ∷ [];
     }
 
-unfoldable unsettledWitnesses : Witnesses
+unfoldable pub unsettledWitnesses : Witnesses
 unsettledWitnesses =
     record {
       separating = (1 ∷ 0 ∷ 0 ∷ []) ∷ (5 ∷ 1 ∷ 0 ∷ []) ∷ [];

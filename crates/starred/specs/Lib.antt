@@ -1,2 +1,3 @@
 pub mod Heat
 pub mod Starred
+pub mod Sheet
