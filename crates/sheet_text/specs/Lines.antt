@@ -1,6 +1,6 @@
 -- 01, "The sheet program and the C side": what the sheet prints. The fixed words, and the lines made of them and of decimal
 -- numbers, each as its list of ASCII bytes.
-use mathlib.Core.List.{List, [], _∷_, _++_}
+use mathlib.Core.List.{List, [], _++_}
 use Prim.Native.Nat.{ℕ, zero, suc}
 use lib.Dec.{eqb}
 use lib.IntN.{ℤ, pos}
@@ -8,40 +8,34 @@ use lib.ListN.{getD}
 use Rattle.algebra.specs.Choice.{choose}
 use Rattle.checks.specs.Told.{Told}
 use Rattle.codec.specs.Decimal.{decimal, signedDecimal}
+use Rattle.sheet_text.specs.Text.{ascii}
 
 -- ---- the fixed words
 
--- "new "
 unfoldable pub newWord : List ℕ
-newWord = 110 ∷ 101 ∷ 119 ∷ 32 ∷ []
+newWord = ascii "new "
 
--- "repeat "
 unfoldable pub repeatWord : List ℕ
-repeatWord = 114 ∷ 101 ∷ 112 ∷ 101 ∷ 97 ∷ 116 ∷ 32 ∷ []
+repeatWord = ascii "repeat "
 
--- "conflict "
 unfoldable pub conflictWord : List ℕ
-conflictWord = 99 ∷ 111 ∷ 110 ∷ 102 ∷ 108 ∷ 105 ∷ 99 ∷ 116 ∷ 32 ∷ []
+conflictWord = ascii "conflict "
 
--- "refused "
 unfoldable pub refusedWord : List ℕ
-refusedWord = 114 ∷ 101 ∷ 102 ∷ 117 ∷ 115 ∷ 101 ∷ 100 ∷ 32 ∷ []
+refusedWord = ascii "refused "
 
--- "missing "
 unfoldable pub missingWord : List ℕ
-missingWord = 109 ∷ 105 ∷ 115 ∷ 115 ∷ 105 ∷ 110 ∷ 103 ∷ 32 ∷ []
+missingWord = ascii "missing "
 
--- "unknown"
 unfoldable pub unknownWord : List ℕ
-unknownWord = 117 ∷ 110 ∷ 107 ∷ 110 ∷ 111 ∷ 119 ∷ 110 ∷ []
+unknownWord = ascii "unknown"
 
--- " "
 unfoldable pub space : List ℕ
-space = 32 ∷ []
+space = ascii " "
 
 -- the line feed that ends each line
 unfoldable pub lineFeed : List ℕ
-lineFeed = 10 ∷ []
+lineFeed = ascii "\n"
 
 -- ---- the lines
 

@@ -36,7 +36,7 @@ use Rattle.sheet_text.specs.Lines.{recordText, recordLine, recordLines, missing
 use Rattle.sheet_heat.specs.Sheet.{cutLine, endingFrom, ledgerEnding, ledgerTakes, ledgerAfter, ledgerLine, linesFrom, heatOf, sheetOf}
 use Rattle.sheet_heat.proofs.SheetLaws.{lines-end, lines-frame}
 use Rattle.starred.specs.Heat.{HeatFrame, HeatExample, firstFrames, sheetHeat, unsettledHeat, told, entryOf, kept, standing}
-use Rattle.starred.specs.Sheet.{ascii, framesStream, streamOf, SheetExample, nineLines, unknownLines, sheetExamples, Prints}
+use Rattle.starred.specs.Sheet.{framesStream, streamOf, SheetExample, nineLines, unknownLines, sheetExamples, Prints}
 use Rattle.starred.proofs.Sizes.{areSizes, sizes-checked}
 use Rattle.starred.proofs.HeatChecker.{sameℤ, sendToZero, isCombination, isMix, isAnswer, isShown}
 use Rattle.starred.proofs.Heat.{isWritten, isTaken, areTaken, areShown, Witnesses, passes, sheetWitnesses, unsettledWitnesses, frame-taken}
@@ -152,7 +152,7 @@ witnessed = (nineLines, sheetWitnesses) ∷ (unknownLines, unsettledWitnesses) �
 
 -- each passes, computed
 all-pass : every (λ (q : SheetExample × Witnesses). prints (q .0) (q .1)) witnessed ≡ true
-unfolding every witnessed nineLines unknownLines ascii sheetHeat sheetWitnesses unsettledHeat unsettledWitnesses firstFrames standing
+unfolding every witnessed nineLines unknownLines sheetHeat sheetWitnesses unsettledHeat unsettledWitnesses firstFrames standing
     prints passes areSizes isPrime areTaken isTaken isWritten isAnswer isMix areShown isShown sendToZero isCombination areBelow areSame
     everyBelow _and_ same sameℤ multiplierRows valueColumn mixWords sum unit apply mixed tabulate reduce _⊕_ _⊗_ reading
     frameOf mapBytes mapByte mapLength stands packed valueBytes bytesOf width

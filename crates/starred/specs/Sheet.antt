@@ -3,17 +3,11 @@
 use mathlib.Core.Path.{_≡_}
 use mathlib.Core.List.{List, [], _∷_, _++_}
 use Prim.Native.Nat.{ℕ}
-use Prim.Native.Char.{code}
-use Prim.Native.String.{String, [] as []ᵗ, _∷_ as _∷ᵗ_}
 use lib.ListN.{length}
 use Rattle.codec.specs.BigEndian.{width, bytesOf}
+use Rattle.sheet_text.specs.Text.{ascii}
 use Rattle.sheet_heat.specs.Sheet.{sheetOf}
 use Rattle.starred.specs.Heat.{HeatFrame, HeatExample, sheetHeat, unsettledHeat}
-
--- the bytes of a text of ASCII characters
-unfoldable pub ascii : String → List ℕ
-ascii []ᵗ = []
-ascii (c ∷ᵗ s) = code c ∷ ascii s
 
 -- what the sheet reads of a heat: "p in four bytes, n in one, then frames, each after its length in two bytes"
 unfoldable pub framesStream : List HeatFrame → List ℕ
