@@ -3,6 +3,7 @@ pub mod Memory
 pub mod Vectors
 pub mod First
 pub mod Theorems
+pub mod KernelCall
 pub mod Answers
 pub mod Systems
 pub mod Basis
