@@ -4,7 +4,7 @@
 use mathlib.Core.Path.{_≡_, refl, sym, ap, ap₂, _∙_, subst}
 use mathlib.Core.Bool.{false, not}
 use mathlib.Core.Logic.{⊎-elim}
-use mathlib.Core.List.{List}
+use mathlib.Core.List.{List, _++_}
 use Prim.Native.Nat.{ℕ, zero, suc, _+_, _*_, _-_, _<_}
 use native.Mathlib.Nat.{eq-or-lt-of-le, le-of-suc-le-suc}
 use native.Mathlib.Omega.{arith}
@@ -206,6 +206,11 @@ module _ (p : ℕ) (ok : IsModulus p) (m n : ℕ) (a : List ℕ) where
       ap u (sym place)
       ∙ kernel-only-one p ok m n a x _ _ (λ j b. f j b ∙ basis-combined u j b) (λ j b. g j b ∙ basis-combined v j b) (columnAt t) below out
       ∙ ap v place
+
+  -- the definition's two parts, for those who fill a basis
+  pub basis-parts : vectors m n I D A n ++ replicate (n * tableRank p ok m n a) 0 ≡ basisOf p ok m n a
+  unfolding basisOf
+  basis-parts = refl
 
   -- ---- what the call leaves
 

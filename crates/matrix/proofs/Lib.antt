@@ -5,6 +5,7 @@ pub mod First
 pub mod Theorems
 pub mod KernelCall
 pub mod Answers
+pub mod SolveCall
 pub mod Systems
 pub mod Basis
 pub mod Checker

@@ -25,7 +25,7 @@ use Rattle.checks.specs.Prime.{IsModulus}
 use Rattle.field.specs.Residue.{residues, _⊗_}
 use Rattle.matrix.specs.Decide.{field, combinations, equal?}
 use Rattle.matrix.specs.Calls.{tableOf, columnsOf, rowMarksOf, tableRank, inverseOf, vectorOf, candidate, firstRow}
-use Rattle.matrix.proofs.First.{first-or-none, picked-true, picked-false}
+use Rattle.matrix.proofs.First.{first-or-none, first-before, picked-true, picked-false}
 use Rattle.matrix.proofs.Stored.{table-pivots, columns-many}
 
 module _ (p : ℕ) (ok : IsModulus p) (m n : ℕ) (a : List ℕ) where
@@ -148,7 +148,7 @@ module _ (p : ℕ) (ok : IsModulus p) (m n : ℕ) (a : List ℕ) where
     u = mixOf (residues p) n A D (firstRow p ok m n a w)
 
     -- where there is none, y is a row at which they differ
-    first-row-differs : (Solves (residues p) m n A (candidate p ok m n a w) (vectorOf p w) → ⊥)
+    pub first-row-differs : (Solves (residues p) m n A (candidate p ok m n a w) (vectorOf p w) → ⊥)
         → (firstRow p ok m n a w < m)
         × (apply (residues p) n A (candidate p ok m n a w) (firstRow p ok m n a w) ≡ vectorOf p w (firstRow p ok m n a w) → ⊥)
     unfolding firstRow
@@ -157,6 +157,12 @@ module _ (p : ℕ) (ok : IsModulus p) (m n : ℕ) (a : List ℕ) where
         (λ (e, l). (omega arith, picked-true (equal? _ _) e))
         (λ g. absurd (f (λ i l. picked-false (equal? _ _) (g i (omega arith) (omega arith)))))
         (first-or-none _ 0 m)
+
+    -- and the first such row
+    pub first-row-first : (i : ℕ) → i < firstRow p ok m n a w
+        → apply (residues p) n A (candidate p ok m n a w) i ≡ vectorOf p w i
+    unfolding firstRow
+    first-row-first i l = picked-false (equal? _ _) (first-before _ 0 m i (omega arith) l)
 
     -- "Then uA = 0, and u times w is not 0": refused exactly where there is no solution, and the mix shows it
     pub refused-exactly : (((x : Vector (residues p)) × Solves (residues p) m n A x (vectorOf p w)) → ⊥)
