@@ -105,19 +105,6 @@ module _ (p : ℕ) (ok : IsModulus p) (m n : ℕ) (a : List ℕ) where
   outside-many : k + tableRank p ok m n a ≡ n
   outside-many = ap (λ r. k + r) (sym (rank-columns p ok m n a)) ∙ count-complement n I
 
-  basis-long : length (basisOf p ok m n a) ≡ n * n
-  unfolding basisOf
-  basis-long =
-      length-append (vectors m n I D A n) (replicate (n * tableRank p ok m n a) 0)
-      ∙ ap₂ _+_ (vectors-long m n I D A n) (length-replicate (n * tableRank p ok m n a) 0)
-      ∙ omega (arith, ap (λ q. q * n) outside-many)
-
-  basis-rest : Blank (drop (k * n) (basisOf p ok m n a))
-  unfolding basisOf
-  basis-rest j =
-      ap (λ l. getD l j 0) (drop-at (vectors m n I D A n) (replicate (n * tableRank p ok m n a) 0) (k * n) (vectors-long m n I D A n))
-      ∙ zeros-at (n * tableRank p ok m n a) j
-
   -- the vector at the place of column c is column c of 1 - DA
   place-inside : (c : ℕ) → c < n → I c ≡ false → outsideBefore p ok m n a c < k
   place-inside c l e = member-before (λ j. not (I j)) c n l (ap not e)
@@ -138,6 +125,19 @@ module _ (p : ℕ) (ok : IsModulus p) (m n : ℕ) (a : List ℕ) where
       table-entry p (basisOf p ok m n a) 0 n k n t j (place-inside c l e) h
       ∙ ap (reduce p) (ap (λ q. getD (basisOf p ok m n a) q 0) same ∙ basis-at c j l h e)
       ∙ reduce-value (kernelVector (residues p) m D A c j)
+
+  basis-long : length (basisOf p ok m n a) ≡ n * n
+  unfolding basisOf
+  basis-long =
+      length-append (vectors m n I D A n) (replicate (n * tableRank p ok m n a) 0)
+      ∙ ap₂ _+_ (vectors-long m n I D A n) (length-replicate (n * tableRank p ok m n a) 0)
+      ∙ omega (arith, ap (λ q. q * n) outside-many)
+
+  basis-rest : Blank (drop (k * n) (basisOf p ok m n a))
+  unfolding basisOf
+  basis-rest j =
+      ap (λ l. getD l j 0) (drop-at (vectors m n I D A n) (replicate (n * tableRank p ok m n a) 0) (k * n) (vectors-long m n I D A n))
+      ∙ zeros-at (n * tableRank p ok m n a) j
 
   -- ---- combinations
 

@@ -10,7 +10,7 @@ use Rattle.algebra.specs.Matrix.{Vector, Matrix}
 use Rattle.algebra.specs.Span.{Solves}
 use Rattle.algebra.specs.Solve.{mixOf}
 use Rattle.algebra.proofs.Applied.{mixed-same}
-use Rattle.algebra.proofs.Choice.{pick-elim}
+use Rattle.algebra.proofs.Choice.{pick-yes, pick-no}
 use Rattle.algebra.proofs.Sums.{sum-same}
 use Rattle.checks.specs.declared.Refusal.the-variants.{Insoluble}
 use Rattle.checks.specs.Refusal.{refusalNumber, IsRefusal}
@@ -52,15 +52,23 @@ module _ (p : ℕ) (ok : IsModulus p) (m n : ℕ) (a w z : List ℕ) where
   abbrev none : Outcome (List ℕ × List ℕ)
   none = outcome (refused Insoluble) (z, numbers m mix)
 
-  solution-elim : (Q : Outcome (List ℕ × List ℕ) → Type 0) → (Solved → Q found) → ((Solved → ⊥) → Q none) → Q (solution p ok m n a w z)
-  unfolding solution
-  solution-elim Q = pick-elim Q (solves? m n A (candidate p ok m n a w) (vectorOf p w)) found none
+  solved? : Dec Solved
+  solved? = solves? m n A (candidate p ok m n a w) (vectorOf p w)
 
   pub solution-found : Solved → solution p ok m n a w z ≡ found
-  solution-found h = solution-elim (λ o. o ≡ found) (λ _. refl) (λ f. absurd (f h))
+  unfolding solution solved?
+  solution-found h = pick-yes solved? _ _ h
 
   pub solution-none : (Solved → ⊥) → solution p ok m n a w z ≡ none
-  solution-none f = solution-elim (λ o. o ≡ none) (λ h. absurd (f h)) (λ _. refl)
+  unfolding solution solved?
+  solution-none f = pick-no solved? _ _ f
+
+  solution-elim : (Q : Outcome (List ℕ × List ℕ) → Type 0) → (Solved → Q found) → ((Solved → ⊥) → Q none) → Q (solution p ok m n a w z)
+  solution-elim Q f g = go solved?
+    where
+      go : Dec Solved → Q (solution p ok m n a w z)
+      go (yes h) = subst Q (sym (solution-found h)) (f h)
+      go (no h) = subst Q (sym (solution-none h)) (g h)
 
   unsolved : (Solved → ⊥) → NoSolution p m n a w
   unsolved f s = f (solvable-exactly p ok m n a w .0 s)

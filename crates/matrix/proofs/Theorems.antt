@@ -147,7 +147,13 @@ module _ (p : ℕ) (ok : IsModulus p) (m n : ℕ) (a : List ℕ) where
     abbrev u : Vector (residues p)
     u = mixOf (residues p) n A D (firstRow p ok m n a w)
 
-    -- where there is none, y is a row at which they differ
+    -- they differ in no row before y
+    pub first-row-first : (i : ℕ) → i < firstRow p ok m n a w
+        → apply (residues p) n A (candidate p ok m n a w) i ≡ vectorOf p w i
+    unfolding firstRow
+    first-row-first i l = picked-false (equal? _ _) (first-before _ 0 m i (omega arith) l)
+
+    -- and where there is no solution they differ in row y
     pub first-row-differs : (Solves (residues p) m n A (candidate p ok m n a w) (vectorOf p w) → ⊥)
         → (firstRow p ok m n a w < m)
         × (apply (residues p) n A (candidate p ok m n a w) (firstRow p ok m n a w) ≡ vectorOf p w (firstRow p ok m n a w) → ⊥)
@@ -157,12 +163,6 @@ module _ (p : ℕ) (ok : IsModulus p) (m n : ℕ) (a : List ℕ) where
         (λ (e, l). (omega arith, picked-true (equal? _ _) e))
         (λ g. absurd (f (λ i l. picked-false (equal? _ _) (g i (omega arith) (omega arith)))))
         (first-or-none _ 0 m)
-
-    -- and the first such row
-    pub first-row-first : (i : ℕ) → i < firstRow p ok m n a w
-        → apply (residues p) n A (candidate p ok m n a w) i ≡ vectorOf p w i
-    unfolding firstRow
-    first-row-first i l = picked-false (equal? _ _) (first-before _ 0 m i (omega arith) l)
 
     -- "Then uA = 0, and u times w is not 0": refused exactly where there is no solution, and the mix shows it
     pub refused-exactly : (((x : Vector (residues p)) × Solves (residues p) m n A x (vectorOf p w)) → ⊥)
