@@ -12,4 +12,5 @@ pub mod WriteNumbers
 pub mod WriteFrame
 pub mod SealSums
 pub mod Calls
+pub mod RoundCalls
 pub mod Examples

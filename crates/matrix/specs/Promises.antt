@@ -56,7 +56,7 @@ module _ (p : ℕ) (ok : IsModulus p) (m n : ℕ) (a : List ℕ) where
 
 -- no x has A x = w
 abbrev pub NoSolution : (p m n : ℕ) (a w : List ℕ) → Type 0
-NoSolution p m n a w = (x : Vector (residues p)) × Solves (residues p) m n (tableOf p m n a) x (vectorOf p w) → ⊥
+NoSolution p m n a w = ((x : Vector (residues p)) × Solves (residues p) m n (tableOf p m n a) x (vectorOf p w)) → ⊥
 
 module _ (p : ℕ) (ok : IsModulus p) (m n : ℕ) (a w : List ℕ) where
   -- "z (n numbers) becomes Dw, the mix u (m numbers) becomes all 0, and the result is r", and A z = w
