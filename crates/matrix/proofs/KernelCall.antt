@@ -95,20 +95,22 @@ module _ (p : ℕ) (ok : IsModulus p) (m n : ℕ) (a : List ℕ) where
   abbrev I : Marks
   I = columnsOf p ok m n a
 
-  -- how many columns are outside I, and the vectors in the list, as many
+  -- how many columns are outside I
   abbrev k : ℕ
   k = outsideBefore p ok m n a n
 
+  -- the vectors in the list, as many
   abbrev X : Matrix (residues p)
   X = tableOf p k n (basisOf p ok m n a)
 
   outside-many : k + tableRank p ok m n a ≡ n
   outside-many = ap (λ r. k + r) (sym (rank-columns p ok m n a)) ∙ count-complement n I
 
-  -- the vector at the place of column c is column c of 1 - DA
+  -- the place of a column outside I is among them
   place-inside : (c : ℕ) → c < n → I c ≡ false → outsideBefore p ok m n a c < k
   place-inside c l e = member-before (λ j. not (I j)) c n l (ap not e)
 
+  -- and what stands there is column c of 1 - DA
   basis-at : (c j : ℕ) → c < n → j < n → I c ≡ false
       → getD (basisOf p ok m n a) (outsideBefore p ok m n a c * n + j) 0 ≡ (kernelVector (residues p) m D A c j) .value
   unfolding basisOf
@@ -118,6 +120,7 @@ module _ (p : ℕ) (ok : IsModulus p) (m n : ℕ) (a : List ℕ) where
       (omega (arith, vectors-long m n I D A n))
       ∙ vector-at m n I D A n c j l e h
 
+  -- as a row of the table of vectors
   basis-vector : (c j : ℕ) → c < n → j < n → I c ≡ false → X (outsideBefore p ok m n a c) j ≡ kernelVector (residues p) m D A c j
   basis-vector c j l h e =
       let t = outsideBefore p ok m n a c in
@@ -221,7 +224,7 @@ module _ (p : ℕ) (ok : IsModulus p) (m n : ℕ) (a : List ℕ) where
   basis-by-column =
       record {
         many = refl;
-        each = basis-vector;
+        each = basis-at;
         own = λ c j l h e f. basis-vector c j l h e ∙ kernel-vector-outside p ok m n a c j f;
       }
 

@@ -3,8 +3,8 @@
 use mathlib.Core.Path.{_≡_}
 use mathlib.Core.Bool.{false, not}
 use mathlib.Core.List.{List}
-use Prim.Native.Nat.{ℕ, _*_, _-_, _<_}
-use lib.ListN.{length, drop, replicate}
+use Prim.Native.Nat.{ℕ, _+_, _*_, _-_, _<_}
+use lib.ListN.{length, getD, drop, replicate}
 use Rattle.algebra.specs.Matrix.{Vector, sum, unit, apply, mixed}
 use Rattle.algebra.specs.Span.{Combines, IsCombination, InKernel, Solves}
 use Rattle.algebra.specs.Quasiinverse.{count}
@@ -34,7 +34,7 @@ pub record IsKernelBasis (p m n : ℕ) (a : List ℕ) (k : ℕ) (basis : List �
   pub rest : Blank (drop (k * n) basis)
 
 module _ (p : ℕ) (ok : IsModulus p) (m n : ℕ) (a : List ℕ) where
-  -- the number of columns outside I before c
+  -- the number of columns outside I before c: the place of its vector among the vectors
   abbrev pub outsideBefore : ℕ → ℕ
   outsideBefore c = count c (λ j. not (columnsOf p ok m n a j))
 
@@ -42,7 +42,7 @@ module _ (p : ℕ) (ok : IsModulus p) (m n : ℕ) (a : List ℕ) where
   pub record ColumnVectors (k : ℕ) (basis : List ℕ) : Type 0 where
     pub many : outsideBefore n ≡ k
     pub each : (c j : ℕ) → c < n → j < n → columnsOf p ok m n a c ≡ false
-        → tableOf p k n basis (outsideBefore c) j ≡ kernelVector (residues p) m (inverseOf p ok m n a) (tableOf p m n a) c j
+        → getD basis (outsideBefore c * n + j) 0 ≡ (kernelVector (residues p) m (inverseOf p ok m n a) (tableOf p m n a) c j) .value
     pub own : (c j : ℕ) → c < n → j < n → columnsOf p ok m n a c ≡ false → columnsOf p ok m n a j ≡ false
         → tableOf p k n basis (outsideBefore c) j ≡ unit (residues p) j c
 
