@@ -19,6 +19,7 @@ pub mod Kernel
 pub mod Solve
 pub mod Rank
 pub mod Independent
+pub mod Members
 pub mod Decide
 pub mod Marked
 pub mod Settled

@@ -1,27 +1,37 @@
--- 01's starred examples of frames hold of `readFrame`. No decision is opened: the bytes of each are those that are written for
--- its multipliers and its value, which computes, and what is written reads back (Round).
+-- 01's starred examples of frames hold of the call `read`, lent memory included, where the modulus is one. No decision is opened: the
+-- bytes of each are those that are written for its multipliers and its value, which computes, and what is written reads back (Round).
 use mathlib.Core.Path.{_≡_, refl, sym, subst}
-use mathlib.Core.List.{[], _∷_, List·Memᴰ, List·Memᴰ·eq-of-singleton}
-use Prim.Native.Nat.{_≤_}
+use mathlib.Core.List.{List, [], _∷_, List·Memᴰ, List·Memᴰ·eq-of-singleton}
+use Prim.Native.Nat.{ℕ}
 use native.Mathlib.Omega.{arith}
+use lib.IntN.{pos}
+use lib.ListN.{length}
+use Rattle.checks.specs.Prime.{IsModulus}
+use Rattle.checks.specs.Largest.{FrameSize}
+use Rattle.checks.specs.Told.{gives}
+use Rattle.checks.specs.Outcome.{outcome}
 use Rattle.codec.specs.BigEndian.{width, bytesOf}
 use Rattle.codec.proofs.BigEndian.{below-cons}
 use Rattle.field.specs.Written.{tabulate}
 use Rattle.frame.specs.Format.{mapLength, stands, mapByte, mapBytes, packed, valueBytes, frameOf}
-use Rattle.frame.specs.Reading.{accepted, readFrame}
+use Rattle.frame.specs.Calls.{readCall}
 use Rattle.frame.specs.Examples.{FrameExample, frameExamples}
 use Rattle.frame.proofs.Round.{written-reads-back, Writes}
+use Rattle.frame.proofs.Calls.{sizes-hold, read-as-told}
 
--- the bytes of the example read as its multipliers and its value
+-- the call reads the bytes of the example as its multipliers and its value, whatever multipliers of the right length it is lent
 abbrev Reads : FrameExample → Type 0
-Reads e = readFrame (e .modulus) (e .size) (e .bytes) ≡ accepted (e .multipliers) (e .value)
+Reads e =
+    (multipliers : List ℕ) → length multipliers ≡ e .size
+    → readCall (e .modulus) (e .size) (e .bytes) multipliers ≡ outcome (gives (pos (e .value))) (e .multipliers)
 
--- they do where they are what the multipliers and the value write
-written-reads :
-    (e : FrameExample) → e .modulus ≤ 2147483647 → Writes (e .modulus) (e .size) (e .multipliers) (e .value) (e .bytes) → Reads e
-written-reads e range w =
-    rw (← (w .bytes-are))
-    (written-reads-back (e .modulus) (e .size) (e .multipliers) (e .value) range (w .numbers .long) (w .numbers .below) (w .numbers .value-below))
+-- it does where they are what the multipliers and the value write
+written-reads : (e : FrameExample) → IsModulus (e .modulus) → FrameSize (e .size)
+    → Writes (e .modulus) (e .size) (e .multipliers) (e .value) (e .bytes) → Reads e
+written-reads e ok size w multipliers room =
+    read-as-told (e .modulus) (e .size) (e .bytes) multipliers (e .multipliers) (e .value) (sizes-hold (e .modulus) (e .size) ok size) room
+    (rw (← (w .bytes-are))
+    (written-reads-back (e .modulus) (e .size) (e .multipliers) (e .value) (ok .in-range) (w .numbers .long) (w .numbers .below) (w .numbers .value-below)))
 
 -- the frame of (1 2 0) and 5, computed
 writes-120-5 : Writes 7 3 (1 ∷ 2 ∷ 0 ∷ []) 5 (3 ∷ 0 ∷ 0 ∷ 0 ∷ 1 ∷ 0 ∷ 0 ∷ 0 ∷ 2 ∷ 0 ∷ 0 ∷ 0 ∷ 5 ∷ [])
@@ -41,8 +51,9 @@ writes-120-5 =
 
 -- every starred example holds
 pub starred-frames-read :
-    (e : FrameExample) → List·Memᴰ e frameExamples
-    → readFrame (e .modulus) (e .size) (e .bytes) ≡ accepted (e .multipliers) (e .value)
+    (e : FrameExample) → List·Memᴰ e frameExamples → IsModulus (e .modulus)
+    → (multipliers : List ℕ) → length multipliers ≡ e .size
+    → readCall (e .modulus) (e .size) (e .bytes) multipliers ≡ outcome (gives (pos (e .value))) (e .multipliers)
 unfolding frameExamples
 starred-frames-read e m =
-    subst Reads (sym (List·Memᴰ·eq-of-singleton m)) (written-reads _ (omega arith) writes-120-5)
+    subst (λ x. IsModulus (x .modulus) → Reads x) (sym (List·Memᴰ·eq-of-singleton m)) (λ ok. written-reads _ ok (omega arith) writes-120-5)

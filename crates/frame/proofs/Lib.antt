@@ -13,4 +13,5 @@ pub mod WriteFrame
 pub mod Calls
 pub mod RecordsMeet
 pub mod SealSums
+pub mod RoundCalls
 pub mod Examples

@@ -6,4 +6,5 @@ pub mod Reading
 pub mod Stages
 pub mod Told
 pub mod Calls
+pub mod Promises
 pub mod Examples

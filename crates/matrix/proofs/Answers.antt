@@ -105,7 +105,7 @@ module _ (p m n : ℕ) (a w z u : List ℕ) where
   unfolding solveCall
   solve-refused f = sym (in-order-refused _ _ f)
 
-  solve-hold : Checked p m n a → System p m n w z u → AllHold (solveChecks p m n a w z u)
+  pub solve-hold : Checked p m n a → System p m n w z u → AllHold (solveChecks p m n a w z u)
   solve-hold k s =
       k .is-modulus
       and-then (k .m-most, k .n-most)

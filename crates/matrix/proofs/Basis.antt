@@ -21,6 +21,7 @@ use Rattle.matrix.specs.Calls.{tableOf, columnsOf, tableRank, inverseOf,
 use Rattle.matrix.specs.Parts.{marked, StoresInverse, KernelVectors}
 use Rattle.matrix.proofs.Stored.{columns-many}
 use Rattle.matrix.proofs.Memory.{marked-yes, marked-no, total-of-marks}
+use Rattle.matrix.proofs.KernelCall.{basis-parts}
 
 -- the marks of written marks
 marked-of-marks : (n : ℕ) (I : Marks) (c : ℕ) → c < n → marked (marksOf n I) c ≡ I c
@@ -76,13 +77,13 @@ module _ (p : ℕ) (ok : IsModulus p) (m n : ℕ) (a d columns rows basis : List
   counted = count-same n (marked columns) (columnsOf p ok m n a) agree ∙ columns-many p ok m n a
 
   pub basis-filled : basis ≡ basisOf p ok m n a
-  unfolding basisOf
   basis-filled =
       k .filled
       ∙ ap₂ (λ l q. l ++ replicate (n * q) 0)
       (ap (λ X. vectorsFrom m n (marked columns) X (tableOf p m n a) 0 n) (i .is-D)
       ∙ vectors-same m n (marked columns) (columnsOf p ok m n a) (inverseOf p ok m n a) (tableOf p m n a) 0 n (λ c l. agree c (omega arith)))
       counted
+      ∙ basis-parts p ok m n a
 
   pub vectors-many : r ≡ n - tableRank p ok m n a
   vectors-many = omega (arith, k .many, counted)

@@ -1,4 +1,4 @@
--- The first place where a test is true: which place it is, and that there is one unless the test is false everywhere.
+-- The first place where a test is true: there is one unless the test is false everywhere, and the test is false at every place before.
 use mathlib.Core.Path.{_≡_, refl, sym, ap, _∙_}
 use mathlib.Core.Bool.{Bool, true, false}
 use mathlib.Core.Logic.{_⊎_, inl, inr, ⊎-elim}
@@ -24,15 +24,15 @@ first-or-none f t (suc k) = go (f t) refl (first-or-none f (suc t) k)
     go false e (inl (g, l)) = inl (g, omega arith)
     go false e (inr g) = inr (λ i h l. ⊎-elim (λ d. ap f (sym d) ∙ e) (λ d. g i d (omega arith)) (eq-or-lt-of-le h))
 
--- the place where it passes, having failed before
-pub first-is : (f : ℕ → Bool) (t k r : ℕ) → t ≤ r → r < t + k → ((i : ℕ) → i < r → f i ≡ false) → f r ≡ true → firstFrom f t k ≡ r
+-- and at no place before
+pub first-before : (f : ℕ → Bool) (t k i : ℕ) → t ≤ i → i < firstFrom f t k → f i ≡ false
 unfolding firstFrom
-first-is f t zero r h l before here = absurd (omega arith)
-first-is f t (suc k) r h l before here =
-    ⊎-elim
-    (λ d. ap (λ b. choose b t (firstFrom f (suc t) k)) (ap f d ∙ here) ∙ d)
-    (λ d. ap (λ b. choose b t (firstFrom f (suc t) k)) (before t d) ∙ first-is f (suc t) k r d (omega arith) before here)
-    (eq-or-lt-of-le h)
+first-before f t zero i h l = absurd (omega arith)
+first-before f t (suc k) i h l = go (f t) refl l (first-before f (suc t) k i)
+  where
+    go : (b : Bool) → f t ≡ b → i < choose b t (firstFrom f (suc t) k) → (suc t ≤ i → i < firstFrom f (suc t) k → f i ≡ false) → f i ≡ false
+    go true e q r = absurd (omega arith)
+    go false e q r = ⊎-elim (λ d. ap f (sym d) ∙ e) (λ d. r d q) (eq-or-lt-of-le h)
 
 -- what a test for the contrary tells
 pub picked-false : {P : Type 0} (d : Dec P) → pick d false true ≡ false → P

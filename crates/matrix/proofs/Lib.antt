@@ -3,7 +3,9 @@ pub mod Memory
 pub mod Vectors
 pub mod First
 pub mod Theorems
+pub mod KernelCall
 pub mod Answers
+pub mod SolveCall
 pub mod Systems
 pub mod Basis
 pub mod Checker

@@ -1,6 +1,6 @@
 -- From numbers in memory to vectors, tables and marks: a list that reads as a table is that table written out, a list of
 -- marks sums to the number of members, and products of tables are sums of products along lines of memory.
-use mathlib.Core.Path.{_≡_, sym, ap, ap₂, _∙_}
+use mathlib.Core.Path.{_≡_, sym, ap, ap₂, _∙_, fun-ext}
 use mathlib.Core.Bool.{true, false, not}
 use mathlib.Core.List.{List, _++_}
 use Prim.Native.Nat.{ℕ, zero, suc, _+_, _*_, _-_, _/_, _%_, _≤_, _<_}
@@ -11,22 +11,23 @@ use borrow.Author.Tests.{eq-eqb, ne-eqb}
 use lib.Seq.{getD-take, getD-drop, ext-getD, take-at}
 use Rattle.checks.specs.Largest.{largest}
 use Rattle.algebra.specs.Choice.{choose}
-use Rattle.algebra.specs.Matrix.{Matrix, sum, unit, product, apply}
+use Rattle.algebra.specs.Matrix.{Vector, Matrix, sum, unit, product, apply}
 use Rattle.algebra.specs.Quasiinverse.{Marks, count}
 use Rattle.algebra.specs.Kernel.{kernelVector}
 use Rattle.algebra.specs.Solve.{mixOf}
 use Rattle.algebra.proofs.Rings.{zero-times}
 use Rattle.algebra.proofs.Sums as sums
+use Rattle.algebra.proofs.Applied.{apply-same}
 use Rattle.field.specs.Residue.{residues, reduce, _⊕_, _⊗_, negated}
 use Rattle.field.specs.View.{line, table}
 use Rattle.words.specs.Words.{Below, Blank}
-use Rattle.field.specs.Written.{tabulate, rowsOf, marksOf}
-use Rattle.field.proofs.Residues.{reduce-small}
+use Rattle.field.specs.Written.{tabulate, numbers, rowsOf, marksOf}
+use Rattle.field.proofs.Residues.{reduce-small, reduce-value}
 use Rattle.field.proofs.Field.{residues-ring}
 use Rattle.field.proofs.Totals.{total, total-zero, total-suc}
 use Rattle.field.proofs.Views.{table-entry}
 use Rattle.words.proofs.Walk.{Walked}
-use Rattle.field.proofs.Written.{is-tabulate}
+use Rattle.field.proofs.Written.{getD-tabulate, is-tabulate}
 use Rattle.matrix.specs.Calls.{vectorOf}
 use Rattle.matrix.specs.Parts.{crossed, marked}
 
@@ -176,3 +177,12 @@ apply-number p m k x w i r h e =
 -- a loop that has written f's values to n places has written the list of them
 pub walked-numbers : (j n : ℕ) (f : ℕ → ℕ) (xs ys : List ℕ) → j ≡ n → length xs ≡ n → Walked j f xs ys → ys ≡ tabulate n f
 walked-numbers j n f xs ys d e w = is-tabulate n f ys (w .long ∙ e) (λ i h. w .passed i (rw d h))
+
+-- what is written and read again is the vector, as far as it was written
+pub vector-read : (p n : ℕ) (v : Vector (residues p)) (t : ℕ) → t < n → vectorOf p (numbers n v) t ≡ v t
+unfolding vectorOf
+vector-read p n v t l = ap (reduce p) (getD-tabulate n (λ k. (v k) .value) t l) ∙ reduce-value (v t)
+
+-- so a matrix is applied to it as to the vector
+pub apply-read : (p n : ℕ) (X : Matrix (residues p)) (v : Vector (residues p)) → apply (residues p) n X (vectorOf p (numbers n v)) ≡ apply (residues p) n X v
+apply-read p n X v = fun-ext (apply-same (residues p) n X (vectorOf p (numbers n v)) v (vector-read p n v))

@@ -21,7 +21,7 @@ use Rattle.words.specs.Words.{Below}
 use Rattle.matrix.specs.Calls.{tableOf, inverseOf, quasiinverseCall, kernelCall, solveCall, vectorOf, candidate, firstRow, solution}
 use Rattle.matrix.specs.Parts.{Checked, InverseRoom, System}
 use Rattle.matrix.proofs.Answers.{past-sizes, sizes-first, quasiinverse-refused, kernel-refused, solve-refused, solve-done}
-use Rattle.matrix.proofs.Systems.{solution-none}
+use Rattle.matrix.proofs.SolveCall.{solution-none}
 
 module _ (p m n : ℕ) (a : List ℕ) where
   -- ---- quasiinverse

@@ -1,16 +1,13 @@
 -- How the numbers that the code compares decide a system: where A(Dw) and w agree at every place they are equal, and the
 -- first place where they differ is 01's row y.
-use mathlib.Core.Path.{_≡_, sym, ap, ap₂, _∙_, fun-ext, subst}
-use mathlib.Core.Bool.{Bool, true, false}
+use mathlib.Core.Path.{_≡_, sym, ap, ap₂, _∙_, subst}
+use mathlib.Core.Bool.{Bool}
 use mathlib.Core.List.{List}
 use Prim.Native.Nat.{ℕ, _≤_, _<_}
 use native.Mathlib.Omega.{arith}
 use lib.ListN.{length, getD, replicate}
-use Rattle.algebra.specs.Matrix.{Vector, Matrix, apply}
-use Rattle.algebra.specs.Span.{Solves}
+use Rattle.algebra.specs.Matrix.{Vector, apply}
 use Rattle.algebra.specs.Solve.{mixOf}
-use Rattle.algebra.proofs.Applied.{apply-same}
-use Rattle.algebra.proofs.Choice.{pick-yes, pick-no}
 use Rattle.checks.specs.declared.Refusal.the-variants.{Insoluble}
 use Rattle.checks.specs.Told.{results, refused}
 use Rattle.checks.specs.Outcome.{Outcome, outcome}
@@ -21,33 +18,14 @@ use Rattle.words.specs.Words.{Below}
 use Rattle.field.specs.Written.{numbers}
 use Rattle.field.proofs.Residues.{reduce-small, reduce-value}
 use Rattle.field.proofs.Written.{length-tabulate, getD-tabulate}
-use Rattle.matrix.specs.Decide.{equal?, solves?}
 use Rattle.matrix.specs.Calls.{tableOf, tableRank, inverseOf, vectorOf, candidate, firstRow, solution}
 use Rattle.matrix.specs.Parts.{solveTold}
 use Rattle.words.specs.Words.{FirstDifference}
-use Rattle.matrix.proofs.First.{first-is}
-
--- what is written and read again is the vector, as far as it was written
-pub vector-read : (p n : ℕ) (v : Vector (residues p)) (t : ℕ) → t < n → vectorOf p (numbers n v) t ≡ v t
-unfolding vectorOf
-vector-read p n v t l = ap (reduce p) (getD-tabulate n (λ k. (v k) .value) t l) ∙ reduce-value (v t)
-
--- so a matrix is applied to it as to the vector
-pub apply-read : (p n : ℕ) (X : Matrix (residues p)) (v : Vector (residues p)) → apply (residues p) n X (vectorOf p (numbers n v)) ≡ apply (residues p) n X v
-apply-read p n X v = fun-ext (apply-same (residues p) n X (vectorOf p (numbers n v)) v (vector-read p n v))
+use Rattle.matrix.proofs.Theorems.{first-row-differs, first-row-first}
+use Rattle.matrix.proofs.SolveCall.{solution-found, solution-none}
+use Rattle.matrix.proofs.Memory.{apply-read}
 
 module _ (p : ℕ) (ok : IsModulus p) (m n : ℕ) (a w z : List ℕ) where
-  pub solution-found : Solves (residues p) m n (tableOf p m n a) (candidate p ok m n a w) (vectorOf p w)
-      → solution p ok m n a w z ≡ outcome (results (tableRank p ok m n a)) (numbers n (candidate p ok m n a w), replicate m 0)
-  unfolding solution
-  solution-found h = pick-yes (solves? m n (tableOf p m n a) (candidate p ok m n a w) (vectorOf p w)) _ _ h
-
-  pub solution-none : (Solves (residues p) m n (tableOf p m n a) (candidate p ok m n a w) (vectorOf p w) → ⊥)
-      → solution p ok m n a w z
-      ≡ outcome (refused Insoluble) (z, numbers m (mixOf (residues p) n (tableOf p m n a) (inverseOf p ok m n a) (firstRow p ok m n a w)))
-  unfolding solution
-  solution-none h = pick-no (solves? m n (tableOf p m n a) (candidate p ok m n a w) (vectorOf p w)) _ _ h
-
   -- A(Dw)
   abbrev image : Vector (residues p)
   image = apply (residues p) n (tableOf p m n a) (candidate p ok m n a w)
@@ -65,23 +43,24 @@ module _ (p : ℕ) (ok : IsModulus p) (m n : ℕ) (a w z : List ℕ) where
     module _ (y : ℕ) (first : FirstDifference (numbers m image) w y) where
       -- no place differs: the system is solved
       pub nowhere : m ≤ y → solution p ok m n a w z ≡ outcome (results (tableRank p ok m n a)) (numbers n (candidate p ok m n a w), replicate m 0)
-      nowhere h = solution-found (λ i l. same-residue i l (first .before i (omega arith)))
+      nowhere h = solution-found p ok m n a w z (λ i l. same-residue i l (first .before i (omega arith)))
 
       -- y is a place that differs: it is the first row, and the system is refused
       differs : y < m → image y ≡ vectorOf p w y → ⊥
       differs h e = first .differs (omega (arith, length-tabulate m (λ i. (image i) .value))) (same-number y h e)
 
       pub first-row : y < m → firstRow p ok m n a w ≡ y
-      unfolding firstRow
       first-row h =
-          first-is _ 0 m y (omega arith) (omega arith)
-          (λ i l. pick-yes (equal? (image i) (vectorOf p w i)) false true (same-residue i (omega arith) (first .before i l)))
-          (pick-no (equal? (image y) (vectorOf p w y)) false true (differs h))
+          let (row, other) = first-row-differs p ok m n a w (λ s. differs h (s y h)) in
+          let q = firstRow p ok m n a w in
+          let late : q < y → ⊥ = λ l. other (same-residue q row (first .before q l)) in
+          let early : y < q → ⊥ = λ l. differs h (first-row-first p ok m n a w y l) in
+          omega arith
 
       pub somewhere : y < m → solution p ok m n a w z
           ≡ outcome (refused Insoluble) (z, numbers m (mixOf (residues p) n (tableOf p m n a) (inverseOf p ok m n a) y))
       somewhere h =
-          solution-none (λ s. differs h (s y h))
+          solution-none p ok m n a w z (λ s. differs h (s y h))
           ∙ ap (λ k. outcome (refused Insoluble) (z, numbers m (mixOf (residues p) n (tableOf p m n a) (inverseOf p ok m n a) k))) (first-row h)
 
 -- what the code has in memory: D in d, Dw in x, A(Dw) in its image, and y where that and w first differ

@@ -25,7 +25,7 @@ use Rattle.checks.specs.Prime.{IsModulus}
 use Rattle.field.specs.Residue.{residues, _⊗_}
 use Rattle.matrix.specs.Decide.{field, combinations, equal?}
 use Rattle.matrix.specs.Calls.{tableOf, columnsOf, rowMarksOf, tableRank, inverseOf, vectorOf, candidate, firstRow}
-use Rattle.matrix.proofs.First.{first-or-none, picked-true, picked-false}
+use Rattle.matrix.proofs.First.{first-or-none, first-before, picked-true, picked-false}
 use Rattle.matrix.proofs.Stored.{table-pivots, columns-many}
 
 module _ (p : ℕ) (ok : IsModulus p) (m n : ℕ) (a : List ℕ) where
@@ -147,8 +147,14 @@ module _ (p : ℕ) (ok : IsModulus p) (m n : ℕ) (a : List ℕ) where
     abbrev u : Vector (residues p)
     u = mixOf (residues p) n A D (firstRow p ok m n a w)
 
-    -- where there is none, y is a row at which they differ
-    first-row-differs : (Solves (residues p) m n A (candidate p ok m n a w) (vectorOf p w) → ⊥)
+    -- they differ in no row before y
+    pub first-row-first : (i : ℕ) → i < firstRow p ok m n a w
+        → apply (residues p) n A (candidate p ok m n a w) i ≡ vectorOf p w i
+    unfolding firstRow
+    first-row-first i l = picked-false (equal? _ _) (first-before _ 0 m i (omega arith) l)
+
+    -- and where there is no solution they differ in row y
+    pub first-row-differs : (Solves (residues p) m n A (candidate p ok m n a w) (vectorOf p w) → ⊥)
         → (firstRow p ok m n a w < m)
         × (apply (residues p) n A (candidate p ok m n a w) (firstRow p ok m n a w) ≡ vectorOf p w (firstRow p ok m n a w) → ⊥)
     unfolding firstRow

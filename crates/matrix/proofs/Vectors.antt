@@ -24,10 +24,10 @@ use Rattle.matrix.proofs.Memory.{row-inside, zeros-written}
 
 module _ {p : ℕ} (m n : ℕ) (I : Marks) (D A : Matrix (residues p)) where
   -- the vector of column c, where it is not marked
-  vectorAt : ℕ → List ℕ
+  pub vectorAt : ℕ → List ℕ
   vectorAt c = choose (I c) [] (numbers n (kernelVector (residues p) m D A c))
 
-  vectors-none : (s : ℕ) → vectorsFrom m n I D A s 0 ≡ []
+  pub vectors-none : (s : ℕ) → vectorsFrom m n I D A s 0 ≡ []
   unfolding vectorsFrom
   vectors-none s = refl
 
@@ -52,12 +52,21 @@ module _ {p : ℕ} (m n : ℕ) (I : Marks) (D A : Matrix (residues p)) where
       ∙ ap (λ q. vectorsFrom m n I D A s (suc k) ++ vectorAt q) e
 
   -- the vectors of the first c columns
-  abbrev vectors : ℕ → List ℕ
+  abbrev pub vectors : ℕ → List ℕ
   vectors c = vectorsFrom m n I D A 0 c
 
-  vectors-more : (c : ℕ) → vectors (c + 1) ≡ vectors c ++ vectorAt c
-  vectors-more c =
-      ap (vectorsFrom m n I D A 0) (add-one c) ∙ vectors-last 0 c ∙ ap (λ q. vectorsFrom m n I D A 0 c ++ vectorAt q) (zero-add c)
+  pub vectors-more : (c : ℕ) → vectors (suc c) ≡ vectors c ++ vectorAt c
+  vectors-more c = vectors-last 0 c ∙ ap (λ q. vectors c ++ vectorAt q) (zero-add c)
+
+  -- a marked column adds nothing, and one that is not marked its vector
+  pub vectors-skip : (c : ℕ) → I c ≡ true → vectors (suc c) ≡ vectors c
+  unfolding vectorAt
+  vectors-skip c e =
+      vectors-more c ∙ ap (λ b. vectors c ++ choose b [] (numbers n (kernelVector (residues p) m D A c))) e ∙ append-nil (vectors c)
+
+  pub vectors-vector : (c : ℕ) → I c ≡ false → vectors (suc c) ≡ vectors c ++ numbers n (kernelVector (residues p) m D A c)
+  unfolding vectorAt
+  vectors-vector c e = vectors-more c ∙ ap (λ b. vectors c ++ choose b [] (numbers n (kernelVector (residues p) m D A c))) e
 
   count-more : (c : ℕ) → count (c + 1) I ≡ count c I + choose (I c) 1 0
   count-more c = rw add-one (count-next c I)
@@ -80,10 +89,8 @@ module _ {p : ℕ} (m n : ℕ) (I : Marks) (D A : Matrix (residues p)) where
   module _ {before : List ℕ} {c k : ℕ} {basis : List ℕ} (f : Filled before c k basis) where
     -- a marked column adds nothing
     pub filled-skip : I c ≡ true → Filled before (c + 1) k basis
-    unfolding vectorAt
     filled-skip e =
-        let same : vectors (c + 1) ≡ vectors c =
-        vectors-more c ∙ ap (λ b. vectors c ++ choose b [] (numbers n (kernelVector (residues p) m D A c))) e ∙ append-nil (vectors c) in
+        let same : vectors (c + 1) ≡ vectors c = ap vectors (add-one c) ∙ vectors-skip c e in
         record {
           counted = omega (arith, f .counted, count-more c ∙ ap (λ b. count c I + choose b 1 0) e);
           long = rw same (f .long);
@@ -107,12 +114,9 @@ module _ {p : ℕ} (m n : ℕ) (I : Marks) (D A : Matrix (residues p)) where
     -- a column that is not marked adds its vector
     pub filled-vector : (part : List ℕ) → I c ≡ false → part ≡ numbers n (kernelVector (residues p) m D A c)
         → Filled before (c + 1) (k + 1) (putMid (k * n) (k * n + n - k * n) basis part)
-    unfolding vectorAt
     filled-vector part e v =
         let more : vectors (c + 1) ≡ vectors c ++ part =
-        vectors-more c
-        ∙ ap (λ b. vectors c ++ choose b [] (numbers n (kernelVector (residues p) m D A c))) e
-        ∙ ap (λ l. vectors c ++ l) (sym v) in
+        ap vectors (add-one c) ∙ vectors-vector c e ∙ ap (λ l. vectors c ++ l) (sym v) in
         let size : length part ≡ n = ap length v ∙ length-tabulate n (λ t. (kernelVector (residues p) m D A c t) .value) in
         record {
           counted = omega (arith, f .counted, count-more c ∙ ap (λ b. count c I + choose b 1 0) e);

@@ -2,4 +2,5 @@ pub mod Decide
 pub mod Told
 pub mod Calls
 pub mod Parts
+pub mod Promises
 pub mod Examples

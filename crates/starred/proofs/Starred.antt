@@ -15,7 +15,6 @@ use Rattle.matrix.proofs.CheckedTables.{areBelow, areSame, isPrime, same}
 use Rattle.matrix.proofs.Examples.{starred-tables-hold}
 use Rattle.frame.specs.Examples.{FrameExample, frameExamples}
 use Rattle.frame.specs.Format.{mapLength, stands, mapByte, mapBytes, packed, valueBytes, frameOf}
-use Rattle.frame.proofs.Calls.{sizes-hold, read-as-told}
 use Rattle.frame.proofs.Examples.{starred-frames-read}
 use Rattle.ledger.specs.Calls.{laidOut, takeCall}
 use Rattle.ledger.specs.Ledger.{valueColumn}
@@ -35,12 +34,10 @@ frame-sizes : every (λ (e : FrameExample). areSizes (e .modulus) (e .size)) fra
 unfolding every frameExamples areSizes isPrime everyBelow _and_
 frame-sizes = refl
 
--- so read comes to what reading its bytes finds
+-- so read gives what the example says
 starred-frames-hold : (e : FrameExample) → List·Memᴰ e frameExamples → FrameHolds e
 starred-frames-hold e m lent long =
-    let (ok, size) = sizes-checked (e .modulus) (e .size) (every-member _ frameExamples frame-sizes e m) in
-    read-as-told (e .modulus) (e .size) (e .bytes) lent (e .multipliers) (e .value) (sizes-hold (e .modulus) (e .size) ok size) long
-    (starred-frames-read e m)
+    starred-frames-read e m (sizes-checked (e .modulus) (e .size) (every-member _ frameExamples frame-sizes e m) .0) lent long
 
 -- ---- the board
 

@@ -1,0 +1,87 @@
+-- What 01 promises of kernel and of solve, said of the outcome o of a call: of what it tells and of the numbers that it leaves in lent
+-- memory. That `kernelCall` and `solveCall` keep these promises is shown in proofs/KernelCall.antt and proofs/SolveCall.antt.
+use mathlib.Core.Path.{_≡_}
+use mathlib.Core.Bool.{false, not}
+use mathlib.Core.List.{List}
+use Prim.Native.Nat.{ℕ, _+_, _*_, _-_, _<_}
+use lib.ListN.{length, getD, drop, replicate}
+use Rattle.algebra.specs.Matrix.{Vector, sum, unit, apply, mixed}
+use Rattle.algebra.specs.Span.{Combines, IsCombination, InKernel, Solves}
+use Rattle.algebra.specs.Quasiinverse.{count}
+use Rattle.algebra.specs.Kernel.{kernelVector}
+use Rattle.algebra.specs.Solve.{mixOf}
+use Rattle.checks.specs.declared.Refusal.the-variants.{Insoluble}
+use Rattle.checks.specs.Told.{results, refused}
+use Rattle.checks.specs.Outcome.{Outcome}
+use Rattle.checks.specs.Prime.{IsModulus}
+use Rattle.field.specs.Residue.{residues, _⊗_}
+use Rattle.field.specs.Written.{numbers}
+use Rattle.words.specs.Words.{Blank}
+use Rattle.matrix.specs.Calls.{tableOf, columnsOf, tableRank, inverseOf, vectorOf, candidate}
+
+-- ---- kernel
+
+-- the k vectors of n numbers at the front of the list, vector after vector, are a basis of the kernel of A: A sends each to zero, and
+-- each vector that A sends to zero is one combination of them, and one only. "Lent: n × n numbers; .. the rest becomes 0."
+pub record IsKernelBasis (p m n : ℕ) (a : List ℕ) (k : ℕ) (basis : List ℕ) : Type 0 where
+  pub long : length basis ≡ n * n
+  pub sent : (t : ℕ) → t < k → InKernel (residues p) m n (tableOf p m n a) (tableOf p k n basis t)
+  pub spans : (x : Vector (residues p)) → InKernel (residues p) m n (tableOf p m n a) x
+      → IsCombination (residues p) k n (tableOf p k n basis) x
+  pub once : (x u v : Vector (residues p))
+      → Combines (residues p) k n (tableOf p k n basis) u x → Combines (residues p) k n (tableOf p k n basis) v x
+      → (t : ℕ) → t < k → u t ≡ v t
+  pub rest : Blank (drop (k * n) basis)
+
+module _ (p : ℕ) (ok : IsModulus p) (m n : ℕ) (a : List ℕ) where
+  -- the number of columns outside I before c: the place of its vector among the vectors
+  abbrev pub outsideBefore : ℕ → ℕ
+  outsideBefore c = count c (λ j. not (columnsOf p ok m n a j))
+
+  -- "For each column c outside I, rising, one vector: column c of 1 - DA. It has 1 at c and 0 at the other columns outside I."
+  pub record ColumnVectors (k : ℕ) (basis : List ℕ) : Type 0 where
+    pub many : outsideBefore n ≡ k
+    pub each : (c j : ℕ) → c < n → j < n → columnsOf p ok m n a c ≡ false
+        → getD basis (outsideBefore c * n + j) 0 ≡ (kernelVector (residues p) m (inverseOf p ok m n a) (tableOf p m n a) c j) .value
+    pub own : (c j : ℕ) → c < n → j < n → columnsOf p ok m n a c ≡ false → columnsOf p ok m n a j ≡ false
+        → tableOf p k n basis (outsideBefore c) j ≡ unit (residues p) j c
+
+  -- "The result is n - r", and the basis has so many vectors
+  pub record KernelDone (o : Outcome (List ℕ)) : Type 0 where
+    pub told : o .told ≡ results (n - tableRank p ok m n a)
+    pub basis : IsKernelBasis p m n a (n - tableRank p ok m n a) (o .lent)
+    pub vectors : ColumnVectors (n - tableRank p ok m n a) (o .lent)
+
+-- ---- solve
+
+-- no x has A x = w
+abbrev pub NoSolution : (p m n : ℕ) (a w : List ℕ) → Type 0
+NoSolution p m n a w = ((x : Vector (residues p)) × Solves (residues p) m n (tableOf p m n a) x (vectorOf p w)) → ⊥
+
+module _ (p : ℕ) (ok : IsModulus p) (m n : ℕ) (a w : List ℕ) where
+  -- "z (n numbers) becomes Dw, the mix u (m numbers) becomes all 0, and the result is r", and A z = w
+  pub record SystemSolved (o : Outcome (List ℕ × List ℕ)) : Type 0 where
+    pub told : o .told ≡ results (tableRank p ok m n a)
+    pub solves : Solves (residues p) m n (tableOf p m n a) (vectorOf p (o .lent .0)) (vectorOf p w)
+    pub z-long : length (o .lent .0) ≡ n
+    pub z-is : o .lent .0 ≡ numbers n (candidate p ok m n a w)
+    pub u-zeros : o .lent .1 ≡ replicate m 0
+
+  -- A(Dw) and w are the same in row i
+  abbrev pub AgreeInRow : ℕ → Type 0
+  AgreeInRow i = apply (residues p) n (tableOf p m n a) (candidate p ok m n a w) i ≡ vectorOf p w i
+
+  -- "the answer is 5 and u becomes the unit row of y minus (row y of A) times D, for the first row y where A(Dw) and w differ. Then
+  -- uA = 0, and u times w is not 0." "5 | no solution | u written, z untouched"
+  pub record SystemRefused (z : List ℕ) (o : Outcome (List ℕ × List ℕ)) : Type 0 where
+    pub told : o .told ≡ refused Insoluble
+    pub insoluble : NoSolution p m n a w
+    pub z-untouched : o .lent .0 ≡ z
+    pub y : ℕ
+    pub y-row : y < m
+    pub y-differs : AgreeInRow y → ⊥
+    pub y-first : (i : ℕ) → i < y → AgreeInRow i
+    pub u-is : o .lent .1 ≡ numbers m (mixOf (residues p) n (tableOf p m n a) (inverseOf p ok m n a) y)
+    pub u-long : length (o .lent .1) ≡ m
+    pub u-kills : (j : ℕ) → j < n → mixed (residues p) m (vectorOf p (o .lent .1)) (tableOf p m n a) j ≡ residues p .zero
+    pub u-shows : sum (residues p) m (λ t. vectorOf p (o .lent .1) t ⊗ vectorOf p w t) ≡ residues p .zero → ⊥
