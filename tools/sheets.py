@@ -6,6 +6,7 @@ ledger is a reduced echelon form that each new frame joins; primes and the bytes
 ledger solves a system for each frame instead. The example of document 01 is also written out here, and the model must print it.
 
   tools/sheets.py             writes all files again, from the repository's root
+  tools/sheets.py FOLDER      writes the streams that are too long to store, NAME.in and NAME.out, to the folder (tests/sheet/run)
 """
 import os
 import random
@@ -163,22 +164,81 @@ def heats():
     yield from ((f'heat-{n}-records', heat(rng, p, n, 3 * n)) for p, n in ((3, 5), (5, 8), (65537, 12), (2147483647, 33)))
 
 
+def mixed(rng, p, rows):
+    """A combination of the rows."""
+    factors = [rng.randrange(p) for _ in rows]
+    return [sum(f * x for f, x in zip(factors, column)) % p for column in zip(*rows)]
+
+
+def damaged(rng, frame):
+    """Too short, too long, a bit behind the last of at most seven records, a value that is no residue, or no bytes at all."""
+    return rng.choice([frame[:-1], frame + b'\0', bytes([frame[0] | 0x80]) + frame[1:], frame[:-4] + b'\xff' * 4, b''])
+
+
+def long_stream(rng, p, n, late, count):
+    """Repeats, conflicts and damaged frames to the end; of n rows the last two come late, and no record is settled before."""
+    records = [rng.randrange(p) for _ in range(n)]
+    rows = [[0] * j + [1] + [0] * (n - j - 2) + [1] * (j < n - 1) for j in range(n)]
+    starts, frames = [*range(n - 2), *late], []
+    for i in range(count):
+        first = i in starts
+        row = rows[starts.index(i)] if first else mixed(rng, p, [row for row, start in zip(rows, starts) if start < i])
+        value = sum(x * r for x, r in zip(row, records)) % p
+        if not first and rng.random() < 0.3:
+            value = (value + rng.randrange(1, p)) % p
+        frame = frame_of(n, row, value)
+        frames.append(damaged(rng, frame) if not first and rng.random() < 0.05 else frame)
+    return stream(p, n, *frames)
+
+
+def conflicts(rng, p, n):
+    """A conflict before the first row and behind every new one: with each count from 0 to n."""
+    records, heard, frames = [rng.randrange(p) for _ in range(n)], [], [([0] * n, 1)]
+    for j in rng.sample(range(n), n):
+        heard.append([1 if c == j else x for c, x in enumerate(mixed(rng, p, heard) or [0] * n)])
+        for row, off in ((heard[-1], 0), (mixed(rng, p, heard), rng.randrange(1, p))):
+            frames.append((row, (sum(x * r for x, r in zip(row, records)) + off) % p))
+    return stream(p, n, *frames)
+
+
+def made():
+    """Streams that are too long to be stored, or made for one thing, with a test that they are what they are made for."""
+    rng = random.Random(2030)
+    for p, n in ((3, 5), (2147483647, 4)):
+        data = long_stream(rng, p, n, (66000, 70050), 70200)
+        lines = sheet(data).decode().splitlines()
+        new = [i for i, line in enumerate(lines) if line.startswith('new')]
+        assert new[-2:] == [66000, 70050] and lines[-1] == 'missing 0', 'the last rows come behind 65,536 and 70,000 frames'
+        assert {line.split()[0] for line in lines[70100:70200]} == {'repeat', 'conflict', 'refused'}
+        yield f'70200-frames-modulus-{p}', data
+    for p in (2, 2147483629):
+        data = conflicts(rng, p, 64)
+        assert [line for line in sheet(data).split(b'\n') if line[:8] == b'conflict'] == [b'conflict %d' % k for k in range(65)]
+        yield f'conflicts-modulus-{p}', data
+
+
 def store(path, data):
     with open(path, 'wb') as f:
         f.write(data)
 
 
+def store_runs(folder, runs):
+    for name, data in runs:
+        store(os.path.join(folder, name + '.in'), data)
+        store(os.path.join(folder, name + '.out'), sheet(data))
+
+
 def main():
+    if len(sys.argv) > 1:
+        store_runs(sys.argv[1], made())
+        return
     root = os.path.join(os.path.dirname(os.path.abspath(__file__)), '..')
     example = stream(7, 3, *ROWS)
     assert sheet(example) == EXAMPLE
     store(os.path.join(root, 'crates/sheet/stdin'), example)
     store(os.path.join(root, 'crates/sheet/stdout'), EXAMPLE)
-    folder = os.path.join(root, 'tests/sheet')
     runs = [*cut_inputs(), *refused_inputs(), *heats()]
-    for name, data in runs:
-        store(os.path.join(folder, name + '.in'), data)
-        store(os.path.join(folder, name + '.out'), sheet(data))
+    store_runs(os.path.join(root, 'tests/sheet'), runs)
     print('%d runs, and the example' % len(runs), file=sys.stderr)
 
 

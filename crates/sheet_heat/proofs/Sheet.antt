@@ -65,7 +65,7 @@ module _ (k : ℕ) (ws mix : List ℕ) where
         let frame = take size rest in
         let taken = takeCall ws frame mix in
         framesByCalls (suc k) ws mix (high ∷ low ∷ rest)
-        ≡ byInput (frameBody size (length frame)) (endingOf ws) (λ number. refusedLine number ++ endingOf ws)
+        ≡ byInput (frameBody size (length frame)) (cutLine ++ endingOf ws) (cutLine ++ endingOf ws)
         (λ _. takenLine ws frame mix ++ framesByCalls k (taken .lent .0) (taken .lent .1) (drop size rest))
     unfolding framesByCalls frameStart
     frames-more = refl

@@ -1,17 +1,25 @@
 -- The sheet's equations, without the bound on the frames: no byte is left, a length is cut, a frame is cut, a frame is whole. A bound
--- that the bytes do not exceed makes no difference, since a frame takes two bytes at least.
+-- that the bytes do not exceed makes no difference, since a frame takes two bytes at least. Last the header's: cut, refused, opened.
 use mathlib.Core.Path.{_≡_, refl, sym, ap, _∙_}
 use mathlib.Core.List.{List, [], _∷_, _++_}
 use Prim.Native.Nat.{ℕ, zero, suc, _≤_, _<_}
 use native.Mathlib.Omega.{arith}
 use borrow.Author.Tests.{lt-ltb, le-ltb}
 use lib.Dec.{ltb}
-use lib.ListN.{length, take, drop, length-drop}
+use lib.ListN.{length, getD, take, drop, length-drop}
 use Rattle.algebra.specs.Choice.{choose}
+use Rattle.checks.specs.declared.Refusal.{Refusal}
+use Rattle.checks.specs.Refusal.{refusalNumber}
+use Rattle.checks.specs.InOrder.{FirstFailing}
 use Rattle.checks.specs.Prime.{IsModulus}
-use Rattle.codec.specs.BigEndian.{numberFrom}
-use Rattle.ledger.specs.Ledger.{Ledger}
-use Rattle.sheet_heat.specs.Sheet.{ledgerEnding, cutEnding, ledgerAfter, ledgerLine, linesWithin, linesFrom}
+use Rattle.checks.specs.Largest.{FrameSize}
+use Rattle.checks.specs.Sizes.{frameSizes}
+use Rattle.checks.proofs.Modulus.{modulus-prop}
+use Rattle.checks.proofs.InOrder.{none-left, in-order-done, in-order-refused, _and-then_}
+use Rattle.codec.specs.BigEndian.{width, numberFrom, numberAt}
+use Rattle.ledger.specs.Ledger.{Ledger, ledger}
+use Rattle.sheet_text.specs.Lines.{refusedLine}
+use Rattle.sheet_heat.specs.Sheet.{cutLine, ledgerEnding, cutEnding, ledgerAfter, ledgerLine, linesWithin, linesFrom, heatOf, sheetOf}
 
 module _ (p : ℕ) (ok : IsModulus p) (n : ℕ) where
   -- the clause of a frame whose length came
@@ -90,3 +98,31 @@ module _ (p : ℕ) (ok : IsModulus p) (n : ℕ) where
           within-frame (suc (length rest)) l high low rest h
           ∙ ap (λ x. ledgerLine p ok n l (take size rest) ++ x)
           (lines-within (suc (length rest)) (length (drop size rest)) after (drop size rest) (omega (arith, length-drop size rest)) (omega arith))
+
+-- ---- the header
+
+pub sheet-cut-header : (input : List ℕ) → length input < 5 → sheetOf input ≡ cutLine
+unfolding sheetOf
+sheet-cut-header input h = rw (lt-ltb (length input) 5 h)
+
+module _ (input : List ℕ) (whole : 5 ≤ length input) where
+  abbrev modulus : ℕ
+  modulus = numberAt width input 0
+
+  abbrev records : ℕ
+  records = getD input 4 0
+
+  sheet-heat : sheetOf input ≡ heatOf modulus records (drop 5 input)
+  unfolding sheetOf
+  sheet-heat = rw (le-ltb (length input) 5 whole)
+
+  pub sheet-refused : {k : Refusal} → FirstFailing (frameSizes modulus records) k → sheetOf input ≡ refusedLine (refusalNumber k)
+  unfolding heatOf
+  sheet-refused f = sheet-heat ∙ in-order-refused _ _ f
+
+  pub sheet-opened : (ok : IsModulus modulus) → FrameSize records → sheetOf input ≡ linesFrom modulus ok records (ledger []) (drop 5 input)
+  unfolding heatOf
+  sheet-opened ok small =
+      sheet-heat
+      ∙ in-order-done _ _ _ (ok and-then small and-then none-left)
+      (λ given. ap (λ m. linesFrom modulus m records (ledger []) (drop 5 input)) (modulus-prop modulus (given .0) ok))

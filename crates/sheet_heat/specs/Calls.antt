@@ -13,7 +13,7 @@ use Rattle.ledger.specs.Calls.{openCall, takeCall, showCall}
 use Rattle.sheet_text.specs.Lines.{frameLine, refusedLine}
 use Rattle.sheet_text.specs.Written.{Printed}
 use Rattle.sheet_text.specs.Input.{headerCall, frameStart, frameBody}
-use Rattle.sheet_heat.specs.Sheet.{carried, endingFrom}
+use Rattle.sheet_heat.specs.Sheet.{cutLine, carried, endingFrom}
 
 -- the line of a frame: what take tells, and the count that it leaves
 unfoldable pub takenLine : (ws frame mix : List ℕ) → List ℕ
@@ -31,30 +31,30 @@ endingOf ws = let n = sizeWord ws in endingFrom n (showCall ws (replicate n 0) (
 
 -- ---- a program that reads, calls and writes
 
--- going on by what is told of the input (`frameTold`): no value is its end, a value the length of a frame, and 6 a cut one
+-- going on by what is told of the input (`frameTold`): 0 with no value is its end, 0 with a value the length of a frame, else it is cut
 abbrev byValue : {A : Type 0} → List ℤ → A → (ℕ → A) → A
 byValue [] end frame = end
 byValue (z ∷ zs) end frame = frame (natAbs z)
 
-abbrev pub byInput : {A : Type 0} → Told → A → (ℕ → A) → (ℕ → A) → A
-byInput t end cut frame = choose (eqb (t .number) 0) (byValue (t .values) end frame) (cut (t .number))
+abbrev pub byInput : {A : Type 0} → Told → (end cut : A) → (ℕ → A) → A
+byInput t end cut frame = choose (eqb (t .number) 0) (byValue (t .values) end frame) cut
 
 -- the frames of the bytes, one after the other and no more than the budget: the two bytes of a length, or as many as came, then
 -- those of the frame, or as many as came; each take is lent the board and the mix as the last one left them
 unfoldable pub framesByCalls : (budget : ℕ) → (ws mix bytes : List ℕ) → List ℕ
 framesByCalls zero ws mix bytes = endingOf ws
 framesByCalls (suc k) ws mix bytes =
-    let cut : ℕ → List ℕ = λ number. refusedLine number ++ endingOf ws in
+    let cut = cutLine ++ endingOf ws in
     let rest = drop 2 bytes in
     byInput (frameStart (take 2 bytes)) (endingOf ws) cut
     (λ size.
     let frame = take size rest in
     let taken = takeCall ws frame mix in
-    byInput (frameBody size (length frame)) (endingOf ws) cut
+    byInput (frameBody size (length frame)) cut cut
     (λ _. takenLine ws frame mix ++ framesByCalls k (taken .lent .0) (taken .lent .1) (drop size rest)))
 
--- the whole input: the header, or as much of it as came, then open, then the frames; of the memory lent for n records, the words of
--- a board and a mix, any contents
+-- the whole input: the header, or as much of it as came, then open, then the frames. What is lent for n records, the words of a board
+-- and a mix, has any contents.
 unfoldable pub sheetByCalls : (board mix : ℕ → List ℕ) (budget : ℕ) → List ℕ → List ℕ
 sheetByCalls board mix budget input =
     let header = headerCall (take 5 input) in
@@ -64,4 +64,4 @@ sheetByCalls board mix budget input =
     (choose (eqb (opened .told .number) 0)
     (framesByCalls budget (opened .lent) (mix n) (drop 5 input))
     (refusedLine (opened .told .number)))
-    (refusedLine (header .number))
+    cutLine

@@ -10,7 +10,7 @@ ghost use Rattle.board_solve.specs.Told.{takeTold};
 ghost use Rattle.sheet_text.specs.Lines.{wordLine, refusedLine, missingLine, frameLine, recordText, recordLine};
 ghost use Rattle.sheet_text.specs.Written.{Printed};
 ghost use Rattle.sheet_text.specs.Input.{headerTold, headerCall, frameTold, frameStart, frameBody, lengthIn};
-use board_calls::TakeAnswer;
+use board_solve::TakeAnswer;
 use checks::Refusal;
 
 // What the first bytes of the input are: a cut header, or p and n.
