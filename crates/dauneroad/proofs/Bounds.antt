@@ -8,6 +8,7 @@ use lib.IntN.{ℤ}
 use lib.ListN.{length}
 use Rattle.algebra.proofs.Choice.{pick-elim}
 use Rattle.checks.specs.declared.Refusal.{Refusal}
+use Rattle.checks.specs.declared.Refusal.the-variants.{Length, Withdrawal}
 use Rattle.checks.specs.Told.{refused}
 use Rattle.checks.specs.Outcome.{Outcome}
 use Rattle.checks.proofs.InOrder.{in-order-elim}
@@ -74,7 +75,7 @@ entries-most ws b = omega (arith, words-count ws, b .count, b .size .1)
 
 withdrew-small : (l : Ledger) (t : ℕ) (r : Outcome Ledger) → length (l .entries) ≤ 64 → Withdrew l t r → Small (r .told)
 withdrew-small l t r h (dropped s) = omega arith
-withdrew-small l t r h (overlong k s) = small-refusal k
+withdrew-small l t r h overlong = small-refusal Withdrawal
 
 pub small-withdraw : (ws : List ℕ) (t : ℕ) (o : Outcome (List ℕ)) → o ≡ withdrawCall ws t → Small (o .told)
 unfolding withdrawCall
@@ -85,7 +86,7 @@ small-withdraw ws t o =
 
 showed-small : (n : ℕ) (l : Ledger) (r : Outcome (List ℕ × List ℤ)) → n ≤ 64 → Showed n l r → Small (r .told)
 showed-small n l r h (answered lent) = omega arith
-showed-small n l r h (unshown k s lent) = small-refusal k
+showed-small n l r h (unshown lent) = small-refusal Length
 
 pub small-show : (ws marks : List ℕ) (zs : List ℤ) (o : Outcome (List ℕ × List ℤ)) → o ≡ showCall ws marks zs → Small (o .told)
 unfolding showCall

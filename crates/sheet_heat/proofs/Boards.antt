@@ -1,22 +1,16 @@
 -- A board stays one: open writes one where it is accepted, and take leaves one. On a board, show with marks and numbers of the
 -- board's own n is not refused, and nothing of what is lent to it comes through.
-use mathlib.Core.Path.{_≡_, refl, sym, ap, _∙_, subst}
+use mathlib.Core.Path.{_≡_, sym, ap, _∙_, subst}
 use mathlib.Core.List.{List, []}
 use Prim.Native.Nat.{ℕ, _-_}
 use lib.IntN.{ℤ}
 use lib.ListN.{length}
-use Rattle.checks.specs.declared.Refusal.the-variants.{Length}
-use Rattle.checks.specs.InOrder.{passed, _else_, _⨾_}
-use Rattle.checks.specs.Decide.{long?}
-use Rattle.checks.specs.Prime.{IsModulus}
-use Rattle.checks.specs.Largest.{FrameSize}
-use Rattle.checks.specs.Told.{done, results}
+use Rattle.checks.specs.Told.{results}
 use Rattle.checks.specs.Outcome.{Outcome, outcome}
-use Rattle.checks.proofs.InOrder.{none-left, hold-and-then, in-order-done, _and-then_}
 use Rattle.field.specs.Written.{tabulate}
 use Rattle.ledger.specs.Steps.{ledgerTake, tabulateℤ, shownMark, shownNumber}
 use Rattle.ledger.specs.History.{Call, ledgerStep}
-use Rattle.ledger.specs.Board.{IsBoard, boardLength, modulusWord, sizeWord, entriesOf, ledgerOf, layout}
+use Rattle.ledger.specs.Board.{IsBoard, modulusWord, sizeWord, entriesOf, ledgerOf}
 use Rattle.ledger.specs.Calls.{openCall, takeCall, showCall}
 use Rattle.ledger.proofs.LayoutBoard.{layout-board}
 use Rattle.ledger.proofs.Parse.{board-proper}
@@ -24,16 +18,6 @@ use Rattle.ledger.proofs.Proper.{empty-proper, step-proper}
 use Rattle.ledger.proofs.LedgerLaws.{show-accepted}
 use Rattle.ledger.proofs.WordsCalls.{take-on-board, show-on-board}
 use Rattle.ledger.proofs.Demand3.{open-accepted}
-
--- open with a modulus, a size and words of the length named
-pub open-accepts : (p n : ℕ) (ws : List ℕ) → IsModulus p → FrameSize n → length ws ≡ boardLength n
-    → openCall p n ws ≡ outcome done (layout p n [])
-unfolding openCall
-open-accepts p n ws ok small h =
-    in-order-done _ _ _
-    (hold-and-then {more = λ _. long? ws (boardLength n) else Length ⨾ passed} (ok and-then small and-then none-left)
-    (λ _. h and-then none-left))
-    (λ _. refl)
 
 pub opened-board : (p n : ℕ) (ws : List ℕ) → openCall p n ws .told .number ≡ 0 → IsBoard (openCall p n ws .lent)
 opened-board p n ws e =

@@ -31,13 +31,13 @@ use Rattle.ledger.specs.Proper.{Proper}
 use Rattle.ledger.proofs.LayoutBoard.{layout-size, layout-count}
 use Rattle.ledger.proofs.Proper.{empty-proper, step-proper}
 use Rattle.ledger.proofs.WordsCalls.{take-at-layout, show-at-layout}
+use Rattle.ledger.proofs.Demand3.{open-done}
 use Rattle.board_calls.proofs.CallOpen.{open-no-sizes}
 use Rattle.sheet_text.specs.Lines.{frameLine, refusedLine}
 use Rattle.sheet_text.specs.Input.{headerCall, frameStart, frameBody}
 use Rattle.sheet_text.proofs.Input.{body-cut, body-whole}
 use Rattle.sheet_heat.specs.Sheet.{cutLine, endingFrom, ledgerEnding, cutEnding, ledgerTakes, ledgerLine, linesWithin, heatOf, sheetOf}
 use Rattle.sheet_heat.specs.Calls.{takenLine, endingOf, byInput, framesByCalls, sheetByCalls}
-use Rattle.sheet_heat.proofs.Boards.{open-accepts}
 use Rattle.sheet_heat.proofs.Mixes.{take-same, take-long}
 use Rattle.sheet_heat.proofs.SheetLaws.{within-end, within-cut-length, within-cut-frame, within-frame}
 
@@ -168,7 +168,7 @@ module _ (board mix : ℕ → List ℕ) (board-long : (n : ℕ) → n ≤ larges
   opened-done : (budget p n : ℕ) (bytes : List ℕ) (ok : IsModulus p) → FrameSize n → length bytes ≤ budget
       → opened budget p n bytes ≡ linesWithin p ok n (length bytes) (ledger []) bytes
   opened-done budget p n bytes ok small h =
-      rw (open-accepts p n (board n) ok small (board-long n (small .1)))
+      rw (open-done p n (board n) ok small (board-long n (small .1)))
       (frames-by-calls p n ok small budget (length bytes) (ledger []) (empty-proper p n) (mix n) (mix-long n (small .1)) bytes h (omega arith))
 
   heat-by-calls : (budget p n : ℕ) (bytes : List ℕ) → length bytes ≤ budget → opened budget p n bytes ≡ heatOf p n bytes
