@@ -8,6 +8,7 @@ use native.Mathlib.Omega.{arith}
 use lib.IntN.{ℤ}
 use lib.ListN.{length, getD, replicate, length-append, length-replicate, List·getD-append}
 use lib.Seq.{getD-append-add}
+use Rattle.algebra.specs.Matrix.{Vector}
 use Rattle.algebra.proofs.Applied as applied
 use Rattle.checks.specs.Prime.{IsModulus}
 use Rattle.checks.specs.Refusal.{IsRefusal}
@@ -28,6 +29,21 @@ use Rattle.ledger.specs.Proper.{Proper}
 use Rattle.ledger.specs.Demand3.{Shows, IsMix}
 use Rattle.ledger.proofs.LedgerSteps.{Took, new, repeat, conflict, refusal}
 use Rattle.ledger.proofs.LedgerLaws.{length-tabulateℤ, getD-tabulateℤ, combination-once, shown-exactly, marked-exactly, show-accepted}
+
+-- a mix has n words
+mix-words-long : (p n : ℕ) (es : List Entry) (u : Vector (residues p)) → length es ≤ n → length (mixWords p n es u) ≡ n
+unfolding mixWords
+mix-words-long p n es u fits =
+    length-append (numbers (length es) u) (replicate (n - length es) 0)
+    ∙ omega (arith, length-tabulate (length es) (λ t. u t .value), length-replicate {A = ℕ} (n - length es) 0)
+
+-- and so has the mix that take leaves, where it was lent n
+pub took-long : (p : ℕ) (ok : IsModulus p) (n : ℕ) (l : Ledger) (frame mix : List ℕ) {r : Outcome (Ledger × List ℕ)}
+    → Took p ok n l frame mix r → length (l .entries) ≤ n → length mix ≡ n → length (r .lent .1) ≡ n
+took-long p ok n l frame mix (new xs v e f) fits h = h
+took-long p ok n l frame mix (repeat xs v e c g) fits h = mix-words-long p n (l .entries) (c .0) fits
+took-long p ok n l frame mix (conflict xs v e c g) fits h = mix-words-long p n (l .entries) (c .0) fits
+took-long p ok n l frame mix (refusal k i) fits h = h
 
 module _ (p : ℕ) (ok : IsModulus p) (n : ℕ) (es : List Entry) (proper : Proper p n es) where
   -- ---- show
@@ -82,12 +98,9 @@ module _ (p : ℕ) (ok : IsModulus p) (n : ℕ) (es : List Entry) (proper : Prop
         ∙ zeros-at (n - length es) (i - length es)
 
     pub mix-is : IsMix p n es xs (mixWords p n es (c .0))
-    unfolding mixWords
     mix-is =
         record {
-          long =
-              length-append (numbers (length es) (c .0)) (replicate (n - length es) 0)
-              ∙ omega (arith, proper .fits, length-tabulate (length es) (λ t. c .0 t .value), length-replicate {A = ℕ} (n - length es) 0);
+          long = mix-words-long p n es (c .0) (proper .fits);
           below = λ i h. rw (mixed-at i h) (value-below (omega (arith, ok .prime .two-or-more)) (c .0 i));
           combines = λ j l.
               c .1 j l

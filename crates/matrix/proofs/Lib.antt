@@ -10,5 +10,6 @@ pub mod Systems
 pub mod Basis
 pub mod Checker
 pub mod CheckedTables
+pub mod InverseCall
 pub mod Examples
 pub mod Order

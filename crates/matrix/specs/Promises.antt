@@ -1,13 +1,14 @@
--- What 01 promises of kernel and of solve, said of the outcome o of a call: of what it tells and of the numbers that it leaves in lent
--- memory. That `kernelCall` and `solveCall` keep these promises is shown in proofs/KernelCall.antt and proofs/SolveCall.antt.
+-- What 01 promises of quasiinverse, kernel and solve, said of the outcome o of a call: of what it tells and of the numbers that it
+-- leaves in lent memory. That the calls keep these promises is shown in proofs/InverseCall.antt, KernelCall.antt and SolveCall.antt.
 use mathlib.Core.Path.{_≡_}
 use mathlib.Core.Bool.{false, not}
+use mathlib.Core.Logic.{_⊎_}
 use mathlib.Core.List.{List}
 use Prim.Native.Nat.{ℕ, _+_, _*_, _-_, _<_}
 use lib.ListN.{length, getD, drop, replicate}
 use Rattle.algebra.specs.Matrix.{Vector, sum, unit, apply, mixed}
-use Rattle.algebra.specs.Span.{Combines, IsCombination, InKernel, Solves}
-use Rattle.algebra.specs.Quasiinverse.{count}
+use Rattle.algebra.specs.Span.{Combines, IsCombination, RowDepends, ColumnDepends, InKernel, Solves}
+use Rattle.algebra.specs.Quasiinverse.{count, IsQuasiinverse, IsInverseOn}
 use Rattle.algebra.specs.Kernel.{kernelVector}
 use Rattle.algebra.specs.Solve.{mixOf}
 use Rattle.checks.specs.declared.Refusal.the-variants.{Insoluble}
@@ -16,8 +17,29 @@ use Rattle.checks.specs.Outcome.{Outcome}
 use Rattle.checks.specs.Prime.{IsModulus}
 use Rattle.field.specs.Residue.{residues, _⊗_}
 use Rattle.field.specs.Written.{numbers}
-use Rattle.words.specs.Words.{Blank}
+use Rattle.words.specs.Words.{Below, Blank}
+use Rattle.matrix.specs.Parts.{marked}
 use Rattle.matrix.specs.Calls.{tableOf, columnsOf, tableRank, inverseOf, vectorOf, candidate}
+
+-- ---- quasiinverse
+
+-- marks of the positions below n that depend on none before them: "1 in I, else 0"
+pub record FreeMarks (n : ℕ) (Depends : ℕ → Type 0) (marks : List ℕ) : Type 0 where
+  pub long : length marks ≡ n
+  pub each : (c : ℕ) → c < n → ((getD marks c 0 ≡ 1) × (Depends c → ⊥)) ⊎ ((getD marks c 0 ≡ 0) × Depends c)
+
+-- "I is the set of columns that are no combination of the columns before them, J the same for rows. .. I and J have r members each ..
+-- D, of n rows and m columns, is the inverse of A restricted to J and I, and 0 outside I and J. So ADA = A and DAD = D. .. The result
+-- is r." All of it of the numbers that are left: D, the column marks and the row marks.
+pub record QuasiinverseDone (p m n : ℕ) (a : List ℕ) (o : Outcome (List ℕ × (List ℕ × List ℕ))) : Type 0 where
+  pub columns : FreeMarks n (ColumnDepends (residues p) m (tableOf p m n a)) (o .lent .1 .0)
+  pub rows : FreeMarks m (RowDepends (residues p) n (tableOf p m n a)) (o .lent .1 .1)
+  pub told : o .told ≡ results (count n (marked (o .lent .1 .0)))
+  pub equally-many : count n (marked (o .lent .1 .0)) ≡ count m (marked (o .lent .1 .1))
+  pub d-long : length (o .lent .0) ≡ n * m
+  pub d-below : Below p (o .lent .0)
+  pub inverse : IsInverseOn (residues p) m n (tableOf p m n a) (tableOf p n m (o .lent .0)) (marked (o .lent .1 .0)) (marked (o .lent .1 .1))
+  pub quasiinverse : IsQuasiinverse (residues p) m n (tableOf p m n a) (tableOf p n m (o .lent .0))
 
 -- ---- kernel
 
