@@ -9,13 +9,13 @@ use lib.ListN.{length}
 use Rattle.checks.specs.declared.Refusal.{Refusal}
 use Rattle.checks.specs.Largest.{FrameSize}
 use Rattle.checks.specs.Prime.{IsModulus}
-use Rattle.checks.specs.Told.{Told, gives, refused}
+use Rattle.checks.specs.Told.{gives}
 use Rattle.checks.specs.Outcome.{Outcome, outcome, untouched}
 use Rattle.checks.specs.declared.Refusal.the-variants.{Length}
 use Rattle.checks.specs.InOrder.{passed, _else_, _⨾_, andThen, AllHold, FirstFailing}
 use Rattle.checks.specs.Decide.{long?}
 use Rattle.checks.specs.Sizes.{frameSizes}
-use Rattle.checks.proofs.Refusals.{refusal-number}
+use Rattle.checks.proofs.Refusals.{refusal-number, given-value, refused-gives-none}
 use Rattle.checks.proofs.InOrder.{none-left, in-order-done, in-order-refused, in-order-elim, in-order-map, in-order-then, hold-and-then, fails-in-front, fails-then, _and-then_}
 use Rattle.frame.specs.Format.{frameOf}
 use Rattle.frame.specs.Reading.{frameChecks, Found, accepted, rejected, readFrame}
@@ -82,14 +82,11 @@ pub seal-told : (p n : ℕ) (zs : List ℤ) (xs : List ℕ) (v : ℕ) → sealCa
 unfolding sealCall
 seal-told p n zs xs v =
     in-order-elim _ _ (λ (o : Outcome (Unit {0})). o .told ≡ gives (pos v) → v ≡ sealed p n zs xs)
-    (λ hs e. sym (same e))
-    (λ k _ e. absurd (no-value k e))
+    (λ hs e. same (given-value e))
+    (λ k _ e. absurd (refused-gives-none k (pos v) e))
   where
-    same : gives (pos (sealed p n zs xs)) ≡ gives (pos v) → sealed p n zs xs ≡ v
-    same e = let values = ap (λ (t : Told). t .values) e in cc
-
-    no-value : (k : Refusal) → refused k ≡ gives (pos v) → ⊥
-    no-value k e = omega (arith, refusal-number k, ap (λ (t : Told). t .number) e)
+    same : pos (sealed p n zs xs) ≡ pos v → v ≡ sealed p n zs xs
+    same e = cc
 
 -- what read told, where the sizes hold and n numbers were lent: what reading found
 pub read-told : (p n : ℕ) (bytes lent xs : List ℕ) (v : ℕ) → AllHold (frameSizes p n) → length lent ≡ n

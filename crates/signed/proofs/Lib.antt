@@ -1,3 +1,4 @@
 pub mod Readings
 pub mod Words
 pub mod Calls
+pub mod RoundCalls
