@@ -2,13 +2,13 @@
 -- they meet the standing ones after every list of calls. A combination of standing frames then has the combination's value, so no
 -- frame is refused by 9, and what all assignments agree on is the record. The other way round, a 9 shows that there are no such
 -- records.
-use mathlib.Core.Path.{_≡_, refl, sym, ap, _∙_, subst}
+use mathlib.Core.Path.{_≡_, refl, sym, ap, _∙_, subst, subst₂}
 use mathlib.Core.List.{List, [], _∷_, List·Memᴰ, List·Memᴰ·head, List·Memᴰ·tail, Memᴰ·append-left, Memᴰ·append-right}
 use Prim.Native.Nat.{ℕ, _-_, _<_}
 use native.Mathlib.Nat.{not-suc-le-zero, sub-le}
 use native.Mathlib.Omega.{arith}
 use lib.IntN.{ℤ, pos}
-use lib.ListN.{length, getD, take}
+use lib.ListN.{length, getD, take, replicate, length-replicate}
 use lib.Seq.{length-take-le, getD-take}
 use Rattle.algebra.specs.Ring.{IsCommutativeRing}
 use Rattle.algebra.specs.Matrix.{apply, mixed}
@@ -17,6 +17,8 @@ use Rattle.algebra.proofs.Applied as applied
 use Rattle.checks.specs.Prime.{IsModulus}
 use Rattle.checks.specs.Largest.{FrameSize}
 use Rattle.checks.specs.Refusal.{IsRefusal}
+use Rattle.checks.specs.Told.{Told, results}
+use Rattle.checks.proofs.Refusals.{given-value}
 use Rattle.checks.specs.Outcome.{Outcome}
 use Rattle.field.specs.Residue.{reduce, residues, _⊗_}
 use Rattle.field.proofs.Residues.{reduce-small}
@@ -24,6 +26,8 @@ use Rattle.field.proofs.Field.{residues-field}
 use Rattle.signed.specs.Reading.{reading, residueOf}
 use Rattle.signed.proofs.Readings.{reading-of-residue}
 use Rattle.frame.specs.Reading.{accepted, readFrame}
+use Rattle.frame.specs.Calls.{readCall, writeCall}
+use Rattle.frame.proofs.RoundCalls.{write-then-read}
 use Rattle.frame.proofs.Calls.{sizes-hold, seal-told, read-as-told}
 use Rattle.frame.proofs.RecordsMeet.{sealed-met}
 use Rattle.ledger.specs.Ledger.{Entry, entry, noEntry, Ledger, ledger, Assignment, Meets, MeetsAll, InSpan, GivesValue, multiplierRows, valueColumn}
@@ -37,6 +41,21 @@ use Rattle.ledger.proofs.LedgerSteps.{Took, new, repeat, conflict, refu
 use Rattle.ledger.proofs.LedgerSteps.{Showed, answered, unshown, showed}
 use Rattle.ledger.proofs.Demand3.{open-accepted}
 use Rattle.ledger.proofs.DemandWhole.{turn-replied, demand-3}
+
+-- what the console sends is honest: the frame that write leaves, for a value that seal gave, comes from the records
+pub written-comes-from : (p n : ℕ) (zs : List ℤ) (xs : List ℕ) (v : ℕ) → SealsAs p n zs xs v
+    → (lent : List ℕ) (k : ℕ) → writeCall p n xs v lent .told ≡ results k → ComesFrom p n zs (take k (writeCall p n xs v lent .lent))
+written-comes-from p n zs xs v seals lent k e ys w reads =
+    let number = ap (λ (t : Told). t .number) e in
+    let done = write-then-read p n xs v lent (λ r. omega arith) in
+    let same : done .k ≡ k = omega (arith, ap (λ (t : Told). t .number) (done .told)) in
+    let read =
+    sym (reads (replicate n 0) (length-replicate n 0))
+    ∙ ap (λ q. readCall p n (take q (writeCall p n xs v lent .lent)) (replicate n 0)) (sym same)
+    ∙ done .reads (replicate n 0) (length-replicate n 0) in
+    let value = given-value (ap (λ (o : Outcome (List ℕ)). o .told) read) in
+    let w-is : v ≡ w = cc in
+    subst₂ (SealsAs p n zs) (sym (ap (λ (o : Outcome (List ℕ)). o .lent) read)) w-is seals
 
 module _ (p : ℕ) (ok : IsModulus p) (n : ℕ) where
   L : IsCommutativeRing (residues p)
