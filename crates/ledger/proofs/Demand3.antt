@@ -1,154 +1,172 @@
--- The heart of demand 3: from the board of an accepted open, every list of calls leaves the board, the answers and the lent memory
--- that the ledger says. Each call on the layout of a proper ledger is the ledger's step (proofs/WordsCalls.antt), which keeps the
--- ledger proper (proofs/Proper.antt), so it goes by induction over the list. Below it: what refused calls and withdrawals leave.
--- The whole demand is `demand-3` (proofs/DemandWhole.antt).
-use mathlib.Core.Path.{_≡_, refl, sym, ap, _∙_, subst}
-use mathlib.Core.List.{List, [], _∷_, _++_}
-use Prim.Native.Nat.{ℕ, _+_, _-_}
-use native.Mathlib.Omega.{arith}
+-- Demand 3, whole: every list of calls on the board that an accepted open wrote has the record of specs/Demand3.antt. The board
+-- reached is the layout of the ledger's entries (Histories), which are proper, so that the laws of a proper ledger hold of it; a call
+-- of the list is the ledger's step on what stood before it (Turns).
+use mathlib.Core.Path.{_≡_, sym, ap, _∙_, subst, subst₂}
+use mathlib.Core.Logic.{_⊎_}
+use mathlib.Core.List.{List, [], _∷_, _++_, map, Perm, append-assoc, List·Memᴰ}
+use Prim.Native.Nat.{ℕ, _+_, _-_, _≤_}
 use lib.IntN.{ℤ}
-use lib.ListN.{length, take, length-append}
-use lib.Seq.{take-append-seam}
+use lib.ListN.{length, getD, length-map}
 use Rattle.checks.specs.Prime.{IsModulus}
-use Rattle.checks.specs.Largest.{FrameSize}
 use Rattle.checks.specs.Refusal.{IsRefusal}
-use Rattle.checks.specs.Told.{done}
-use Rattle.checks.specs.Outcome.{Outcome, outcome}
-use Rattle.checks.proofs.Refusals.{refusal-number}
-use Rattle.checks.proofs.InOrder.{none-left, in-order-done, in-order-elim, _and-then_}
-use Rattle.ledger.specs.Ledger.{Entry, Ledger, ledger}
-use Rattle.ledger.specs.Steps.{ledgerWithdraw}
-use Rattle.ledger.specs.Board.{modulusWord, sizeWord, boardLength, layout, boardOf, ledgerOf, IsBoard}
-use Rattle.ledger.specs.Decide.{board?}
-use Rattle.ledger.specs.Calls.{openCall, takeCall, withdrawCall}
-use Rattle.ledger.specs.Turns.{replyOf}
-use Rattle.ledger.specs.History.{Call, reply, After, after, ledgerStep, boardStep, run, ledgerRun, boardRun, onBoard}
-use Rattle.ledger.specs.Heard.{NoWithdrawal}
+use Rattle.frame.specs.Reading.{frameMultipliers}
+use Rattle.ledger.specs.Ledger.{Ledger, ledger}
+use Rattle.ledger.specs.Board.{countWord, layout}
+use Rattle.ledger.specs.Calls.{openCall}
+use Rattle.ledger.specs.History.{Call, Reply, After, ledgerStep, boardStep, ledgerRun, boardRun}
+use Rattle.ledger.specs.Turns.{Turn, noReply, replyOf, got, left}
+use Rattle.ledger.specs.Heard.{NoWithdrawal, news, heard}
+use Rattle.ledger.specs.Settle.{AllSettled, unitTake}
 use Rattle.ledger.specs.Proper.{Proper}
-use Rattle.ledger.proofs.Proper.{empty-proper, step-proper}
-use Rattle.ledger.proofs.Parse.{board-layout}
-use Rattle.ledger.proofs.WordsCalls.{take-on-board, take-off-board, withdraw-on-board, withdraw-off-board, take-at-layout, withdraw-at-layout}
-use Rattle.ledger.proofs.WordsCalls.{show-at-layout}
-use Rattle.ledger.proofs.LedgerSteps.{took, withdrew}
-use Rattle.ledger.proofs.LedgerRuns.{run-append, only-appends, took-refused, withdrew-refused}
+use Rattle.ledger.specs.Demand3.{Shows, IsMix, Counted, freshBoard, wordsAfter, repliesTo, standing, replyAt, Demand3}
+use Rattle.ledger.proofs.LayoutBoard.{layout-count}
+use Rattle.ledger.proofs.Proper.{empty-proper}
+use Rattle.ledger.proofs.LedgerRuns.{run-append, run-proper, step-not-eleven, step-counted}
+use Rattle.ledger.proofs.LedgerLaws.{standing-met}
+use Rattle.ledger.proofs.LedgerSteps.{took}
+use Rattle.ledger.proofs.Histories.{open-accepted, history, board-as-ledger, refused-keeps, withdrawal-restores}
+use Rattle.ledger.proofs.Turns.{board-once, ledger-once, replies-many, turn-left, turn-answered}
+use Rattle.ledger.proofs.RankLedger.{ledger-rank, heard-rank}
+use Rattle.ledger.proofs.Missing as missing
+use Rattle.ledger.proofs.Shown.{show-shows, take-mixes}
 
--- ---- an accepted open
+module _ (p : ℕ) (ok : IsModulus p) (n : ℕ) (ws : List ℕ) (done : openCall p n ws .told .number ≡ 0) where
+  -- ---- the board that a list of calls has reached
 
--- what an open has done that is told 0
-pub record AcceptedOpen (p n : ℕ) (o : Outcome (List ℕ)) : Type 0 where
-  pub prime : IsModulus p
-  pub size : FrameSize n
-  pub board : o .lent ≡ layout p n []
+  pub standing-proper : (cs : List Call) → Proper p n (standing p ok n cs)
+  standing-proper cs = run-proper p ok n (ledger []) (empty-proper p n) cs
 
-pub open-accepted : (p n : ℕ) (ws : List ℕ) → openCall p n ws .told .number ≡ 0 → AcceptedOpen p n (openCall p n ws)
-unfolding openCall
-open-accepted p n ws =
-    in-order-elim _ _ (λ o. o .told .number ≡ 0 → AcceptedOpen p n o)
-    (λ hs _. record { prime = hs .0; size = hs .1 .0; board = refl })
-    (λ k _ e. absurd (omega (arith, refusal-number k)))
+  reached-layout : (cs : List Call) → wordsAfter p n ws cs ≡ layout p n (standing p ok n cs)
+  reached-layout cs = ap (λ (a : After (List ℕ)). a .state) (board-as-ledger p n ws ok done cs)
 
--- with a modulus, a size and a board's length open is accepted, and writes a fresh board
-pub open-done : (p n : ℕ) (ws : List ℕ) → IsModulus p → FrameSize n → length ws ≡ boardLength n
-    → openCall p n ws ≡ outcome done (layout p n [])
-unfolding openCall
-open-done p n ws ok size long = in-order-done _ _ _ (ok and-then size and-then long and-then none-left) (λ _. refl)
+  reached-count : (cs : List Call) → countWord (wordsAfter p n ws cs) ≡ length (standing p ok n cs)
+  reached-count cs = ap (λ b. countWord b) (reached-layout cs) ∙ layout-count p n (standing p ok n cs)
 
--- ---- a list of calls
+  pub replies-same : (cs : List Call) → repliesTo p n ws cs ≡ ledgerRun p ok n (ledger []) cs .replies
+  replies-same cs = ap (λ (a : After (List ℕ)). a .replies) (board-as-ledger p n ws ok done cs)
 
-module _ (p n : ℕ) (ok : IsModulus p) (size : FrameSize n) where
-  -- a call on the layout of a proper ledger is the ledger's step
-  step-at-layout : (l : Ledger) → Proper p n (l .entries) → (c : Call)
-      → boardStep (boardOf p n l) c ≡ onBoard p n (ledgerStep p ok n l c)
-  unfolding boardStep ledgerStep
-  step-at-layout l proper (Call.take frame mix) =
-      ap (λ (r : Outcome (List ℕ × List ℕ)). after (r .lent .0) (reply (r .told) (r .lent .1) [] ∷ []))
-      (take-at-layout p n (l .entries) ok size proper frame mix)
-  step-at-layout l proper (Call.withdraw t) =
-      ap (λ (r : Outcome (List ℕ)). after (r .lent) (reply (r .told) [] [] ∷ [])) (withdraw-at-layout p n (l .entries) ok size proper t)
-  step-at-layout l proper (Call.show marks numbers) =
-      ap (λ (r : Outcome (List ℕ × List ℤ)). after (boardOf p n l) (reply (r .told) (r .lent .0) (r .lent .1) ∷ []))
-      (show-at-layout p n (l .entries) ok size proper marks numbers)
+  -- further calls from there: the ledger goes on
+  further-standing : (cs ds : List Call)
+      → ledgerRun p ok n (ledger (standing p ok n cs)) ds .state .entries ≡ standing p ok n (cs ++ ds)
+  further-standing cs ds = sym (ap (λ (a : After _). a .state .entries) (run-append (ledgerStep p ok n) (ledger []) cs ds))
 
-  -- and so is a list of calls
-  pub history : (l : Ledger) → Proper p n (l .entries) → (cs : List Call)
-      → boardRun (boardOf p n l) cs ≡ onBoard p n (ledgerRun p ok n l cs)
-  unfolding run
-  history l proper [] = refl
-  history l proper (c ∷ cs) =
-      ap (λ (a : After (List ℕ)). let rest = run boardStep (a .state) cs in after (rest .state) (a .replies ++ rest .replies))
-      (step-at-layout l proper c)
-      ∙ ap (λ (a : After (List ℕ)). after (a .state) (ledgerStep p ok n l c .replies ++ a .replies))
-      (history (ledgerStep p ok n l c .state) (step-proper p n (l .entries) proper ok c) cs)
+  further-replies : (cs ds : List Call)
+      → boardRun (wordsAfter p n ws cs) ds .replies ≡ ledgerRun p ok n (ledger (standing p ok n cs)) ds .replies
+  further-replies cs ds =
+      ap (λ b. boardRun b ds .replies) (reached-layout cs)
+      ∙ ap (λ (a : After (List ℕ)). a .replies)
+      (history p n ok (open-accepted p n ws done .size) (ledger (standing p ok n cs)) (standing-proper cs) ds)
 
--- 01: "The list starts from the board that an accepted open has written, whatever open's arguments. .. After the list these equal
--- the ledger's: every answer ..; every mix, mark and number as its call left it; all board words, being the board laid out as
--- above."
-pub board-as-ledger : (p n : ℕ) (ws : List ℕ) (ok : IsModulus p) → openCall p n ws .told .number ≡ 0 → (cs : List Call)
-    → boardRun (openCall p n ws .lent) cs ≡ onBoard p n (ledgerRun p ok n (ledger []) cs)
-board-as-ledger p n ws ok e cs =
-    let fresh = open-accepted p n ws e in
-    ap (λ b. boardRun b cs) (fresh .board) ∙ history p n ok (fresh .size) (ledger []) (empty-proper p n) cs
+  -- ---- a call of the list
 
--- ---- what 01 says besides
+  -- its reply is that of the ledger's step on what stood before it
+  pub turn-replied : {cs : List Call} (t : Turn cs)
+      → replyAt p n ws t ≡ replyOf (ledgerStep p ok n (ledger (standing p ok n (t .before))) (t .call))
+  turn-replied {cs} t =
+      ap (λ rs. getD rs (length (t .before)) noReply) (replies-same cs)
+      ∙ turn-answered (ledgerStep p ok n) (ledger-once p ok n) (ledger []) t
 
--- 01: "Refused calls change no board word." Whatever the words are: on a board, what is laid out again is what stood there.
-pub take-refused-keeps : (ws frame mix : List ℕ) → IsRefusal (takeCall ws frame mix .told .number)
-    → takeCall ws frame mix .lent .0 ≡ ws
-take-refused-keeps ws frame mix = go (board? ws)
-  where
-    go : Dec (IsBoard ws) → IsRefusal (takeCall ws frame mix .told .number) → takeCall ws frame mix .lent .0 ≡ ws
-    go (yes b) h =
-        let p = modulusWord ws in
-        let n = sizeWord ws in
-        let e = take-on-board ws b frame mix in
-        ap (λ (r : Outcome (List ℕ × List ℕ)). r .lent .0) e
-        ∙ ap (boardOf p n)
-        (took-refused p (b .prime) n (ledgerOf ws) frame mix (took p (b .prime) n (ledgerOf ws) frame mix)
-        (subst (λ (r : Outcome (List ℕ × List ℕ)). IsRefusal (r .told .number)) e h))
-        ∙ board-layout ws b
-    go (no f) h = ap (λ (r : Outcome (List ℕ × List ℕ)). r .lent .0) (take-off-board ws f frame mix)
+  turn-refused-keeps : {cs : List Call} (t : Turn cs) → IsRefusal (replyAt p n ws t .told .number)
+      → left boardStep (freshBoard p n ws) t ≡ got boardStep (freshBoard p n ws) t
+  turn-refused-keeps t h =
+      turn-left boardStep (freshBoard p n ws) t
+      ∙ refused-keeps (got boardStep (freshBoard p n ws) t) (t .call)
+      (subst (λ (r : Reply). IsRefusal (r .told .number)) (turn-answered boardStep board-once (freshBoard p n ws) t) h)
 
-pub withdraw-refused-keeps : (ws : List ℕ) (t : ℕ) → IsRefusal (withdrawCall ws t .told .number)
-    → withdrawCall ws t .lent ≡ ws
-withdraw-refused-keeps ws t = go (board? ws)
-  where
-    go : Dec (IsBoard ws) → IsRefusal (withdrawCall ws t .told .number) → withdrawCall ws t .lent ≡ ws
-    go (yes b) h =
-        let e = withdraw-on-board ws b t in
-        ap (λ (r : Outcome (List ℕ)). r .lent) e
-        ∙ ap (boardOf (modulusWord ws) (sizeWord ws))
-        (withdrew-refused (ledgerOf ws) t (withdrew (ledgerOf ws) t)
-        (subst (λ (r : Outcome (List ℕ)). IsRefusal (r .told .number)) e h))
-        ∙ board-layout ws b
-    go (no f) h = ap (λ (r : Outcome (List ℕ)). r .lent) (withdraw-off-board ws f t)
+  -- the count of the board that it left is that of the ledger's step
+  turn-count : {cs : List Call} (t : Turn cs)
+      → countWord (left boardStep (freshBoard p n ws) t)
+      ≡ length (ledgerStep p ok n (ledger (standing p ok n (t .before))) (t .call) .state .entries)
+  turn-count t =
+      reached-count (t .before ++ (t .call ∷ []))
+      ∙ ap (λ (l : Ledger). length (l .entries)) (turn-left (ledgerStep p ok n) (ledger []) t)
 
-pub refused-keeps : (ws : List ℕ) (c : Call) → IsRefusal (replyOf (boardStep ws c) .told .number) → boardStep ws c .state ≡ ws
-unfolding boardStep
-refused-keeps ws (Call.take frame mix) h = take-refused-keeps ws frame mix h
-refused-keeps ws (Call.withdraw t) h = withdraw-refused-keeps ws t h
-refused-keeps ws (Call.show marks numbers) h = refl
+  turn-counted : {cs : List Call} (t : Turn cs)
+      → Counted n (t .call) (replyAt p n ws t .told) (countWord (left boardStep (freshBoard p n ws) t))
+  turn-counted t =
+      subst₂ (λ (r : Reply) k. Counted n (t .call) (r .told) k) (sym (turn-replied t)) (sym (turn-count t))
+      (step-counted p ok n (ledger (standing p ok n (t .before))) (t .call))
 
--- the entries behind others are dropped
-withdraw-behind : (es ds : List Entry) → ledgerWithdraw (ledger (es ++ ds)) (length ds) .lent ≡ ledger es
-unfolding ledgerWithdraw
-withdraw-behind es ds =
-    let whole = length-append es ds in
-    let front : length (es ++ ds) - length ds ≡ length es = omega arith in
-    ap (λ (r : Outcome Ledger). r .lent)
-    (in-order-done _ _ _ ((omega arith) and-then none-left) (λ _. refl))
-    ∙ ap ledger (ap (λ k. take k (es ++ ds)) front ∙ take-append-seam es ds)
+  turn-shows : {cs : List Call} (t : Turn cs) (marks : List ℕ) (numbers : List ℤ) → t .call ≡ Call.show marks numbers
+      → (IsRefusal (replyAt p n ws t .told .number) → ⊥) → Shows p n (standing p ok n (t .before)) (replyAt p n ws t)
+  unfolding ledgerStep
+  turn-shows t marks numbers e f =
+      let es = standing p ok n (t .before) in
+      let same = turn-replied t ∙ ap (λ c. replyOf (ledgerStep p ok n (ledger es) c)) e in
+      subst (Shows p n es) (sym same)
+      (show-shows p ok n es (standing-proper (t .before)) marks numbers
+      (λ h. f (subst (λ (r : Reply). IsRefusal (r .told .number)) (sym same) h)))
 
--- 01: "After accepted takes only, adding g entries, a withdrawal of g restores every word." Shows and refused takes may stand
--- between them.
-pub withdrawal-restores : (p n : ℕ) (ok : IsModulus p) → FrameSize n → (l : Ledger) → Proper p n (l .entries)
-    → (cs : List Call) → NoWithdrawal cs → (g : ℕ) → length (ledgerRun p ok n l cs .state .entries) ≡ length (l .entries) + g
-    → boardRun (boardOf p n l) (cs ++ (Call.withdraw g ∷ [])) .state ≡ boardOf p n l
-unfolding run ledgerStep
-withdrawal-restores p n ok size l proper cs only g long =
-    let (ds, e) = only-appends p ok n l cs only in
-    let many : length ds ≡ g = omega (arith, ap length e, length-append (l .entries) ds) in
-    ap (λ (a : After (List ℕ)). a .state) (history p n ok size l proper (cs ++ (Call.withdraw g ∷ [])))
-    ∙ ap (λ (a : After Ledger). boardOf p n (a .state)) (run-append (ledgerStep p ok n) l cs (Call.withdraw g ∷ []))
-    ∙ ap (λ es. boardOf p n (ledgerWithdraw (ledger es) g .lent)) e
-    ∙ ap (λ k. boardOf p n (ledgerWithdraw (ledger (l .entries ++ ds)) k .lent)) (sym many)
-    ∙ ap (boardOf p n) (withdraw-behind (l .entries) ds)
+  turn-mixes : {cs : List Call} (t : Turn cs) (frame mix : List ℕ) → t .call ≡ Call.take frame mix
+      → (replyAt p n ws t .told .number ≡ 100) ⊎ (replyAt p n ws t .told .number ≡ 9)
+      → IsMix p n (standing p ok n (t .before)) (frameMultipliers n frame) (replyAt p n ws t .words)
+  unfolding ledgerStep
+  turn-mixes t frame mix e d =
+      let es = standing p ok n (t .before) in
+      let same = turn-replied t ∙ ap (λ c. replyOf (ledgerStep p ok n (ledger es) c)) e in
+      subst (λ (r : Reply). IsMix p n es (frameMultipliers n frame) (r .words)) (sym same)
+      (take-mixes p ok n es (standing-proper (t .before)) frame mix (took p ok n (ledger es) frame mix)
+      (subst (λ (r : Reply). (r .told .number ≡ 100) ⊎ (r .told .number ≡ 9)) same d))
+
+  -- ---- withdrawals, rank and missing frames
+
+  restored : (before takes : List Call) → NoWithdrawal takes
+      → (g : ℕ) → countWord (wordsAfter p n ws (before ++ takes)) ≡ countWord (wordsAfter p n ws before) + g
+      → wordsAfter p n ws ((before ++ takes) ++ (Call.withdraw g ∷ [])) ≡ wordsAfter p n ws before
+  restored before takes only g many =
+      let es = standing p ok n before in
+      let long : length (ledgerRun p ok n (ledger es) takes .state .entries) ≡ length es + g =
+      ap length (further-standing before takes) ∙ sym (reached-count (before ++ takes)) ∙ many ∙ ap (λ k. k + g) (reached-count before) in
+      ap (λ ds. wordsAfter p n ws ds) (append-assoc before takes (Call.withdraw g ∷ []))
+      ∙ ap (λ (a : After (List ℕ)). a .state) (run-append boardStep (freshBoard p n ws) before (takes ++ (Call.withdraw g ∷ [])))
+      ∙ ap (λ b. boardRun b (takes ++ (Call.withdraw g ∷ [])) .state) (reached-layout before)
+      ∙ withdrawal-restores p n ok (open-accepted p n ws done .size) (ledger es) (standing-proper before) takes only g long
+      ∙ sym (reached-layout before)
+
+  at-least : (cs ds : List Call) → AllSettled p n (standing p ok n (cs ++ ds))
+      → n - countWord (wordsAfter p n ws cs) ≤ news ds (boardRun (wordsAfter p n ws cs) ds .replies)
+  at-least cs ds all =
+      subst₂ (λ k rs. n - k ≤ news ds rs) (sym (reached-count cs)) (sym (further-replies cs ds))
+      (missing.missing-at-least p ok n (ledger (standing p ok n cs)) (standing-proper cs) ds
+      (subst (AllSettled p n) (sym (further-standing cs ds)) all))
+
+  enough : (cs : List Call)
+      → (columns : List ℕ) × (length columns ≡ n - countWord (wordsAfter p n ws cs))
+      × ((r : Reply) → List·Memᴰ r (boardRun (wordsAfter p n ws cs) (map (unitTake n) columns) .replies) → r .told .number ≡ 0)
+      × (news (map (unitTake n) columns) (boardRun (wordsAfter p n ws cs) (map (unitTake n) columns) .replies) ≡ length columns)
+      × AllSettled p n (standing p ok n (cs ++ map (unitTake n) columns))
+  enough cs =
+      let (columns, many, settling) = missing.missing-enough p ok n (standing p ok n cs) (standing-proper cs) in
+      let replies = further-replies cs (map (unitTake n) columns) in (
+        columns,
+        many ∙ ap (λ k. n - k) (sym (reached-count cs)),
+        (λ r m. settling .all-new r (subst (List·Memᴰ r) replies m)),
+        ap (news (map (unitTake n) columns)) replies ∙ settling .news-told ∙ length-map columns (unitTake n),
+        subst (AllSettled p n) (further-standing cs (map (unitTake n) columns)) (settling .settles),
+      )
+
+  -- ---- all of it
+
+  pub demand-3 : (cs : List Call) → Demand3 p ok n ws cs
+  demand-3 cs =
+      record {
+        as-ledger = board-as-ledger p n ws ok done cs;
+        each-answered = replies-many boardStep board-once (freshBoard p n ws) cs;
+        counted = turn-counted;
+        refused-keeps = turn-refused-keeps;
+        never-eleven = λ t e.
+            step-not-eleven p ok n (ledger (standing p ok n (t .before))) (t .call)
+            (sym (ap (λ (r : Reply). r .told .number) (turn-replied t)) ∙ e);
+        restores = λ before takes e only g many.
+            ap (λ ds. wordsAfter p n ws (ds ++ (Call.withdraw g ∷ []))) e
+            ∙ restored before takes only g (ap (λ ds. countWord (wordsAfter p n ws ds)) (sym e) ∙ many);
+        count-standing = reached-count cs;
+        count-rank = reached-count cs ∙ sym (ledger-rank p ok n (standing p ok n cs) (standing-proper cs));
+        heard-rank = λ only hs order.
+            heard-rank p ok n cs only hs (subst (λ rs. Perm (heard p n cs rs) hs) (replies-same cs) order) ∙ sym (reached-count cs);
+        shows = turn-shows;
+        common = standing-met p ok n (standing p ok n cs) (standing-proper cs);
+        mixes = turn-mixes;
+        missing-at-least = at-least cs;
+        missing-enough = enough cs;
+      }

@@ -39,8 +39,8 @@ use Rattle.ledger.specs.Honest.{Heat, recordResidues, SealsAs, ComesFrom
 use Rattle.ledger.proofs.EntryMore.{each-more}
 use Rattle.ledger.proofs.LedgerSteps.{Took, new, repeat, conflict, refusal, took, Withdrew, dropped, overlong, withdrew}
 use Rattle.ledger.proofs.LedgerSteps.{Showed, answered, unshown, showed}
-use Rattle.ledger.proofs.Demand3.{open-accepted}
-use Rattle.ledger.proofs.DemandWhole.{turn-replied, demand-3}
+use Rattle.ledger.proofs.Histories.{open-accepted}
+use Rattle.ledger.proofs.Demand3.{turn-replied, demand-3}
 
 -- what the console sends is honest: the frame that write leaves, for a value that seal gave, comes from the records
 pub written-comes-from : (p n : ℕ) (zs : List ℤ) (xs : List ℕ) (v : ℕ) → SealsAs p n zs xs v

@@ -9,7 +9,7 @@ use native.Mathlib.Nat.{not-suc-le-zero, le-of-suc-le-suc}
 use native.Mathlib.Decide.{map-dec}
 use native.Mathlib.Omega.{arith}
 use lib.IntN.{ℤ, pos}
-use lib.ListN.{length, getD, replicate}
+use lib.ListN.{length, getD}
 use lib.Seq.{ext-getD}
 use Rattle.algebra.specs.Matrix.{apply}
 use Rattle.algebra.specs.Ring.{IsField}
@@ -22,7 +22,7 @@ use Rattle.checks.specs.Told.{refused, results}
 use Rattle.checks.specs.Outcome.{Outcome, outcome, untouched}
 use Rattle.checks.proofs.InOrder.{none-left, fails-here, in-order-done, in-order-refused, _and-then_}
 use Rattle.field.specs.Residue.{Residue, reduce, residues, _⊗_}
-use Rattle.field.specs.Written.{tabulate}
+use Rattle.field.specs.Written.{tabulate, numbers}
 use Rattle.field.proofs.Field.{residues-field}
 use Rattle.field.proofs.Written.{length-tabulate, getD-tabulate, is-tabulate}
 use Rattle.signed.specs.Reading.{reading}
@@ -100,8 +100,9 @@ module _ (p : ℕ) (ok : IsModulus p) (n : ℕ) (es : List Entry) where
     same-mix : (xs : List ℕ) (c d : InSpan p n es xs) → mixWords p n es (c .0) ≡ mixWords p n es (d .0)
     unfolding mixWords
     same-mix xs c d =
-        ap (λ ws. ws ++ replicate (n - length es) 0)
-        (tabulate-same (length es) (λ t h. ap (λ (a : Residue p). a .value) (combination-once xs c d t h)))
+        let same : numbers (length es) (c .0) ≡ numbers (length es) (d .0) =
+        tabulate-same (length es) (λ t h. ap (λ (a : Residue p). a .value) (combination-once xs c d t h)) in
+        rw same
 
     same-value : (xs : List ℕ) (v : ℕ) (c d : InSpan p n es xs) → GivesValue p es (d .0) v → GivesValue p es (c .0) v
     same-value xs v c d e =

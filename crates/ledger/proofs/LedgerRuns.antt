@@ -1,5 +1,5 @@
 -- Lists of calls on the ledger: a list after a list, that a ledger stays proper, that without withdrawals entries are only
--- added behind those that stand, and that no reply tells 11.
+-- added behind those that stand, that no reply tells 11, what is told of the count, and that a refused call changes nothing.
 use mathlib.Core.Path.{_≡_, refl, sym, ap, _∙_}
 use mathlib.Core.List.{List, [], _∷_, _++_, append-nil, append-assoc}
 use Prim.Native.Nat.{ℕ, _-_}

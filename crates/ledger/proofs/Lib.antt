@@ -10,12 +10,12 @@ pub mod LedgerSteps
 pub mod Proper
 pub mod LedgerLaws
 pub mod LedgerRuns
-pub mod Demand3
+pub mod Histories
 pub mod RankLedger
 pub mod RankFull
 pub mod Missing
 pub mod Shown
 pub mod Turns
-pub mod DemandWhole
+pub mod Demand3
 pub mod Honest
 pub mod SumOfFrames

@@ -34,8 +34,7 @@ use Rattle.ledger.proofs.LedgerLaws.{length-tabulateℤ, getD-tabulate�
 mix-words-long : (p n : ℕ) (es : List Entry) (u : Vector (residues p)) → length es ≤ n → length (mixWords p n es u) ≡ n
 unfolding mixWords
 mix-words-long p n es u fits =
-    length-append (numbers (length es) u) (replicate (n - length es) 0)
-    ∙ omega (arith, length-tabulate (length es) (λ t. u t .value), length-replicate {A = ℕ} (n - length es) 0)
+    simp (length-append, length-tabulate, length-replicate) (omega arith)
 
 -- and so has the mix that take leaves, where it was lent n
 pub took-long : (p : ℕ) (ok : IsModulus p) (n : ℕ) (l : Ledger) (frame mix : List ℕ) {r : Outcome (Ledger × List ℕ)}
@@ -81,7 +80,7 @@ module _ (p : ℕ) (ok : IsModulus p) (n : ℕ) (es : List Entry) (proper : Prop
     mixed-at : (i : ℕ) → i < length es → getD (mixWords p n es (c .0)) i 0 ≡ c .0 i .value
     unfolding mixWords
     mixed-at i h =
-        List·getD-append (numbers (length es) (c .0)) (replicate (n - length es) 0) 0 i
+        List·getD-append (numbers (length es) (c .0)) _ 0 i
         (rw (length-tabulate (length es) (λ t. c .0 t .value)) h)
         ∙ getD-tabulate (length es) (λ t. c .0 t .value) i h
 

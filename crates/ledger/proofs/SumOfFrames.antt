@@ -37,8 +37,8 @@ use Rattle.ledger.specs.Honest.{Heat, ReadsAs, SealsAs, IsSum}
 use Rattle.ledger.proofs.RankRows.{own-combination, combination-plus}
 use Rattle.ledger.proofs.RankLedger.{run-heard}
 use Rattle.ledger.proofs.LedgerSteps.{Took, new, repeat, conflict, refusal, took}
-use Rattle.ledger.proofs.Demand3.{open-accepted}
-use Rattle.ledger.proofs.DemandWhole.{turn-replied, replies-same}
+use Rattle.ledger.proofs.Histories.{open-accepted}
+use Rattle.ledger.proofs.Demand3.{turn-replied, replies-same}
 
 module _ (p : ℕ) (ok : IsModulus p) (n : ℕ) where
   L : IsCommutativeRing (residues p)

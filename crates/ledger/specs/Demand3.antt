@@ -1,5 +1,5 @@
 -- Demand 3 as one statement: what holds of every list of calls on the board that an accepted open wrote. A field for each
--- sentence of the demand and of 01's paragraph on it; `proofs/DemandWhole.antt` shows that every list has it.
+-- sentence of the demand and of 01's paragraph on it; `proofs/Demand3.antt` shows that every list has it.
 use mathlib.Core.Path.{_≡_}
 use mathlib.Core.Logic.{_↔_, _⊎_}
 use mathlib.Core.List.{List, [], _∷_, _++_, map, Perm, List·Memᴰ}

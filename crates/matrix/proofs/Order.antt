@@ -1,27 +1,20 @@
 -- 01, "Order for all three: 1, 2, 3, 4 (A first, then w)", and "What is handed back on refusal", said of the three calls: 1 or 2
--- refuses whatever the lengths and numbers are, 3 whatever the numbers are, then 4, all with lent memory untouched; and solve's 5
--- leaves z untouched, with u written.
-use mathlib.Core.Path.{_≡_, sym, ap, _∙_}
+-- refuses whatever the lengths and numbers are, 3 whatever the numbers are, then 4, all with lent memory untouched. Solve's 5 is in
+-- SolveCall.
+use mathlib.Core.Path.{_≡_, sym}
 use mathlib.Core.List.{List}
 use Prim.Native.Nat.{ℕ, _*_}
 use lib.ListN.{length}
-use Rattle.algebra.specs.Span.{Solves}
-use Rattle.algebra.specs.Solve.{mixOf}
 use Rattle.checks.specs.declared.Refusal.{Refusal}
-use Rattle.checks.specs.declared.Refusal.the-variants.{Length, Number, Insoluble}
+use Rattle.checks.specs.declared.Refusal.the-variants.{Length, Number}
 use Rattle.checks.specs.InOrder.{Given, FirstFailing}
 use Rattle.checks.specs.Sizes.{tableSizes}
-use Rattle.checks.specs.Told.{refused}
-use Rattle.checks.specs.Outcome.{outcome, untouched}
-use Rattle.checks.proofs.Modulus.{modulus-prop}
+use Rattle.checks.specs.Outcome.{untouched}
 use Rattle.checks.proofs.InOrder.{fails-here, _then_, or-later}
-use Rattle.field.specs.Residue.{residues}
-use Rattle.field.specs.Written.{numbers}
 use Rattle.words.specs.Words.{Below}
-use Rattle.matrix.specs.Calls.{tableOf, inverseOf, quasiinverseCall, kernelCall, solveCall, vectorOf, candidate, firstRow, solution}
-use Rattle.matrix.specs.Parts.{Checked, InverseRoom, System}
-use Rattle.matrix.proofs.Answers.{past-sizes, sizes-first, quasiinverse-refused, kernel-refused, solve-refused, solve-done}
-use Rattle.matrix.proofs.SolveCall.{solution-none}
+use Rattle.matrix.specs.Calls.{quasiinverseCall, kernelCall, solveCall}
+use Rattle.matrix.specs.Parts.{InverseRoom}
+use Rattle.matrix.proofs.Answers.{past-sizes, sizes-first, quasiinverse-refused, kernel-refused, solve-refused}
 
 module _ (p m n : ℕ) (a : List ℕ) where
   -- ---- quasiinverse
@@ -81,17 +74,3 @@ module _ (p m n : ℕ) (a : List ℕ) where
         sym
         (solve-refused p m n a w z u
         (past-sizes s (la then lw then lz then lu then or-later (λ b. fails-here (bad b)))))
-
-    -- "5 | no solution | u written, z untouched": where A(Dw) is not w
-    pub solve-insoluble : (k : Checked p m n a) → System p m n w z u
-        → (Solves (residues p) m n (tableOf p m n a) (candidate p (k .is-modulus) m n a w) (vectorOf p w) → ⊥)
-        → outcome (refused Insoluble) (
-          z,
-          numbers m (mixOf (residues p) n (tableOf p m n a) (inverseOf p (k .is-modulus) m n a) (firstRow p (k .is-modulus) m n a w)),
-        )
-        ≡ solveCall p m n a w z u
-    solve-insoluble k s none =
-        solve-done p m n a w z u _ k s
-        (λ ok.
-        sym (solution-none p (k .is-modulus) m n a w z none)
-        ∙ ap (λ q. solution p q m n a w z) (modulus-prop p (k .is-modulus) ok))

@@ -5,7 +5,7 @@ use Prim.Native.Nat.{ℕ, _≤_}
 use Rattle.checks.specs.Outcome.{Outcome, outcome}
 use Rattle.ledger.specs.Board.{IsBoard}
 use Rattle.ledger.specs.Calls.{openCall}
-use Rattle.ledger.proofs.Demand3.{open-accepted}
+use Rattle.ledger.proofs.Histories.{open-accepted}
 use Rattle.board_calls.specs.declared.OpenAnswer.{OpenAnswer}
 use Rattle.board_calls.specs.declared.OpenAnswer.the-variants as opening
 use Rattle.board_calls.specs.Told.{openTold}

@@ -17,7 +17,7 @@ use Rattle.ledger.proofs.Parse.{board-proper}
 use Rattle.ledger.proofs.Proper.{empty-proper, step-proper}
 use Rattle.ledger.proofs.LedgerLaws.{show-accepted}
 use Rattle.ledger.proofs.WordsCalls.{take-on-board, show-on-board}
-use Rattle.ledger.proofs.Demand3.{open-accepted}
+use Rattle.ledger.proofs.Histories.{open-accepted}
 
 pub opened-board : (p n : ℕ) (ws : List ℕ) → openCall p n ws .told .number ≡ 0 → IsBoard (openCall p n ws .lent)
 opened-board p n ws e =

@@ -31,7 +31,7 @@ use Rattle.ledger.specs.Proper.{Proper}
 use Rattle.ledger.proofs.LayoutBoard.{layout-size, layout-count}
 use Rattle.ledger.proofs.Proper.{empty-proper, step-proper}
 use Rattle.ledger.proofs.WordsCalls.{take-at-layout, show-at-layout}
-use Rattle.ledger.proofs.Demand3.{open-done}
+use Rattle.ledger.proofs.Histories.{open-done}
 use Rattle.board_calls.proofs.CallOpen.{open-no-sizes}
 use Rattle.sheet_text.specs.Lines.{frameLine, refusedLine}
 use Rattle.sheet_text.specs.Input.{headerCall, frameStart, frameBody}

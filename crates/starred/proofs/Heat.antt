@@ -28,7 +28,7 @@ use Rattle.ledger.specs.Board.{layout}
 use Rattle.ledger.specs.History.{Call, reply, After, after, ledgerStep, run, ledgerRun, boardRun, onBoard}
 use Rattle.ledger.specs.Proper.{Proper}
 use Rattle.ledger.specs.Steps.{mixWords, ledgerTake, shownMark, shownNumber, ledgerShow}
-use Rattle.ledger.proofs.Demand3.{open-done, history}
+use Rattle.ledger.proofs.Histories.{open-done, history}
 use Rattle.ledger.proofs.LedgerLaws.{is-tabulateℤ, take-accepted, show-accepted}
 use Rattle.ledger.proofs.LedgerRuns.{run-append, run-proper}
 use Rattle.ledger.proofs.Proper.{empty-proper, step-proper}

@@ -20,7 +20,7 @@ use Rattle.ledger.specs.Calls.{laidOut, takeCall}
 use Rattle.ledger.specs.Ledger.{valueColumn}
 use Rattle.ledger.specs.Steps.{mixWords}
 use Rattle.ledger.proofs.Proper.{empty-proper}
-use Rattle.ledger.proofs.Demand3.{open-done}
+use Rattle.ledger.proofs.Histories.{open-done}
 use Rattle.ledger.proofs.WordsCalls.{take-at-layout}
 use Rattle.starred.specs.Starred.{BoardExample, boardExamples, Starred, table, frame, board, starred, BoardHolds, FrameHolds, Holds}
 use Rattle.starred.proofs.Sizes.{areSizes, sizes-checked}
