@@ -18,10 +18,10 @@ use Rattle.ledger.specs.Turns.{Turn, noReply, replyOf, got, left}
 use Rattle.ledger.specs.Heard.{NoWithdrawal, news, heard}
 use Rattle.ledger.specs.Settle.{AllSettled, unitTake}
 use Rattle.ledger.specs.Proper.{Proper}
-use Rattle.ledger.specs.Demand3.{Shows, IsMix, Counted, freshBoard, wordsAfter, repliesTo, standing, replyAt, Demand3}
+use Rattle.ledger.specs.Demand3.{Shows, IsMix, Counted, Untouched, freshBoard, wordsAfter, repliesTo, standing, replyAt, Demand3}
 use Rattle.ledger.proofs.LayoutBoard.{layout-count}
 use Rattle.ledger.proofs.Proper.{empty-proper}
-use Rattle.ledger.proofs.LedgerRuns.{run-append, run-proper, step-not-eleven, step-counted}
+use Rattle.ledger.proofs.LedgerRuns.{run-append, run-proper, step-not-eleven, step-counted, step-untouched}
 use Rattle.ledger.proofs.LedgerLaws.{standing-met}
 use Rattle.ledger.proofs.LedgerSteps.{took}
 use Rattle.ledger.proofs.Histories.{open-accepted, history, board-as-ledger, refused-keeps, withdrawal-restores}
@@ -153,6 +153,8 @@ module _ (p : ℕ) (ok : IsModulus p) (n : ℕ) (ws : List ℕ) (done : openCall
         as-ledger = board-as-ledger p n ws ok done cs;
         each-answered = replies-many boardStep board-once (freshBoard p n ws) cs;
         counted = turn-counted;
+        untouched = λ t.
+            subst (Untouched (t .call)) (sym (turn-replied t)) (step-untouched p ok n (ledger (standing p ok n (t .before))) (t .call));
         refused-keeps = turn-refused-keeps;
         never-eleven = λ t e.
             step-not-eleven p ok n (ledger (standing p ok n (t .before))) (t .call)

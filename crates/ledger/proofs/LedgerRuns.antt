@@ -1,5 +1,6 @@
 -- Lists of calls on the ledger: a list after a list, that a ledger stays proper, that without withdrawals entries are only
--- added behind those that stand, that no reply tells 11, what is told of the count, and that a refused call changes nothing.
+-- added behind those that stand, that no reply tells 11, what is told of the count, what is left as it was
+-- lent, and that a refused call changes nothing.
 use mathlib.Core.Path.{_≡_, refl, sym, ap, _∙_}
 use mathlib.Core.List.{List, [], _∷_, _++_, append-nil, append-assoc}
 use Prim.Native.Nat.{ℕ, _-_}
@@ -13,12 +14,13 @@ use Rattle.checks.specs.declared.Refusal.the-variants.{Length, Conflict, Withdr
 use Rattle.checks.specs.Refusal.{IsRefusal}
 use Rattle.checks.specs.Told.{results}
 use Rattle.checks.proofs.Refusals.{refusal-number}
+use Rattle.checks.proofs.InOrder.{in-order-elim}
 use Rattle.checks.specs.Outcome.{Outcome}
 use Rattle.ledger.specs.Ledger.{Entry, entry, Ledger}
-use Rattle.ledger.specs.Steps.{ledgerTake}
-use Rattle.ledger.specs.History.{Call, After, after, ledgerStep, run, ledgerRun}
+use Rattle.ledger.specs.Steps.{ledgerTake, ledgerShow}
+use Rattle.ledger.specs.History.{Call, reply, After, after, ledgerStep, run, ledgerRun}
 use Rattle.ledger.specs.Turns.{replyOf}
-use Rattle.ledger.specs.Demand3.{Counted}
+use Rattle.ledger.specs.Demand3.{Counted, Untouched}
 use Rattle.ledger.specs.Heard.{NoWithdrawal}
 use Rattle.ledger.specs.Proper.{Proper}
 use Rattle.ledger.proofs.EntryMore.{length-more}
@@ -115,6 +117,29 @@ module _ (p : ℕ) (ok : IsModulus p) (n : ℕ) where
   step-counted l (Call.take frame mix) = took-counted l frame mix (took p ok n l frame mix)
   step-counted l (Call.withdraw t) = withdrew-counted l t (withdrew l t)
   step-counted l (Call.show marks numbers) = showed-counted l marks numbers (showed p ok n l marks numbers)
+
+  -- ---- what is left as it was lent
+
+  took-untouched : (l : Ledger) (frame mix : List ℕ) {r : Outcome (Ledger × List ℕ)} → Took p ok n l frame mix r
+      → Untouched (Call.take frame mix) (reply (r .told) (r .lent .1) [])
+  took-untouched l frame mix (new xs v e f) h i = refl
+  took-untouched l frame mix (repeat xs v e c g) h i = absurd (h refl)
+  took-untouched l frame mix (conflict xs v e c g) h i = absurd (i refl)
+  took-untouched l frame mix (refusal k j) h i = refl
+
+  show-untouched : (l : Ledger) (marks : List ℕ) (zs : List ℤ) →
+      let r = ledgerShow p ok n l marks zs in
+      Untouched (Call.show marks zs) (reply (r .told) (r .lent .0) (r .lent .1))
+  unfolding ledgerShow
+  show-untouched l marks zs =
+      in-order-elim _ _ (λ (o : Outcome (List ℕ × List ℤ)). Untouched (Call.show marks zs) (reply (o .told) (o .lent .0) (o .lent .1)))
+      (λ _ h. absurd (omega arith)) (λ k _ _. (refl, refl))
+
+  pub step-untouched : (l : Ledger) (c : Call) → Untouched c (replyOf (ledgerStep p ok n l c))
+  unfolding ledgerStep
+  step-untouched l (Call.take frame mix) = took-untouched l frame mix (took p ok n l frame mix)
+  step-untouched l (Call.withdraw t) = tt
+  step-untouched l (Call.show marks numbers) = show-untouched l marks numbers
 
 -- ---- a refused call leaves the ledger as it is
 

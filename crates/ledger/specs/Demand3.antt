@@ -47,6 +47,13 @@ Counted n (take frame mix) told k = (IsRefusal (told .number) → ⊥) → told 
 Counted n (withdraw t) told k = (IsRefusal (told .number) → ⊥) → told ≡ results k
 Counted n (show marks numbers) told k = (IsRefusal (told .number) → ⊥) → told ≡ results (n - k)
 
+-- what a call leaves of the memory lent to it that it does not write: "answer new, with the count; mix untouched", and so every take
+-- that is neither answered repeat, 100, nor refused by 9; a show that is refused
+abbrev pub Untouched : Call → Reply → Type 0
+Untouched (take frame mix) r = (r .told .number ≡ 100 → ⊥) → (r .told .number ≡ 9 → ⊥) → r .words ≡ mix
+Untouched (withdraw t) r = Unit {0}
+Untouched (show marks numbers) r = IsRefusal (r .told .number) → (r .words ≡ marks) × (r .numbers ≡ numbers)
+
 module _ (p n : ℕ) (ws : List ℕ) where
   -- the board that open wrote into the words ws
   abbrev pub freshBoard : List ℕ
@@ -75,6 +82,8 @@ module _ (p : ℕ) (ok : IsModulus p) (n : ℕ) (ws : List ℕ) where
     pub each-answered : length (repliesTo p n ws cs) ≡ length cs
     -- "answer new, with the count", "The answer is the count": of the board that the call left
     pub counted : (t : Turn cs) → Counted n (t .call) (replyAt p n ws t .told) (countWord (left boardStep (freshBoard p n ws) t))
+    -- memory that a call is lent and does not write is as it was
+    pub untouched : (t : Turn cs) → Untouched (t .call) (replyAt p n ws t)
     -- "Refused calls change no board word."
     pub refused-keeps : (t : Turn cs) → IsRefusal (replyAt p n ws t .told .number) → left boardStep (freshBoard p n ws) t ≡ got boardStep (freshBoard p n ws) t
     -- "in a list of calls 11 never occurs"

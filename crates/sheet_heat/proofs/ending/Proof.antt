@@ -54,15 +54,5 @@ returns c = search needs
 pub ending-spec : {M : Type 1} → statement M
 ending-spec =
     tie.close
-    (tie.spec
-    shared-slice-read-n
-    cast-n
-    row-room-requires
-    numbers-room-requires
-    array-borrow-prefix-marks
-    slice-aggregate-show-lines
-    array-borrow-prefix-numbers
-    slice-aggregate-show-lines-2
-    show-lines-requires
-    same-length
-    returns)
+    (tie.spec shared-slice-read-n cast-n row-room-requires numbers-room-requires array-borrow-prefix-marks
+    slice-aggregate-show-lines array-borrow-prefix-numbers slice-aggregate-show-lines-2 show-lines-requires same-length returns)

@@ -29,11 +29,4 @@ returns c =
 pub frame-line-spec : {M : Type 1} → statement M
 frame-line-spec =
     tie.close
-    (tie.spec
-    take-requires
-    slice-read-answer-line
-    answer-line-requires
-    same-length
-    same-length-2
-    same-length-3
-    returns)
+    (tie.spec take-requires slice-read-answer-line answer-line-requires same-length same-length-2 same-length-3 returns)

@@ -74,18 +74,5 @@ returns c =
 pub record-lines-spec : {M : Type 1} → statement M
 record-lines-spec =
     tie.close
-    (tie.spec
-    Inv-loop
-    μ-loop
-    loop-holds
-    cast-record-line
-    mul-record-line
-    shared-slice-read-record-line
-    mul-record-line-2
-    shared-slice-copy-out-record-line
-    record-line-requires
-    add-j
-    loop-less
-    loop-again
-    same-length
-    returns)
+    (tie.spec Inv-loop μ-loop loop-holds cast-record-line mul-record-line shared-slice-read-record-line mul-record-line-2
+    shared-slice-copy-out-record-line record-line-requires add-j loop-less loop-again same-length returns)

@@ -55,16 +55,5 @@ returns-2 c =
 pub show-lines-spec : {M : Type 1} → statement M
 show-lines-spec =
     tie.close
-    (tie.spec
-    show-requires
-    enum-known-missing
-    record-lines-requires
-    missing-line-requires
-    enum-told
-    same-length
-    same-length-2
-    same-length-3
-    returns
-    same-length-4
-    same-length-5
-    returns-2)
+    (tie.spec show-requires enum-known-missing record-lines-requires missing-line-requires enum-told same-length same-length-2
+    same-length-3 returns same-length-4 same-length-5 returns-2)

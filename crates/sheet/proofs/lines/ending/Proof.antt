@@ -25,10 +25,4 @@ returns c = search needs
 pub ending-spec : {M : Type 1} → statement M
 ending-spec =
     tie.close
-    (tie.spec
-    text-requires
-    slice-aggregate-ending
-    ending-requires
-    slice-aggregate-write
-    write-requires
-    returns)
+    (tie.spec text-requires slice-aggregate-ending ending-requires slice-aggregate-write write-requires returns)

@@ -34,12 +34,5 @@ returns c =
 pub frame-spec : {M : Type 1} → statement M
 frame-spec =
     tie.close
-    (tie.spec
-    line-requires
-    slice-aggregate-frame-line
-    frame-line-requires
-    slice-aggregate-write
-    write-requires
-    same-length
-    same-length-2
-    returns)
+    (tie.spec line-requires slice-aggregate-frame-line frame-line-requires slice-aggregate-write write-requires same-length
+    same-length-2 returns)
