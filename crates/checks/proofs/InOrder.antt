@@ -197,6 +197,11 @@ not-both f a =
     let z : _≡_ {A = ℕ} 1 0 = sym (in-order-refused (λ _. 0) (λ _. 1) f) ∙ in-order-done (λ _. 0) (λ _. 1) 0 a (λ _. refl) in
     omega arith
 
+-- so where all hold, what holds of all that is done holds of the outcome
+pub in-order-accepted : {K X : Type 0} {cs : Checks K} (done : Given cs → X) (refuse : K → X) (Q : X → Type 0) → AllHold cs
+    → ((hs : Given cs) → Q (done hs)) → Q (inOrder cs done refuse)
+in-order-accepted done refuse Q all y = in-order-elim done refuse Q y (λ k f. absurd (not-both f all))
+
 -- ---- the kinds of a list
 
 -- what is so of every kind of the list is so of the one that it refuses by

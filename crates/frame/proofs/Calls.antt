@@ -9,6 +9,7 @@ use lib.ListN.{length}
 use Rattle.checks.specs.declared.Refusal.{Refusal}
 use Rattle.checks.specs.Largest.{FrameSize}
 use Rattle.checks.specs.Prime.{IsModulus}
+use Rattle.checks.specs.Refusal.{IsRefusal}
 use Rattle.checks.specs.Told.{gives}
 use Rattle.checks.specs.Outcome.{Outcome, outcome, untouched}
 use Rattle.checks.specs.declared.Refusal.the-variants.{Length}
@@ -16,11 +17,11 @@ use Rattle.checks.specs.InOrder.{passed, _else_, _⨾_, andThen, AllHold, First
 use Rattle.checks.specs.Decide.{long?}
 use Rattle.checks.specs.Sizes.{frameSizes}
 use Rattle.checks.proofs.Refusals.{refusal-number, given-value, refused-gives-none}
-use Rattle.checks.proofs.InOrder.{none-left, in-order-done, in-order-refused, in-order-elim, in-order-map, in-order-then, hold-and-then, fails-in-front, fails-then, _and-then_}
+use Rattle.checks.proofs.InOrder.{none-left, in-order-done, in-order-refused, in-order-elim, in-order-map, in-order-then, hold-and-then, fails-in-front, fails-then, _and-then_, in-order-accepted}
 use Rattle.frame.specs.Format.{frameOf}
 use Rattle.frame.specs.Reading.{frameChecks, Found, accepted, rejected, readFrame}
 use Rattle.frame.specs.Sealing.{sealed}
-use Rattle.frame.specs.Calls.{readOutcome, readRest, readCall, writeRest, written, writeCall, sealRest, sealCall}
+use Rattle.frame.specs.Calls.{readOutcome, readRest, readChecks, readCall, writeRest, written, writeChecks, writeCall, sealRest, sealCall}
 
 -- the checks of a modulus and a size hold
 pub sizes-hold : (p n : ℕ) → IsModulus p → FrameSize n → AllHold (frameSizes p n)
@@ -74,6 +75,18 @@ module _ (p n : ℕ) (zs : List ℤ) (xs : List ℕ) where
     pub seal-done : AllHold (sealRest p n zs xs) → outcome (gives (pos (sealed p n zs xs))) tt ≡ sealCall p n zs xs
     unfolding sealCall
     seal-done a = sym (in-order-done _ _ _ (hold-and-then {cs = frameSizes p n} {more = λ _. sealRest p n zs xs} sizes (λ _. a)) (λ _. refl))
+
+-- ---- "All else is accepted"
+
+pub read-accepted : (p n : ℕ) (bytes lent : List ℕ) → AllHold (readChecks p n bytes lent)
+    → IsRefusal (readCall p n bytes lent .told .number) → ⊥
+unfolding readCall
+read-accepted p n bytes lent all = in-order-accepted _ _ (λ (o : Outcome (List ℕ)). IsRefusal (o .told .number) → ⊥) all (λ hs h. omega arith)
+
+pub write-accepted : (p n : ℕ) (xs : List ℕ) (v : ℕ) (lent : List ℕ) → AllHold (writeChecks p n xs v lent)
+    → IsRefusal (writeCall p n xs v lent .told .number) → ⊥
+unfolding writeCall
+write-accepted p n xs v lent all = in-order-accepted _ _ (λ (o : Outcome (List ℕ)). IsRefusal (o .told .number) → ⊥) all (λ hs h. omega arith)
 
 -- ---- from what a call told
 

@@ -18,7 +18,8 @@ use Rattle.ledger.specs.Turns.{Turn, noReply, replyOf, got, left}
 use Rattle.ledger.specs.Heard.{NoWithdrawal, news, heard}
 use Rattle.ledger.specs.Settle.{AllSettled, unitTake}
 use Rattle.ledger.specs.Proper.{Proper}
-use Rattle.ledger.specs.Demand3.{Shows, IsMix, Counted, Untouched, freshBoard, wordsAfter, repliesTo, standing, replyAt, Demand3}
+use Rattle.ledger.specs.Answers.{Answers, Shows, IsMix, Counted, Untouched}
+use Rattle.ledger.specs.Demand3.{freshBoard, wordsAfter, repliesTo, standing, replyAt, SettlingTakes, Demand3}
 use Rattle.ledger.proofs.LayoutBoard.{layout-count}
 use Rattle.ledger.proofs.Proper.{empty-proper}
 use Rattle.ledger.proofs.LedgerRuns.{run-append, run-proper, step-not-eleven, step-counted, step-untouched}
@@ -28,7 +29,7 @@ use Rattle.ledger.proofs.Histories.{open-accepted, history, board-as-le
 use Rattle.ledger.proofs.Turns.{board-once, ledger-once, replies-many, turn-left, turn-answered}
 use Rattle.ledger.proofs.RankLedger.{ledger-rank, heard-rank}
 use Rattle.ledger.proofs.Missing as missing
-use Rattle.ledger.proofs.Shown.{show-shows, take-mixes}
+use Rattle.ledger.proofs.Shown.{step-answers, show-shows, take-mixes}
 
 module _ (p : ℕ) (ok : IsModulus p) (n : ℕ) (ws : List ℕ) (done : openCall p n ws .told .number ≡ 0) where
   -- ---- the board that a list of calls has reached
@@ -130,11 +131,7 @@ module _ (p : ℕ) (ok : IsModulus p) (n : ℕ) (ws : List ℕ) (done : openCall
       (missing.missing-at-least p ok n (ledger (standing p ok n cs)) (standing-proper cs) ds
       (subst (AllSettled p n) (sym (further-standing cs ds)) all))
 
-  enough : (cs : List Call)
-      → (columns : List ℕ) × (length columns ≡ n - countWord (wordsAfter p n ws cs))
-      × ((r : Reply) → List·Memᴰ r (boardRun (wordsAfter p n ws cs) (map (unitTake n) columns) .replies) → r .told .number ≡ 0)
-      × (news (map (unitTake n) columns) (boardRun (wordsAfter p n ws cs) (map (unitTake n) columns) .replies) ≡ length columns)
-      × AllSettled p n (standing p ok n (cs ++ map (unitTake n) columns))
+  enough : (cs : List Call) → SettlingTakes p ok n ws cs
   enough cs =
       let (columns, many, settling) = missing.missing-enough p ok n (standing p ok n cs) (standing-proper cs) in
       let replies = further-replies cs (map (unitTake n) columns) in (
@@ -152,6 +149,9 @@ module _ (p : ℕ) (ok : IsModulus p) (n : ℕ) (ws : List ℕ) (done : openCall
       record {
         as-ledger = board-as-ledger p n ws ok done cs;
         each-answered = replies-many boardStep board-once (freshBoard p n ws) cs;
+        answers = λ t.
+            subst (λ (r : Reply). Answers p n (standing p ok n (t .before)) (t .call) (r .told)) (sym (turn-replied t))
+            (step-answers p ok n (standing p ok n (t .before)) (standing-proper (t .before)) (t .call));
         counted = turn-counted;
         untouched = λ t.
             subst (Untouched (t .call)) (sym (turn-replied t)) (step-untouched p ok n (ledger (standing p ok n (t .before))) (t .call));
@@ -167,7 +167,7 @@ module _ (p : ℕ) (ok : IsModulus p) (n : ℕ) (ws : List ℕ) (done : openCall
         heard-rank = λ only hs order.
             heard-rank p ok n cs only hs (subst (λ rs. Perm (heard p n cs rs) hs) (replies-same cs) order) ∙ sym (reached-count cs);
         shows = turn-shows;
-        common = standing-met p ok n (standing p ok n cs) (standing-proper cs);
+        common = λ before behind e. standing-met p ok n (standing p ok n before) (standing-proper before);
         mixes = turn-mixes;
         missing-at-least = at-least cs;
         missing-enough = enough cs;

@@ -35,7 +35,7 @@ use Rattle.ledger.specs.Calls.{openCall}
 use Rattle.ledger.specs.History.{Call, Reply, ledgerStep, run, ledgerRun}
 use Rattle.ledger.specs.Turns.{Turn, replyOf}
 use Rattle.ledger.specs.Demand3.{standing, replyAt}
-use Rattle.ledger.specs.Honest.{Heat, recordResidues, SealsAs, ComesFrom, Honest, HonestHeat, NoRecords}
+use Rattle.ledger.specs.Honest.{HeatRecords, recordResidues, SealsAs, ComesFrom, Honest, HonestHeat, NoRecords}
 use Rattle.ledger.proofs.EntryMore.{each-more}
 use Rattle.ledger.proofs.LedgerSteps.{Took, new, repeat, conflict, refusal, took, Withdrew, dropped, overlong, withdrew}
 use Rattle.ledger.proofs.LedgerSteps.{Showed, answered, unshown, showed}
@@ -62,7 +62,7 @@ module _ (p : ℕ) (ok : IsModulus p) (n : ℕ) where
   L = residues-field p (ok .prime) .ring
 
   -- an assignment that meets the standing frames and a frame that they combine to: the combination of the values is its value
-  pub met-gives-value : (es : List Entry) (xs : List ℕ) (v : ℕ) (x : Assignment p) → MeetsAll p n es x → Meets p n (entry xs v) x
+  met-gives-value : (es : List Entry) (xs : List ℕ) (v : ℕ) (x : Assignment p) → MeetsAll p n es x → Meets p n (entry xs v) x
       → (c : InSpan p n es xs) → GivesValue p es (c .0) v
   unfolding apply multiplierRows valueColumn
   met-gives-value es xs v x all one c =
@@ -159,7 +159,7 @@ module _ (p : ℕ) (ok : IsModulus p) (n : ℕ) where
         nine-unmet t frame mix e nine (recordResidues p zs) (λ i h. seals-met zs _ _ (seals i h)) (λ xs v q. comes-met zs size frame xs v from q)
 
     -- the honest heat
-    module _ (zs : List ℤ) (heat : Heat p n zs) where
+    module _ (zs : List ℤ) (heat : HeatRecords p n zs) where
       honest-met : (cs : List Call) → Honest p n zs cs → MeetsAll p n (standing p ok n cs) (recordResidues p zs)
       honest-met cs honest = run-met zs size (ledger []) cs honest (λ i h. absurd (not-suc-le-zero h))
 

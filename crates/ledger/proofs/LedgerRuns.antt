@@ -20,7 +20,7 @@ use Rattle.ledger.specs.Ledger.{Entry, entry, Ledger}
 use Rattle.ledger.specs.Steps.{ledgerTake, ledgerShow}
 use Rattle.ledger.specs.History.{Call, reply, After, after, ledgerStep, run, ledgerRun}
 use Rattle.ledger.specs.Turns.{replyOf}
-use Rattle.ledger.specs.Demand3.{Counted, Untouched}
+use Rattle.ledger.specs.Answers.{Counted, Untouched}
 use Rattle.ledger.specs.Heard.{NoWithdrawal}
 use Rattle.ledger.specs.Proper.{Proper}
 use Rattle.ledger.proofs.EntryMore.{length-more}

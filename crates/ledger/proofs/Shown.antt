@@ -1,5 +1,5 @@
--- What a take or a show replies where proper frames stand, by 01's sentences: a show that is not refused gives what `Shows` says,
--- and the mix of a frame that is a combination of the standing rows is the one combination, `IsMix`.
+-- What a call replies where proper frames stand, by 01's sentences: it answers as `Answers` says, a show that is not refused gives what
+-- `Shows` says, and the mix of a frame that is a combination of the standing rows is the one combination, `IsMix`.
 use mathlib.Core.Path.{_≡_, refl, sym, ap, _∙_, subst}
 use mathlib.Core.Logic.{_⊎_, ⊎-elim}
 use mathlib.Core.List.{List, _++_}
@@ -12,23 +12,26 @@ use Rattle.algebra.specs.Matrix.{Vector}
 use Rattle.algebra.proofs.Applied as applied
 use Rattle.checks.specs.Prime.{IsModulus}
 use Rattle.checks.specs.Refusal.{IsRefusal}
+use Rattle.checks.specs.Told.{Told}
 use Rattle.checks.specs.Outcome.{Outcome}
 use Rattle.checks.proofs.Refusals.{refusal-number}
-use Rattle.checks.proofs.InOrder.{in-order-elim}
+use Rattle.checks.proofs.InOrder.{none-left, fails-here, or-later, in-order-done, in-order-refused, in-order-elim, _and-then_}
 use Rattle.words.proofs.Zeros.{zeros-at}
 use Rattle.field.specs.Residue.{reduce, residues}
 use Rattle.field.specs.Written.{numbers}
 use Rattle.field.proofs.Residues.{reduce-value, value-below}
 use Rattle.field.proofs.Written.{length-tabulate, getD-tabulate}
-use Rattle.frame.specs.Reading.{frameMultipliers}
+use Rattle.frame.specs.Reading.{frameMultipliers, frameValue}
 use Rattle.frame.proofs.Round.{accepted-found}
 use Rattle.ledger.specs.Ledger.{Entry, Ledger, ledger, InSpan, multiplierRows}
-use Rattle.ledger.specs.Steps.{mixWords, shownMark, shownNumber, ledgerShow}
-use Rattle.ledger.specs.History.{Reply, reply}
+use Rattle.ledger.specs.Steps.{mixWords, shownMark, shownNumber, ledgerShow, ledgerTake, ledgerWithdraw}
+use Rattle.ledger.specs.History.{Call, Reply, reply, ledgerStep}
+use Rattle.ledger.specs.Turns.{replyOf}
 use Rattle.ledger.specs.Proper.{Proper}
-use Rattle.ledger.specs.Demand3.{Shows, IsMix}
+use Rattle.ledger.specs.Answers.{TakeAnswers, WithdrawAnswers, ShowAnswers, Answers, Shows, IsMix}
 use Rattle.ledger.proofs.LedgerSteps.{Took, new, repeat, conflict, refusal}
-use Rattle.ledger.proofs.LedgerLaws.{length-tabulateℤ, getD-tabulateℤ, combination-once, shown-exactly, marked-exactly, show-accepted}
+use Rattle.ledger.proofs.LedgerLaws.{length-tabulateℤ, getD-tabulateℤ, combination-once, take-new, take-repeat, take-conflict}
+use Rattle.ledger.proofs.LedgerLaws.{shown-exactly, marked-exactly, show-accepted}
 
 -- a mix has n words
 mix-words-long : (p n : ℕ) (es : List Entry) (u : Vector (residues p)) → length es ≤ n → length (mixWords p n es u) ≡ n
@@ -45,6 +48,49 @@ took-long p ok n l frame mix (conflict xs v e c g) fits h = mix-words-long p n (
 took-long p ok n l frame mix (refusal k i) fits h = h
 
 module _ (p : ℕ) (ok : IsModulus p) (n : ℕ) (es : List Entry) (proper : Proper p n es) where
+  -- ---- answers
+
+  take-answers : (frame mix : List ℕ) → TakeAnswers p n es frame mix (ledgerTake p ok n (ledger es) frame mix .told)
+  unfolding ledgerTake
+  take-answers frame mix =
+      record {
+        refuses = λ k f. ap told (in-order-refused _ _ f);
+        news = λ all free. ap told (in-order-done _ _ _ all (λ _. take-new p ok n es xs v mix free));
+        repeats = λ all c g. ap told (in-order-done _ _ _ all (λ _. take-repeat p ok n es proper xs v mix c g));
+        conflicts = λ all c f. ap told (in-order-done _ _ _ all (λ _. take-conflict p ok n es proper xs v mix c f));
+      }
+    where
+      xs : List ℕ
+      xs = frameMultipliers n frame
+
+      v : ℕ
+      v = frameValue n frame
+
+      told : Outcome (Ledger × List ℕ) → Told
+      told r = r .told
+
+  withdraw-answers : (t : ℕ) → WithdrawAnswers es t (ledgerWithdraw (ledger es) t .told)
+  unfolding ledgerWithdraw
+  withdraw-answers t =
+      record {
+        drops = λ h. ap (λ (r : Outcome Ledger). r .told) (in-order-done _ _ _ (h and-then none-left) (λ _. refl));
+        overlong = λ f. ap (λ (r : Outcome Ledger). r .told) (in-order-refused _ _ (fails-here f));
+      }
+
+  show-answers : (marks : List ℕ) (zs : List ℤ) → ShowAnswers n es marks zs (ledgerShow p ok n (ledger es) marks zs .told)
+  unfolding ledgerShow
+  show-answers marks zs =
+      record {
+        shows = λ h l. ap (λ (r : Outcome (List ℕ × List ℤ)). r .told) (show-accepted p ok n es proper marks zs h l);
+        lengths = λ bad. ap (λ (r : Outcome (List ℕ × List ℤ)). r .told) (in-order-refused _ _ (or-later (λ h. fails-here (bad h))));
+      }
+
+  pub step-answers : (c : Call) → Answers p n es c (replyOf (ledgerStep p ok n (ledger es) c) .told)
+  unfolding ledgerStep
+  step-answers (Call.take frame mix) = take-answers frame mix
+  step-answers (Call.withdraw t) = withdraw-answers t
+  step-answers (Call.show marks numbers) = show-answers marks numbers
+
   -- ---- show
 
   -- a show that is not refused was lent n marks and n numbers

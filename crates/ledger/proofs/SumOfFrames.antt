@@ -1,7 +1,7 @@
 -- The sentence for which all this was built: a frame whose multipliers are the sum of those of two standing frames, or in a history
 -- without withdrawals of two frames answered new or repeat, is never answered new. For the sum of two combinations of the standing
 -- rows is one. Last, that a sum of frames that come from records comes from those records.
-use mathlib.Core.Path.{_≡_, refl, sym, ap, ap₂, _∙_, subst}
+use mathlib.Core.Path.{_≡_, refl, sym, ap, ap₂, _∙_, subst, subst₂}
 use mathlib.Core.List.{List, [], List·Memᴰ}
 use Prim.Native.Nat.{ℕ, _+_, _%_, _<_}
 use native.Mathlib.Nat.{mod-mod, mod-lt}
@@ -16,7 +16,7 @@ use Rattle.checks.specs.Prime.{IsModulus}
 use Rattle.checks.specs.Largest.{FrameSize}
 use Rattle.checks.specs.Told.{gives}
 use Rattle.checks.specs.Outcome.{Outcome}
-use Rattle.checks.proofs.Refusals.{refusal-number}
+use Rattle.checks.proofs.Refusals.{refusal-number, given-value}
 use Rattle.checks.proofs.InOrder.{none-left, _and-then_}
 use Rattle.field.specs.Residue.{Residue, reduce, residues, _⊕_, _⊗_}
 use Rattle.field.proofs.Residues.{reduce-same, reduce-plus}
@@ -33,7 +33,7 @@ use Rattle.ledger.specs.History.{Call, Reply, ledgerStep}
 use Rattle.ledger.specs.Turns.{Turn, replyOf}
 use Rattle.ledger.specs.Heard.{NoWithdrawal, heard}
 use Rattle.ledger.specs.Demand3.{repliesTo, standing, replyAt}
-use Rattle.ledger.specs.Honest.{Heat, ReadsAs, SealsAs, IsSum}
+use Rattle.ledger.specs.Honest.{HeatRecords, ReadsAs, SealsAs, ComesFrom, IsSum}
 use Rattle.ledger.proofs.RankRows.{own-combination, combination-plus}
 use Rattle.ledger.proofs.RankLedger.{run-heard}
 use Rattle.ledger.proofs.LedgerSteps.{Took, new, repeat, conflict, refusal, took}
@@ -125,7 +125,7 @@ module _ (p : ℕ) (ok : IsModulus p) (n : ℕ) where
       ∙ sums.sum-plus (residues p) L n (λ t. z t ⊗ reduce p (getD xs t 0)) (λ t. z t ⊗ reduce p (getD ys t 0)))
 
   -- what seal gives for the sum of two frames' multipliers is the sum of what it gives for theirs
-  pub seals-sum : FrameSize n → (zs : List ℤ) → Heat p n zs → (xs ys summed : List ℕ) (v w : ℕ)
+  pub seals-sum : FrameSize n → (zs : List ℤ) → HeatRecords p n zs → (xs ys summed : List ℕ) (v w : ℕ)
       → SealsAs p n zs xs v → SealsAs p n zs ys w → IsSum p n xs ys summed → SealsAs p n zs summed ((v + w) % p)
   seals-sum size zs heat xs ys summed v w e f s =
       ap (λ (o : Outcome (Unit {0})). o .told)
@@ -136,3 +136,15 @@ module _ (p : ℕ) (ok : IsModulus p) (n : ℕ) where
     where
       below : Below p summed
       below i h = rw (s .sums i (rw (s .long) at h)) (mod-lt (getD xs i 0 + getD ys i 0) (omega (arith, ok .prime .two-or-more)))
+
+  -- so a frame that reads as the sum of two frames that come from records comes from those records
+  pub sum-comes-from : FrameSize n → (zs : List ℤ) → HeatRecords p n zs → (frame₁ frame₂ frame xs ys summed : List ℕ) (v w : ℕ)
+      → ReadsAs p n frame₁ xs v → ComesFrom p n zs frame₁ → ReadsAs p n frame₂ ys w → ComesFrom p n zs frame₂
+      → ReadsAs p n frame summed ((v + w) % p) → IsSum p n xs ys summed → ComesFrom p n zs frame
+  sum-comes-from size zs heat frame₁ frame₂ frame xs ys summed v w r from s from′ t sums us u q =
+      let room : List ℕ = replicate n 0 in
+      let read = sym (t room (length-replicate n 0)) ∙ q room (length-replicate n 0) in
+      let value = given-value (ap (λ (o : Outcome (List ℕ)). o .told) read) in
+      let u-is : (v + w) % p ≡ u = cc in
+      subst₂ (SealsAs p n zs) (ap (λ (o : Outcome (List ℕ)). o .lent) read) u-is
+      (seals-sum size zs heat xs ys summed v w (from xs v r) (from′ ys w s) sums)

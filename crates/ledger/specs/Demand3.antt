@@ -1,58 +1,22 @@
 -- Demand 3 as one statement: what holds of every list of calls on the board that an accepted open wrote. A field for each
 -- sentence of the demand and of 01's paragraph on it; `proofs/Demand3.antt` shows that every list has it.
 use mathlib.Core.Path.{_≡_}
-use mathlib.Core.Logic.{_↔_, _⊎_}
+use mathlib.Core.Logic.{_⊎_}
 use mathlib.Core.List.{List, [], _∷_, _++_, map, Perm, List·Memᴰ}
-use Prim.Native.Nat.{ℕ, _+_, _-_, _≤_, _<_}
-use lib.IntN.{ℤ, pos}
-use lib.ListN.{length, getD}
-use Rattle.algebra.specs.Matrix.{Vector}
-use Rattle.algebra.specs.Span.{Combines}
+use Prim.Native.Nat.{ℕ, _+_, _-_, _≤_}
+use lib.IntN.{ℤ}
+use lib.ListN.{length}
 use Rattle.checks.specs.Prime.{IsModulus}
 use Rattle.checks.specs.Refusal.{IsRefusal}
-use Rattle.checks.specs.Told.{Told, results}
-use Rattle.field.specs.Residue.{reduce, residues}
 use Rattle.frame.specs.Reading.{frameMultipliers}
-use Rattle.ledger.specs.Ledger.{Entry, ledger, Assignment, MeetsAll, Settled, multiplierRows}
+use Rattle.ledger.specs.Ledger.{Entry, ledger, Assignment, MeetsAll}
 use Rattle.ledger.specs.Board.{countWord}
 use Rattle.ledger.specs.Calls.{openCall}
 use Rattle.ledger.specs.History.{Call, take, withdraw, show, Reply, boardStep, ledgerRun, boardRun, onBoard}
 use Rattle.ledger.specs.Turns.{Turn, got, left, answered}
 use Rattle.ledger.specs.Heard.{NoWithdrawal, news, heard, ledgerRows, rowsRank}
-use Rattle.ledger.specs.Settle.{Gives, AllSettled, unitTake}
-
--- what a show that is not refused replies where the frames es stand: the answer is n minus their number; record j is marked 1
--- exactly if it is settled, and given as `Gives` says; there are n marks and n numbers
-pub record Shows (p n : ℕ) (es : List Entry) (r : Reply) : Type 0 where
-  pub missing : r .told ≡ results (n - length es)
-  pub marks-long : length (r .words) ≡ n
-  pub numbers-long : length (r .numbers) ≡ n
-  pub marked-exactly : (j : ℕ) → j < n → (getD (r .words) j 0 ≡ 1) ↔ Settled p n es j
-  pub gives : (j : ℕ) → j < n → Gives p n es j (getD (r .words) j 0) (getD (r .numbers) j (pos 0))
-
--- the mix of a frame with the multipliers xs where the frames es stand: "the combination is unique; its multipliers are written
--- to the mix, the rest 0"
-pub record IsMix (p n : ℕ) (es : List Entry) (xs mix : List ℕ) : Type 0 where
-  pub long : length mix ≡ n
-  pub below : (i : ℕ) → i < length es → getD mix i 0 < p
-  pub combines : Combines (residues p) (length es) n (multiplierRows p es) (λ i. reduce p (getD mix i 0)) (λ j. reduce p (getD xs j 0))
-  pub only : (u : Vector (residues p)) → Combines (residues p) (length es) n (multiplierRows p es) u (λ j. reduce p (getD xs j 0))
-      → (i : ℕ) → i < length es → u i ≡ reduce p (getD mix i 0)
-  pub rest : (i : ℕ) → length es ≤ i → getD mix i 0 ≡ 0
-
--- what an answer that carries a count tells of the count k that the board then has: new and repeat carry it, withdraw answers it, and
--- show answers n minus it
-abbrev pub Counted : (n : ℕ) → Call → Told → ℕ → Type 0
-Counted n (take frame mix) told k = (IsRefusal (told .number) → ⊥) → told .values ≡ pos k ∷ []
-Counted n (withdraw t) told k = (IsRefusal (told .number) → ⊥) → told ≡ results k
-Counted n (show marks numbers) told k = (IsRefusal (told .number) → ⊥) → told ≡ results (n - k)
-
--- what a call leaves of the memory lent to it that it does not write: "answer new, with the count; mix untouched", and so every take
--- that is neither answered repeat, 100, nor refused by 9; a show that is refused
-abbrev pub Untouched : Call → Reply → Type 0
-Untouched (take frame mix) r = (r .told .number ≡ 100 → ⊥) → (r .told .number ≡ 9 → ⊥) → r .words ≡ mix
-Untouched (withdraw t) r = Unit {0}
-Untouched (show marks numbers) r = IsRefusal (r .told .number) → (r .words ≡ marks) × (r .numbers ≡ numbers)
+use Rattle.ledger.specs.Settle.{AllSettled, unitTake}
+use Rattle.ledger.specs.Answers.{Answers, Shows, IsMix, Counted, Untouched}
 
 module _ (p n : ℕ) (ws : List ℕ) where
   -- the board that open wrote into the words ws
@@ -75,11 +39,21 @@ abbrev pub standing : (p : ℕ) → IsModulus p → (n : ℕ) → List Call → 
 standing p ok n cs = ledgerRun p ok n (ledger []) cs .state .entries
 
 module _ (p : ℕ) (ok : IsModulus p) (n : ℕ) (ws : List ℕ) where
+  -- n - k takes, of frames that carry one record each, that are all answered new after the calls cs, and settle all records
+  abbrev pub SettlingTakes : List Call → Type 0
+  SettlingTakes cs =
+      (columns : List ℕ) × (length columns ≡ n - countWord (wordsAfter p n ws cs))
+      × ((r : Reply) → List·Memᴰ r (boardRun (wordsAfter p n ws cs) (map (unitTake n) columns) .replies) → r .told .number ≡ 0)
+      × (news (map (unitTake n) columns) (boardRun (wordsAfter p n ws cs) (map (unitTake n) columns) .replies) ≡ length columns)
+      × AllSettled p n (standing p ok n (cs ++ map (unitTake n) columns))
+
   pub record Demand3 (cs : List Call) : Type 0 where
     -- "After the list these equal the ledger's: every answer ..; every mix, mark and number as its call left it; all board words,
     -- being the board laid out as above with the count as k and the entries as its rows." Each call has one reply.
     pub as-ledger : boardRun (freshBoard p n ws) cs ≡ onBoard p n (ledgerRun p ok n (ledger []) cs)
     pub each-answered : length (repliesTo p n ws cs) ≡ length cs
+    -- every call answers as 01 says, by the frames that stood before it: which is refused and by what, and all else is accepted
+    pub answers : (t : Turn cs) → Answers p n (standing p ok n (t .before)) (t .call) (replyAt p n ws t .told)
     -- "answer new, with the count", "The answer is the count": of the board that the call left
     pub counted : (t : Turn cs) → Counted n (t .call) (replyAt p n ws t .told) (countWord (left boardStep (freshBoard p n ws) t))
     -- memory that a call is lent and does not write is as it was
@@ -105,8 +79,8 @@ module _ (p : ℕ) (ok : IsModulus p) (n : ℕ) (ws : List ℕ) where
     -- what they agree on."
     pub shows : (t : Turn cs) (marks : List ℕ) (numbers : List ℤ) → t .call ≡ show marks numbers
         → (IsRefusal (replyAt p n ws t .told .number) → ⊥) → Shows p n (standing p ok n (t .before)) (replyAt p n ws t)
-    -- the standing frames have a common assignment
-    pub common : (x : Assignment p) × MeetsAll p n (standing p ok n cs) x
+    -- the standing frames have a common assignment, after the list and after every front of it
+    pub common : (before behind : List Call) → cs ≡ before ++ behind → (x : Assignment p) × MeetsAll p n (standing p ok n before) x
     -- "Otherwise the combination is unique; its multipliers are written to the mix, the rest 0.": of a frame that is answered
     -- repeat, 100, or refused by 9
     pub mixes : (t : Turn cs) (frame mix : List ℕ) → t .call ≡ take frame mix
@@ -115,8 +89,5 @@ module _ (p : ℕ) (ok : IsModulus p) (n : ℕ) (ws : List ℕ) where
     -- "Missing = n - k: every list of further calls after which all records are settled has at least n - k takes answered new"
     pub missing-at-least : (ds : List Call) → AllSettled p n (standing p ok n (cs ++ ds))
         → n - countWord (wordsAfter p n ws cs) ≤ news ds (boardRun (wordsAfter p n ws cs) ds .replies)
-    -- "and after some n - k takes, all answered new, all are settled": takes of frames that carry one record each
-    pub missing-enough : (columns : List ℕ) × (length columns ≡ n - countWord (wordsAfter p n ws cs))
-        × ((r : Reply) → List·Memᴰ r (boardRun (wordsAfter p n ws cs) (map (unitTake n) columns) .replies) → r .told .number ≡ 0)
-        × (news (map (unitTake n) columns) (boardRun (wordsAfter p n ws cs) (map (unitTake n) columns) .replies) ≡ length columns)
-        × AllSettled p n (standing p ok n (cs ++ map (unitTake n) columns))
+    -- "and after some n - k takes, all answered new, all are settled"
+    pub missing-enough : SettlingTakes cs

@@ -1,5 +1,5 @@
 -- The mission's own sentence: a heat whose frames all carry what seal gives for one set of records, whichever frames were lost,
--- doubled or summed, is shown as those records or as unknown, and a frame that is the sum of two others is never new.
+-- doubled or summed, is shown as those records or as unknown, and a frame that is the sum of two standing ones is never new.
 use mathlib.Core.Path.{_≡_}
 use mathlib.Core.List.{List, List·Memᴰ}
 use Prim.Native.Nat.{ℕ, _+_, _%_, _<_}
@@ -19,7 +19,7 @@ use Rattle.ledger.specs.Turns.{Turn}
 use Rattle.ledger.specs.Demand3.{standing, replyAt}
 
 -- n records in the signed range
-pub record Heat (p n : ℕ) (zs : List ℤ) : Type 0 where
+pub record HeatRecords (p n : ℕ) (zs : List ℤ) : Type 0 where
   pub many : length zs ≡ n
   pub in-range : Records p zs
 
@@ -46,7 +46,7 @@ Honest p n zs cs = (frame mix : List ℕ) → List·Memᴰ (take frame mix) cs �
 -- what a 9 proves: the frames es that stood and the refused one come from no one set of records
 abbrev pub NoRecords : (p n : ℕ) → List Entry → (frame : List ℕ) → Type 0
 NoRecords p n es frame =
-    (zs : List ℤ) → Heat p n zs
+    (zs : List ℤ) → HeatRecords p n zs
     → ((i : ℕ) → i < length es → SealsAs p n zs (getD es i noEntry .multipliers) (getD es i noEntry .value))
     → ComesFrom p n zs frame → ⊥
 

@@ -13,7 +13,7 @@ pub record Turn (cs : List Call) : Type 0 where
   pub behind : List Call
   pub splits : cs ≡ before ++ (call ∷ behind)
 
--- what is read past the end of replies
+-- what is read past the end of replies; no call of a list is answered there, since each has its reply
 abbrev pub noReply : Reply
 noReply = reply done [] []
 

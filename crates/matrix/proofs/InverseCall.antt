@@ -19,6 +19,7 @@ use Rattle.checks.specs.Prime.{IsModulus}
 use Rattle.checks.specs.Told.{results}
 use Rattle.checks.specs.Outcome.{outcome}
 use Rattle.checks.proofs.InOrder.{in-order-elim}
+use Rattle.checks.proofs.Modulus.{modulus-prop}
 use Rattle.checks.proofs.Refusals.{refusal-number}
 use Rattle.field.specs.Residue.{residues, reduce}
 use Rattle.field.specs.Written.{rowsOf, marksOf}
@@ -31,7 +32,7 @@ use Rattle.matrix.specs.Promises.{FreeMarks, QuasiinverseDone}
 use Rattle.matrix.proofs.Checker.{by-size, sized-same}
 use Rattle.matrix.proofs.Memory.{marked-yes, marked-no, place-inside}
 use Rattle.matrix.proofs.Stored.{table-pivots}
-use Rattle.matrix.proofs.Theorems.{quasiinverse-table, inverse-table, rank-columns, chosen-columns-free, chosen-columns-depend, chosen-rows-free, chosen-rows-depend}
+use Rattle.matrix.proofs.Theorems.{quasiinverse-table, inverse-table, inverse-only, rank-columns, chosen-columns-free, chosen-columns-depend, chosen-rows-free, chosen-rows-depend}
 
 -- ---- what is read from written memory
 
@@ -129,6 +130,10 @@ module _ (p : ℕ) (ok : IsModulus p) (m n : ℕ) (a : List ℕ) where
             (value-below (omega (arith, ok .prime .two-or-more)) (D (i / m) (i % m)));
         inverse = rw (D-read, I-read, J-read) (inverse-table p ok m n a);
         quasiinverse = rw D-read (quasiinverse-table p ok m n a);
+        only = rw (D-read, I-read, J-read) (inverse-only p ok m n a);
+        is-D = λ other. D-read ∙ ap (λ q. inverseOf p q m n a) (modulus-prop p ok other);
+        is-I = λ other. I-read ∙ ap (λ q. columnsOf p q m n a) (modulus-prop p ok other);
+        is-r = λ other. ap (count n) I-read ∙ rank-columns p ok m n a ∙ ap (λ q. tableRank p q m n a) (modulus-prop p ok other);
       }
 
 -- a quasiinverse call that is not refused tells r and leaves D and the marks of I and J

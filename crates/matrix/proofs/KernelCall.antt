@@ -107,15 +107,15 @@ module _ (p : ℕ) (ok : IsModulus p) (m n : ℕ) (a : List ℕ) where
   outside-many = ap (λ r. k + r) (sym (rank-columns p ok m n a)) ∙ count-complement n I
 
   -- the place of a column outside I is among them
-  place-inside : (c : ℕ) → c < n → I c ≡ false → outsideBefore p ok m n a c < k
-  place-inside c l e = member-before (λ j. not (I j)) c n l (ap not e)
+  column-place-inside : (c : ℕ) → c < n → I c ≡ false → outsideBefore p ok m n a c < k
+  column-place-inside c l e = member-before (λ j. not (I j)) c n l (ap not e)
 
   -- and what stands there is column c of 1 - DA
   basis-at : (c j : ℕ) → c < n → j < n → I c ≡ false
       → getD (basisOf p ok m n a) (outsideBefore p ok m n a c * n + j) 0 ≡ (kernelVector (residues p) m D A c j) .value
   unfolding basisOf
   basis-at c j l h e =
-      let inside = row-inside (outsideBefore p ok m n a c) k n (place-inside c l e) in
+      let inside = row-inside (outsideBefore p ok m n a c) k n (column-place-inside c l e) in
       List·getD-append (vectors m n I D A n) (replicate (n * tableRank p ok m n a) 0) 0 (outsideBefore p ok m n a c * n + j)
       (omega (arith, vectors-long m n I D A n))
       ∙ vector-at m n I D A n c j l e h
@@ -125,7 +125,7 @@ module _ (p : ℕ) (ok : IsModulus p) (m n : ℕ) (a : List ℕ) where
   basis-vector c j l h e =
       let t = outsideBefore p ok m n a c in
       let same : 0 + t * n + j ≡ t * n + j = omega arith in
-      table-entry p (basisOf p ok m n a) 0 n k n t j (place-inside c l e) h
+      table-entry p (basisOf p ok m n a) 0 n k n t j (column-place-inside c l e) h
       ∙ ap (reduce p) (ap (λ q. getD (basisOf p ok m n a) q 0) same ∙ basis-at c j l h e)
       ∙ reduce-value (kernelVector (residues p) m D A c j)
 

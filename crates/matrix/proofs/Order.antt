@@ -1,18 +1,20 @@
 -- 01, "Order for all three: 1, 2, 3, 4 (A first, then w)", and "What is handed back on refusal", said of the three calls: 1 or 2
--- refuses whatever the lengths and numbers are, 3 whatever the numbers are, then 4, all with lent memory untouched. Solve's 5 is in
--- SolveCall.
+-- refuses whatever the lengths and numbers are, 3 whatever the numbers are, then 4, all with lent memory untouched; all else is
+-- accepted. Solve's 5, and what it accepts, is in SolveCall.
 use mathlib.Core.Path.{_≡_, sym}
 use mathlib.Core.List.{List}
 use Prim.Native.Nat.{ℕ, _*_}
+use native.Mathlib.Omega.{arith}
 use lib.ListN.{length}
 use Rattle.checks.specs.declared.Refusal.{Refusal}
 use Rattle.checks.specs.declared.Refusal.the-variants.{Length, Number}
-use Rattle.checks.specs.InOrder.{Given, FirstFailing}
+use Rattle.checks.specs.InOrder.{Given, AllHold, FirstFailing}
+use Rattle.checks.specs.Refusal.{IsRefusal}
 use Rattle.checks.specs.Sizes.{tableSizes}
-use Rattle.checks.specs.Outcome.{untouched}
-use Rattle.checks.proofs.InOrder.{fails-here, _then_, or-later}
+use Rattle.checks.specs.Outcome.{Outcome, untouched}
+use Rattle.checks.proofs.InOrder.{fails-here, _then_, or-later, in-order-accepted}
 use Rattle.words.specs.Words.{Below}
-use Rattle.matrix.specs.Calls.{quasiinverseCall, kernelCall, solveCall}
+use Rattle.matrix.specs.Calls.{quasiinverseChecks, quasiinverseCall, kernelChecks, kernelCall, solveCall}
 use Rattle.matrix.specs.Parts.{InverseRoom}
 use Rattle.matrix.proofs.Answers.{past-sizes, sizes-first, quasiinverse-refused, kernel-refused, solve-refused}
 
@@ -34,6 +36,13 @@ module _ (p m n : ℕ) (a : List ℕ) where
         or-later (λ ld.
         or-later (λ lc. fails-here (λ lr. bad la (record { d-long = ld; columns-long = lc; rows-long = lr }))))))))
 
+    -- "All else is accepted"
+    pub quasiinverse-accepted : AllHold (quasiinverseChecks p m n a d columns rows)
+        → IsRefusal (quasiinverseCall p m n a d columns rows .told .number) → ⊥
+    unfolding quasiinverseCall
+    quasiinverse-accepted all =
+        in-order-accepted _ _ (λ (o : Outcome (List ℕ × (List ℕ × List ℕ))). IsRefusal (o .told .number) → ⊥) all (λ hs h. omega arith)
+
     pub quasiinverse-number : Given (tableSizes p m n) → length a ≡ m * n → InverseRoom m n d columns rows → (Below p a → ⊥)
         → quasiinverseCall p m n a d columns rows ≡ untouched (d, (columns, rows)) Number
     quasiinverse-number s la r bad =
@@ -50,6 +59,10 @@ module _ (p m n : ℕ) (a : List ℕ) where
     pub kernel-length : Given (tableSizes p m n) → (length a ≡ m * n → length basis ≡ n * n → ⊥)
         → kernelCall p m n a basis ≡ untouched basis Length
     kernel-length s bad = sym (kernel-refused p m n a basis (past-sizes s (or-later (λ la. fails-here (bad la)))))
+
+    pub kernel-accepted : AllHold (kernelChecks p m n a basis) → IsRefusal (kernelCall p m n a basis .told .number) → ⊥
+    unfolding kernelCall
+    kernel-accepted all = in-order-accepted _ _ (λ (o : Outcome (List ℕ)). IsRefusal (o .told .number) → ⊥) all (λ hs h. omega arith)
 
     pub kernel-number : Given (tableSizes p m n) → length a ≡ m * n → length basis ≡ n * n → (Below p a → ⊥)
         → kernelCall p m n a basis ≡ untouched basis Number

@@ -18,7 +18,7 @@ use Rattle.checks.specs.Prime.{IsModulus}
 use Rattle.checks.specs.Told.{results, refused}
 use Rattle.checks.specs.Outcome.{Outcome, outcome}
 use Rattle.checks.specs.InOrder.{Given, EveryKind, AllHold}
-use Rattle.checks.proofs.InOrder.{in-order-elim, kind-of-list, not-both}
+use Rattle.checks.proofs.InOrder.{in-order-elim, kind-of-list, not-both, in-order-accepted}
 use Rattle.checks.proofs.Modulus.{modulus-prop}
 use Rattle.checks.proofs.Refusals.{refusal-number}
 use Rattle.field.specs.Residue.{residues, _⊗_}
@@ -158,6 +158,18 @@ module _ (p m n : ℕ) (a w z u : List ℕ) where
     where
       Q : Outcome (List ℕ × List ℕ) → Type 0
       Q o = NoSolution p m n a w → o .told ≡ refused Insoluble
+
+  -- and accepts wherever there is one
+  pub solve-call-accepts : Given (solveChecks p m n a w z u)
+      → (x : Vector (residues p)) × Solves (residues p) m n (tableOf p m n a) x (vectorOf p w)
+      → IsRefusal (solveCall p m n a w z u .told .number) → ⊥
+  unfolding solveCall
+  solve-call-accepts given some =
+      in-order-accepted _ _ Q (all-hold given)
+      (λ hs. solution-elim p (hs .0) m n a w z Q (λ h r. omega arith) (λ f. absurd (unsolved p (hs .0) m n a w z f some)))
+    where
+      Q : Outcome (List ℕ × List ℕ) → Type 0
+      Q o = IsRefusal (o .told .number) → ⊥
 
   -- so past the checks the answer is 5 exactly if there is no solution
   pub solve-call-exactly : Given (solveChecks p m n a w z u)

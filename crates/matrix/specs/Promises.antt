@@ -6,7 +6,7 @@ use mathlib.Core.Logic.{_⊎_}
 use mathlib.Core.List.{List}
 use Prim.Native.Nat.{ℕ, _+_, _*_, _-_, _<_}
 use lib.ListN.{length, getD, drop, replicate}
-use Rattle.algebra.specs.Matrix.{Vector, sum, unit, apply, mixed}
+use Rattle.algebra.specs.Matrix.{Vector, Matrix, sum, unit, apply, mixed}
 use Rattle.algebra.specs.Span.{Combines, IsCombination, RowDepends, ColumnDepends, InKernel, Solves}
 use Rattle.algebra.specs.Quasiinverse.{count, IsQuasiinverse, IsInverseOn}
 use Rattle.algebra.specs.Kernel.{kernelVector}
@@ -40,6 +40,12 @@ pub record QuasiinverseDone (p m n : ℕ) (a : List ℕ) (o : Outcome (List ℕ 
   pub d-below : Below p (o .lent .0)
   pub inverse : IsInverseOn (residues p) m n (tableOf p m n a) (tableOf p n m (o .lent .0)) (marked (o .lent .1 .0)) (marked (o .lent .1 .1))
   pub quasiinverse : IsQuasiinverse (residues p) m n (tableOf p m n a) (tableOf p n m (o .lent .0))
+  -- there is no other such D; and D, I and r are those that the promises of kernel and solve name
+  pub only : (X : Matrix (residues p))
+      → IsInverseOn (residues p) m n (tableOf p m n a) X (marked (o .lent .1 .0)) (marked (o .lent .1 .1)) → X ≡ tableOf p n m (o .lent .0)
+  pub is-D : (ok : IsModulus p) → tableOf p n m (o .lent .0) ≡ inverseOf p ok m n a
+  pub is-I : (ok : IsModulus p) → marked (o .lent .1 .0) ≡ columnsOf p ok m n a
+  pub is-r : (ok : IsModulus p) → count n (marked (o .lent .1 .0)) ≡ tableRank p ok m n a
 
 -- ---- kernel
 

@@ -1,11 +1,10 @@
--- An accepted open: it is for at most 64 records, and its words are a board, since otherwise open would have told a refusal.
+-- An accepted open: its words are a board, since otherwise open would have told a refusal.
 use mathlib.Core.Path.{_≡_, sym, ap, _∙_, subst}
 use mathlib.Core.List.{List}
-use Prim.Native.Nat.{ℕ, _≤_}
+use Prim.Native.Nat.{ℕ}
 use Rattle.checks.specs.Outcome.{Outcome, outcome}
 use Rattle.ledger.specs.Board.{IsBoard}
 use Rattle.ledger.specs.Calls.{openCall}
-use Rattle.ledger.proofs.Histories.{open-accepted}
 use Rattle.board_calls.specs.declared.OpenAnswer.{OpenAnswer}
 use Rattle.board_calls.specs.declared.OpenAnswer.the-variants as opening
 use Rattle.board_calls.specs.Told.{openTold}
@@ -14,9 +13,6 @@ use Rattle.sheet_heat.proofs.Boards as boards
 module _ (p n : ℕ) (us ws : List ℕ) (r : OpenAnswer) (h : r ≡ opening.Opened) (e : outcome (openTold r) us ≡ openCall p n ws) where
   accepted : openCall p n ws .told .number ≡ 0
   accepted = ap (λ (o : Outcome (List ℕ)). o .told .number) (sym e) ∙ ap (λ (x : OpenAnswer). openTold x .number) h
-
-  pub opened-size : n ≤ 64
-  opened-size = open-accepted p n ws accepted .size .1
 
   pub opened-board : IsBoard us
   opened-board = subst IsBoard (sym (ap (λ (o : Outcome (List ℕ)). o .lent) e)) (boards.opened-board p n ws accepted)

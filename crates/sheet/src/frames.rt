@@ -1,11 +1,10 @@
 // The frames of the input, taken one by one, each with its line. The board stays one.
 ghost use mathlib.Core.Path.{_≡_};
-ghost use Prim.Native.Nat.{_≤_};
 ghost use lib.ListN.{length};
 ghost use Rattle.ledger.specs.Board.{IsBoard};
-ghost use Rattle.checks.specs.Largest.{largest};
 use super::lent;
 use super::lines;
+use board_words::layout;
 use checks::Refusal;
 use libc::STDIN_FILENO;
 use sheet_text::FrameInput;
@@ -53,11 +52,12 @@ fn take_each(board: &mut [u32], bytes: &mut [u8], mix: &mut [u32])
     }
 }
 
-// All frames, onto the board of n records. A length has two bytes, so that every frame has room.
-pub fn take_all(n: usize, board: &mut [u32])
-    requires { ⌜ (n ≤ largest) × IsBoard (now board) ⌝ }
+// All frames, onto the board, with a mix of the board's own n words. A length has two bytes, so that every frame has room.
+pub fn take_all(board: &mut [u32])
+    requires { ⌜ IsBoard (now board) ⌝ }
     ensures { λ _. ⌜ IsBoard (now (board .exit)) ⌝ }
 {
+    let n = board[layout::SIZE] as usize;
     let mut bytes = io::large_buffer();
     let mut mix = lent::words();
     take_each(board, &mut bytes, &mut mix[..n]);

@@ -26,7 +26,7 @@ fn open_in(p: u32, n: u32, board: &mut [u32])
 {
     match board_calls::open(p, n, board) {
         OpenAnswer::Opened => {
-            frames::take_all(n as usize, board);
+            frames::take_all(board);
             lines::ending(board);
         }
         OpenAnswer::Refused(kind) => lines::refused(kind),

@@ -63,7 +63,7 @@ module _ (p : ℕ) (ok : IsModulus p) (n : ℕ) where
       (cutEnding l)
       (ledgerLine l frame ++ linesWithin k (ledgerAfter l frame) (drop size rest))
 
-  -- every frame has two bytes at least, so that there are fewer frames than bytes
+  -- every frame has two bytes at least, so that there are no more frames than bytes
   abbrev pub linesFrom : Ledger → List ℕ → List ℕ
   linesFrom l bytes = linesWithin (length bytes) l bytes
 

@@ -33,7 +33,7 @@ use Rattle.ledger.proofs.LedgerLaws.{is-tabulateℤ, take-accepted, show-accept
 use Rattle.ledger.proofs.LedgerRuns.{run-append, run-proper}
 use Rattle.ledger.proofs.Proper.{empty-proper, step-proper}
 use Rattle.starred.specs.Heat.{HeatFrame, HeatExample, firstFrames, sheetHeat, unsettledHeat, heatExamples, told, mixAfter, entryOf, kept}
-use Rattle.starred.specs.Heat.{takes, replies, standing, HeatHolds}
+use Rattle.starred.specs.Heat.{takes, replies, keptEntries, HeatHolds}
 use Rattle.starred.proofs.Sizes.{areSizes, sizes-checked}
 use Rattle.starred.proofs.HeatChecker.{sameℤ, Witness, settledBy, freeBy, sendToZero, isCombination, isMix, isAnswer, answer-taken}
 use Rattle.starred.proofs.HeatChecker.{isShown, record-shown}
@@ -73,8 +73,8 @@ unfoldable pub passes : HeatExample → Witnesses → Bool
 passes h w =
     areSizes (h .modulus) (h .size)
     and areTaken (h .modulus) (h .size) (w .separating) [] (h .frames)
-    and areShown (h .modulus) (h .size) (w .settling) (standing (h .frames)) (h .marks) (h .numbers)
-    and eqb (h .size - length (standing (h .frames))) (h .missing)
+    and areShown (h .modulus) (h .size) (w .settling) (keptEntries (h .frames)) (h .marks) (h .numbers)
+    and eqb (h .size - length (keptEntries (h .frames))) (h .missing)
 
 -- ---- a frame that passes is taken so
 
@@ -110,8 +110,8 @@ module _ (p n : ℕ) (ok : IsModulus p) where
   -- frames one after the other are taken so
   frames-taken : (xs : List (List ℕ)) (es : List Entry) → Proper p n es → (fs : List HeatFrame) → areTaken p n xs es fs ≡ true
       → (mixes : ℕ → List ℕ) → ((i : ℕ) → length (mixes i) ≡ n)
-      → ledgerRun p ok n (ledger es) (takes fs mixes) ≡ after (ledger (es ++ standing fs)) (replies fs mixes)
-  unfolding areTaken run takes replies standing
+      → ledgerRun p ok n (ledger es) (takes fs mixes) ≡ after (ledger (es ++ keptEntries fs)) (replies fs mixes)
+  unfolding areTaken run takes replies keptEntries
   frames-taken xs es proper [] t mixes long = ap (λ ds. after (ledger ds) []) (sym (append-nil es))
   frames-taken xs es proper (f ∷ fs) t mixes long =
       let (first, others) = both _ _ t in
@@ -124,10 +124,10 @@ module _ (p n : ℕ) (ok : IsModulus p) where
       let rest = run (ledgerStep p ok n) (a .state) (takes fs lent) in after (rest .state) (a .replies ++ rest .replies)) one
       ∙ ap (λ (a : After Ledger). after (a .state) (reply (told (f .answer)) (mixAfter (f .answer) (mixes 0)) [] ∷ a .replies))
       (frames-taken xs (es ++ kept (f .answer) (entryOf f)) stays fs others lent (λ i. long (suc i)))
-      ∙ ap (λ ds. after (ledger ds) (replies (f ∷ fs) mixes)) (append-assoc es (kept (f .answer) (entryOf f)) (standing fs))
+      ∙ ap (λ ds. after (ledger ds) (replies (f ∷ fs) mixes)) (append-assoc es (kept (f .answer) (entryOf f)) (keptEntries fs))
 
   -- the entries that then stand are proper
-  pub frames-proper : (xs : List (List ℕ)) (fs : List HeatFrame) → areTaken p n xs [] fs ≡ true → Proper p n (standing fs)
+  pub frames-proper : (xs : List (List ℕ)) (fs : List HeatFrame) → areTaken p n xs [] fs ≡ true → Proper p n (keptEntries fs)
   frames-proper xs fs taken =
       let lent : ℕ → List ℕ = λ _. replicate n 0 in
       subst (λ (a : After Ledger). Proper p n (a .state .entries))
@@ -153,10 +153,10 @@ module _ (p n : ℕ) (ok : IsModulus p) where
   -- ---- frames and then a show
 
   frames-and-show : (xs : List (List ℕ)) (ws : List Witness) (fs : List HeatFrame) (ms : List ℕ) (zs : List ℤ)
-      → areTaken p n xs [] fs ≡ true → areShown p n ws (standing fs) ms zs ≡ true
+      → areTaken p n xs [] fs ≡ true → areShown p n ws (keptEntries fs) ms zs ≡ true
       → (mixes : ℕ → List ℕ) (marks : List ℕ) (numbers : List ℤ) → ((i : ℕ) → length (mixes i) ≡ n) → length marks ≡ n → length numbers ≡ n
       → ledgerRun p ok n (ledger []) (takes fs mixes ++ (Call.show marks numbers ∷ []))
-      ≡ after (ledger (standing fs)) (replies fs mixes ++ (reply (results (n - length (standing fs))) ms zs ∷ []))
+      ≡ after (ledger (keptEntries fs)) (replies fs mixes ++ (reply (results (n - length (keptEntries fs))) ms zs ∷ []))
   unfolding run ledgerStep
   frames-and-show xs ws fs ms zs taken shown mixes marks numbers mixes-long marks-long numbers-long =
       let ran = frames-taken xs [] (empty-proper p n) fs taken mixes mixes-long in
@@ -164,8 +164,8 @@ module _ (p n : ℕ) (ok : IsModulus p) where
       ∙ ap
       (λ (a : After Ledger).
       let last = run (ledgerStep p ok n) (a .state) (Call.show marks numbers ∷ []) in after (last .state) (a .replies ++ last .replies)) ran
-      ∙ ap (λ (r : Outcome (List ℕ × List ℤ)). after (ledger (standing fs)) (replies fs mixes ++ (reply (r .told) (r .lent .0) (r .lent .1) ∷ [])))
-      (records-shown ws (standing fs) (frames-proper xs fs taken) ms zs shown marks numbers marks-long numbers-long)
+      ∙ ap (λ (r : Outcome (List ℕ × List ℤ)). after (ledger (keptEntries fs)) (replies fs mixes ++ (reply (r .told) (r .lent .0) (r .lent .1) ∷ [])))
+      (records-shown ws (keptEntries fs) (frames-proper xs fs taken) ms zs shown marks numbers marks-long numbers-long)
 
 -- ---- a heat that passes holds
 
@@ -186,7 +186,7 @@ passed-holds h w t =
           (frames-and-show (h .modulus) (h .size) ok (w .separating) (w .settling) (h .frames) (h .marks) (h .numbers) taken shown
           mixes marks numbers (room .mixes-long) (room .marks-long) (room .numbers-long))
           ∙ ap
-          (λ k. after (layout (h .modulus) (h .size) (standing (h .frames)))
+          (λ k. after (layout (h .modulus) (h .size) (keptEntries (h .frames)))
           (replies (h .frames) mixes ++ (reply (results k) (h .marks) (h .numbers) ∷ []))) (eqb-true _ _ many);
     }
 
@@ -212,7 +212,7 @@ witnessed = (sheetHeat, sheetWitnesses) ∷ (unsettledHeat, unsettledWitnesses) 
 
 -- each passes, computed
 all-pass : every (λ (q : HeatExample × Witnesses). passes (q .0) (q .1)) witnessed ≡ true
-unfolding every witnessed sheetHeat sheetWitnesses unsettledHeat unsettledWitnesses firstFrames standing passes areSizes isPrime
+unfolding every witnessed sheetHeat sheetWitnesses unsettledHeat unsettledWitnesses firstFrames keptEntries passes areSizes isPrime
     areTaken isTaken isWritten isAnswer isMix areShown isShown sendToZero isCombination areBelow areSame everyBelow _and_ same sameℤ
     multiplierRows valueColumn mixWords sum unit apply mixed tabulate reduce _⊕_ _⊗_ reading
     frameOf mapBytes mapByte mapLength stands packed valueBytes bytesOf width

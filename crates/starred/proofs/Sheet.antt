@@ -35,7 +35,7 @@ use Rattle.sheet_text.specs.Lines.{newWord, repeatWord, conflictWord, refusedWo
 use Rattle.sheet_text.specs.Lines.{recordText, recordLine, recordLines, missingLine}
 use Rattle.sheet_heat.specs.Sheet.{cutLine, endingFrom, ledgerEnding, ledgerTakes, ledgerAfter, ledgerLine, linesFrom, heatOf, sheetOf}
 use Rattle.sheet_heat.proofs.SheetLaws.{lines-end, lines-frame}
-use Rattle.starred.specs.Heat.{HeatFrame, HeatExample, firstFrames, sheetHeat, unsettledHeat, told, entryOf, kept, standing}
+use Rattle.starred.specs.Heat.{HeatFrame, HeatExample, firstFrames, sheetHeat, unsettledHeat, told, entryOf, kept, keptEntries}
 use Rattle.starred.specs.Sheet.{framesStream, streamOf, SheetExample, nineLines, unknownLines, sheetExamples, Prints}
 use Rattle.starred.proofs.Sizes.{areSizes, sizes-checked}
 use Rattle.starred.proofs.HeatChecker.{sameℤ, sendToZero, isCombination, isMix, isAnswer, isShown}
@@ -90,8 +90,8 @@ module _ (p n : ℕ) (ok : IsModulus p) where
   -- frames that are taken so print the lines of their answers
   frames-print : (xs : List (List ℕ)) (es : List Entry) → Proper p n es → (fs : List HeatFrame)
       → areTaken p n xs es fs ≡ true → areShort fs ≡ true
-      → linesFrom p ok n (ledger es) (framesStream fs) ≡ framesText es fs ++ ledgerEnding p ok n (ledger (es ++ standing fs))
-  unfolding areTaken areShort framesStream framesText standing ledgerTakes ledgerLine ledgerStep
+      → linesFrom p ok n (ledger es) (framesStream fs) ≡ framesText es fs ++ ledgerEnding p ok n (ledger (es ++ keptEntries fs))
+  unfolding areTaken areShort framesStream framesText keptEntries ledgerTakes ledgerLine ledgerStep
   frames-print xs es proper [] t s = lines-end p ok n (ledger es) ∙ ap (λ ds. ledgerEnding p ok n (ledger ds)) (sym (append-nil es))
   frames-print xs es proper (f ∷ fs) t s =
       let (first, others) = both _ _ t in
@@ -107,7 +107,7 @@ module _ (p n : ℕ) (ok : IsModulus p) where
       frameLine (r .told) (length (r .lent .0 .entries)) ++ linesFrom p ok n (r .lent .0) (framesStream fs)) taken
       ∙ ap (λ x. frameLine (told (f .answer)) (length after) ++ x) (frames-print xs after stays fs others rest)
       ∙ sym (append-assoc (frameLine (told (f .answer)) (length after)) (framesText after fs) _)
-      ∙ ap (λ ds. framesText es (f ∷ fs) ++ ledgerEnding p ok n (ledger ds)) (append-assoc es (kept (f .answer) (entryOf f)) (standing fs))
+      ∙ ap (λ ds. framesText es (f ∷ fs) ++ ledgerEnding p ok n (ledger ds)) (append-assoc es (kept (f .answer) (entryOf f)) (keptEntries fs))
 
   -- and the ending is that of what show gives
   ending-prints : (w : Witnesses) (es : List Entry) → Proper p n es → (ms : List ℕ) (zs : List ℤ) (missing : ℕ)
@@ -143,7 +143,7 @@ passed-prints e w t =
     (λ given. ap (λ q. linesFrom p q n (ledger []) (framesStream (h .frames))) (modulus-prop p (given .0) ok))
     ∙ frames-print p n ok (w .separating) [] (empty-proper p n) (h .frames) taken short
     ∙ ap (λ x. framesText [] (h .frames) ++ x)
-    (ending-prints p n ok w (standing (h .frames)) (frames-proper p n ok (w .separating) (h .frames) taken) (h .marks) (h .numbers) (h .missing)
+    (ending-prints p n ok w (keptEntries (h .frames)) (frames-proper p n ok (w .separating) (h .frames) taken) (h .marks) (h .numbers) (h .missing)
     shown (eqb-true _ _ many))
     ∙ all-same _ _ text
 
@@ -152,7 +152,7 @@ witnessed = (nineLines, sheetWitnesses) ∷ (unknownLines, unsettledWitnesses) �
 
 -- each passes, computed
 all-pass : every (λ (q : SheetExample × Witnesses). prints (q .0) (q .1)) witnessed ≡ true
-unfolding every witnessed nineLines unknownLines sheetHeat sheetWitnesses unsettledHeat unsettledWitnesses firstFrames standing
+unfolding every witnessed nineLines unknownLines sheetHeat sheetWitnesses unsettledHeat unsettledWitnesses firstFrames keptEntries
     prints passes areSizes isPrime areTaken isTaken isWritten isAnswer isMix areShown isShown sendToZero isCombination areBelow areSame
     everyBelow _and_ same sameℤ multiplierRows valueColumn mixWords sum unit apply mixed tabulate reduce _⊕_ _⊗_ reading
     frameOf mapBytes mapByte mapLength stands packed valueBytes bytesOf width

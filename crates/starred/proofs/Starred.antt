@@ -13,7 +13,7 @@ use Rattle.matrix.specs.Examples.{tableExamples}
 use Rattle.matrix.proofs.Checker.{_and_, every, everyBelow, both, every-member}
 use Rattle.matrix.proofs.CheckedTables.{areBelow, areSame, isPrime, same}
 use Rattle.matrix.proofs.Examples.{starred-tables-hold}
-use Rattle.frame.specs.Examples.{FrameExample, frameExamples}
+use Rattle.frame.specs.Examples.{FrameExample, frameExamples, FrameHolds}
 use Rattle.frame.specs.Format.{mapLength, stands, mapByte, mapBytes, packed, valueBytes, frameOf}
 use Rattle.frame.proofs.Examples.{starred-frames-read}
 use Rattle.ledger.specs.Calls.{laidOut, takeCall}
@@ -22,7 +22,7 @@ use Rattle.ledger.specs.Steps.{mixWords}
 use Rattle.ledger.proofs.Proper.{empty-proper}
 use Rattle.ledger.proofs.Histories.{open-done}
 use Rattle.ledger.proofs.WordsCalls.{take-at-layout}
-use Rattle.starred.specs.Starred.{BoardExample, boardExamples, Starred, table, frame, board, starred, BoardHolds, FrameHolds, Holds}
+use Rattle.starred.specs.Starred.{BoardExample, boardExamples, Starred, table, frame, board, starred, BoardHolds, Holds}
 use Rattle.starred.proofs.Sizes.{areSizes, sizes-checked}
 use Rattle.starred.proofs.HeatChecker.{isCombination, isMix, isAnswer}
 use Rattle.starred.proofs.Heat.{isWritten, isTaken, frame-taken}

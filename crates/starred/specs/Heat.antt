@@ -133,9 +133,9 @@ unfoldable pub replies : List HeatFrame → (lent : ℕ → List ℕ) → List R
 replies [] lent = []
 replies (f ∷ fs) lent = reply (told (f .answer)) (mixAfter (f .answer) (lent 0)) [] ∷ replies fs (λ i. lent (suc i))
 
-unfoldable pub standing : List HeatFrame → List Entry
-standing [] = []
-standing (f ∷ fs) = kept (f .answer) (entryOf f) ++ standing fs
+unfoldable pub keptEntries : List HeatFrame → List Entry
+keptEntries [] = []
+keptEntries (f ∷ fs) = kept (f .answer) (entryOf f) ++ keptEntries fs
 
 -- memory lent to open, to the takes and to show, of the lengths named
 pub record HeatRoom (n : ℕ) (ws : List ℕ) (mixes : ℕ → List ℕ) (marks : List ℕ) (numbers : List ℤ) : Type 0 where
@@ -150,5 +150,5 @@ pub record HeatHolds (h : HeatExample) : Type 0 where
   pub opens : (ws : List ℕ) → length ws ≡ boardLength (h .size) → openCall (h .modulus) (h .size) ws .told ≡ done
   pub goes : (ws : List ℕ) (mixes : ℕ → List ℕ) (marks : List ℕ) (numbers : List ℤ) → HeatRoom (h .size) ws mixes marks numbers
       → boardRun (openCall (h .modulus) (h .size) ws .lent) (takes (h .frames) mixes ++ (Call.show marks numbers ∷ []))
-      ≡ after (layout (h .modulus) (h .size) (standing (h .frames)))
+      ≡ after (layout (h .modulus) (h .size) (keptEntries (h .frames)))
       (replies (h .frames) mixes ++ (reply (results (h .missing)) (h .marks) (h .numbers) ∷ []))

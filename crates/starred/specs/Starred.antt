@@ -3,13 +3,10 @@
 use mathlib.Core.Path.{_≡_}
 use mathlib.Core.List.{List, [], _∷_, _++_, map}
 use Prim.Native.Nat.{ℕ}
-use lib.IntN.{pos}
 use lib.ListN.{length}
-use Rattle.checks.specs.Told.{gives}
 use Rattle.checks.specs.Outcome.{outcome}
 use Rattle.matrix.specs.Examples.{TableExample, tableExamples, Holds as TableHolds}
-use Rattle.frame.specs.Calls.{readCall}
-use Rattle.frame.specs.Examples.{FrameExample, frameExamples}
+use Rattle.frame.specs.Examples.{FrameExample, frameExamples, FrameHolds}
 use Rattle.ledger.specs.Board.{boardLength, layout}
 use Rattle.ledger.specs.Calls.{openCall, takeCall}
 use Rattle.starred.specs.Heat.{repeat, conflict, HeatFrame, told, mixAfter, entryOf, kept}
@@ -65,12 +62,6 @@ BoardHolds e =
     → takeCall (openCall (e .modulus) (e .size) ws .lent) (e .taken .bytes) mix
     ≡ outcome (told (e .taken .answer))
     (layout (e .modulus) (e .size) (kept (e .taken .answer) (entryOf (e .taken))), mixAfter (e .taken .answer) mix)
-
--- read gives the value and writes the multipliers, whatever the memory lent to it holds
-abbrev pub FrameHolds : FrameExample → Type 0
-FrameHolds e =
-    (multipliers : List ℕ) → length multipliers ≡ e .size
-    → readCall (e .modulus) (e .size) (e .bytes) multipliers ≡ outcome (gives (pos (e .value))) (e .multipliers)
 
 abbrev pub Holds : Starred → Type 0
 Holds (table e) = TableHolds e

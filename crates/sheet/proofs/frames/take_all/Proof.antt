@@ -1,10 +1,16 @@
--- `sheet::frames::take_all` is safe: of 64 words at most 64 are lent as the mix.
+-- `sheet::frames::take_all` meets its contract: the board's n is at most 64, so that the mix lent is n of 64 words.
 use mathlib.Core.Path.{sym}
 use native.Mathlib.Omega.{arith}
 use lib.Seq.{length-take-le}
 use borrow.Author.Needs.{needs}
 use Rattle.sheet.proofs.frames.take_all.Statement.{statement}
 use Rattle.sheet.proofs.frames.take_all.Tie as tie
+
+slice-read-n : tie.Need-slice-read-n
+slice-read-n c = search needs
+
+cast-n : tie.Need-cast-n
+cast-n c = search needs
 
 large-buffer-requires : tie.Need-large-buffer-requires
 large-buffer-requires c κs = search needs
@@ -33,5 +39,5 @@ returns c = search needs
 pub take-all-spec : {M : Type 1} → statement M
 take-all-spec =
     tie.close
-    (tie.spec large-buffer-requires words-requires slice-aggregate-take-each array-borrow-prefix-mix slice-aggregate-take-each-2
-    take-each-requires same-length returns)
+    (tie.spec slice-read-n cast-n large-buffer-requires words-requires slice-aggregate-take-each array-borrow-prefix-mix
+    slice-aggregate-take-each-2 take-each-requires same-length returns)

@@ -1,13 +1,8 @@
--- `sheet::heat::open_in` is safe: where open is accepted there are at most 64 records, and the words are a board.
-use Prim.Native.Nat.{_≤_}
+-- `sheet::heat::open_in` is safe: where open is accepted the words are a board.
 use borrow.Author.Needs.{needs}
-use Rattle.sheet.proofs.Opened.{opened-size, opened-board}
+use Rattle.sheet.proofs.Opened.{opened-board}
 use Rattle.sheet.proofs.heat.open_in.Statement.{statement}
 use Rattle.sheet.proofs.heat.open_in.Tie as tie
-
--- an opened board's size
-size : (c : tie.After-enum-told) → c .before .before .before .before .before .before .before .args .n ≤ 64
-size c = opened-size _ _ _ _ _ (c .enum-told .given .1) (c .before .before .before .before .«open» .ensures)
 
 open-requires : tie.Need-open-requires
 open-requires c κs = search needs
@@ -18,7 +13,7 @@ enum-told c = search needs
 take-all-requires : tie.Need-take-all-requires
 take-all-requires c κs =
     let told = c .before in
-    (size told, opened-board _ _ _ _ _ (told .enum-told .given .1) (told .before .before .before .before .«open» .ensures))
+    opened-board _ _ _ _ _ (told .enum-told .given .1) (told .before .before .before .before .«open» .ensures)
 
 ending-requires : tie.Need-ending-requires
 ending-requires c κs = c .before .before .before .take-all .ensures

@@ -1,0 +1,86 @@
+-- What a call answers, writes and leaves where the frames es stand, in 01's words: the promises of take, withdraw and show that demand 3
+-- makes of every call of a list.
+use mathlib.Core.Path.{_≡_}
+use mathlib.Core.Logic.{_↔_}
+use mathlib.Core.List.{List, [], _∷_}
+use Prim.Native.Nat.{ℕ, suc, _-_, _≤_, _<_}
+use lib.IntN.{ℤ, pos}
+use lib.ListN.{length, getD}
+use Rattle.algebra.specs.Matrix.{Vector}
+use Rattle.algebra.specs.Span.{Combines}
+use Rattle.checks.specs.declared.Refusal.{Refusal}
+use Rattle.checks.specs.declared.Refusal.the-variants.{Length, Conflict, Withdrawal}
+use Rattle.checks.specs.Refusal.{IsRefusal}
+use Rattle.checks.specs.Told.{Told, refused, results}
+use Rattle.checks.specs.InOrder.{AllHold, FirstFailing}
+use Rattle.field.specs.Residue.{reduce, residues}
+use Rattle.frame.specs.Reading.{frameMultipliers, frameValue}
+use Rattle.ledger.specs.Ledger.{Entry, InSpan, GivesValue, Settled, multiplierRows}
+use Rattle.ledger.specs.Steps.{newTold, repeatTold, takeChecks}
+use Rattle.ledger.specs.History.{Call, take, withdraw, show, Reply}
+use Rattle.ledger.specs.Settle.{Gives}
+
+-- ---- answers
+
+-- "Take a frame, with a lent mix of n words. Checks: .. 3, the frame's checks, then: if the multipliers are no combination of the ledger's
+-- rows .., append: answer new, with the count .. Otherwise .. Answer repeat if the same combination of values gives the frame's value,
+-- otherwise refusal 9."
+pub record TakeAnswers (p n : ℕ) (es : List Entry) (frame mix : List ℕ) (told : Told) : Type 0 where
+  pub refuses : (k : Refusal) → FirstFailing (takeChecks p n frame mix) k → told ≡ refused k
+  pub news : AllHold (takeChecks p n frame mix) → (InSpan p n es (frameMultipliers n frame) → ⊥) → told ≡ newTold (suc (length es))
+  pub repeats : AllHold (takeChecks p n frame mix) → (c : InSpan p n es (frameMultipliers n frame))
+      → GivesValue p es (c .0) (frameValue n frame) → told ≡ repeatTold (length es)
+  pub conflicts : AllHold (takeChecks p n frame mix) → (c : InSpan p n es (frameMultipliers n frame))
+      → (GivesValue p es (c .0) (frameValue n frame) → ⊥) → told ≡ refused Conflict
+
+-- "Withdraw t: checks .. 10, then drops the last t entries. .. The answer is the count."
+pub record WithdrawAnswers (es : List Entry) (t : ℕ) (told : Told) : Type 0 where
+  pub drops : t ≤ length es → told ≡ results (length es - t)
+  pub overlong : (t ≤ length es → ⊥) → told ≡ refused Withdrawal
+
+-- "Show: checks .. 3. Lent: n marks, n signed numbers. .. The answer is n minus the count."
+pub record ShowAnswers (n : ℕ) (es : List Entry) (marks : List ℕ) (numbers : List ℤ) (told : Told) : Type 0 where
+  pub shows : length marks ≡ n → length numbers ≡ n → told ≡ results (n - length es)
+  pub lengths : (length marks ≡ n → length numbers ≡ n → ⊥) → told ≡ refused Length
+
+abbrev pub Answers : (p n : ℕ) → List Entry → Call → Told → Type 0
+Answers p n es (take frame mix) told = TakeAnswers p n es frame mix told
+Answers p n es (withdraw t) told = WithdrawAnswers es t told
+Answers p n es (show marks numbers) told = ShowAnswers n es marks numbers told
+
+-- ---- what is written
+
+-- what a show that is not refused replies where the frames es stand: the answer is n minus their number; record j is marked 1
+-- exactly if it is settled, and given as `Gives` says; there are n marks and n numbers
+pub record Shows (p n : ℕ) (es : List Entry) (r : Reply) : Type 0 where
+  pub missing : r .told ≡ results (n - length es)
+  pub marks-long : length (r .words) ≡ n
+  pub numbers-long : length (r .numbers) ≡ n
+  pub marked-exactly : (j : ℕ) → j < n → (getD (r .words) j 0 ≡ 1) ↔ Settled p n es j
+  pub gives : (j : ℕ) → j < n → Gives p n es j (getD (r .words) j 0) (getD (r .numbers) j (pos 0))
+
+-- the mix of a frame with the multipliers xs where the frames es stand: "the combination is unique; its multipliers are written
+-- to the mix, the rest 0"
+pub record IsMix (p n : ℕ) (es : List Entry) (xs mix : List ℕ) : Type 0 where
+  pub long : length mix ≡ n
+  pub below : (i : ℕ) → i < length es → getD mix i 0 < p
+  pub combines : Combines (residues p) (length es) n (multiplierRows p es) (λ i. reduce p (getD mix i 0)) (λ j. reduce p (getD xs j 0))
+  pub only : (u : Vector (residues p)) → Combines (residues p) (length es) n (multiplierRows p es) u (λ j. reduce p (getD xs j 0))
+      → (i : ℕ) → i < length es → u i ≡ reduce p (getD mix i 0)
+  pub rest : (i : ℕ) → length es ≤ i → getD mix i 0 ≡ 0
+
+-- ---- the count, and memory that is not written
+
+-- what an answer that carries a count tells of the count k that the board then has: new and repeat carry it, withdraw answers it, and
+-- show answers n minus it
+abbrev pub Counted : (n : ℕ) → Call → Told → ℕ → Type 0
+Counted n (take frame mix) told k = (IsRefusal (told .number) → ⊥) → told .values ≡ pos k ∷ []
+Counted n (withdraw t) told k = (IsRefusal (told .number) → ⊥) → told ≡ results k
+Counted n (show marks numbers) told k = (IsRefusal (told .number) → ⊥) → told ≡ results (n - k)
+
+-- what a call leaves of the memory lent to it that it does not write: "answer new, with the count; mix untouched", and so every take
+-- that is neither answered repeat, 100, nor refused by 9; a show that is refused
+abbrev pub Untouched : Call → Reply → Type 0
+Untouched (take frame mix) r = (r .told .number ≡ 100 → ⊥) → (r .told .number ≡ 9 → ⊥) → r .words ≡ mix
+Untouched (withdraw t) r = Unit {0}
+Untouched (show marks numbers) r = IsRefusal (r .told .number) → (r .words ≡ marks) × (r .numbers ≡ numbers)
