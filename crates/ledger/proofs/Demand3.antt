@@ -18,11 +18,11 @@ use Rattle.ledger.specs.Turns.{Turn, noReply, replyOf, got, left}
 use Rattle.ledger.specs.Heard.{NoWithdrawal, news, heard}
 use Rattle.ledger.specs.Settle.{AllSettled, unitTake}
 use Rattle.ledger.specs.Proper.{Proper}
-use Rattle.ledger.specs.Answers.{Answers, Shows, IsMix, Counted, Untouched}
+use Rattle.ledger.specs.Answers.{Answers, Changes, Shows, IsMix, Counted, Untouched}
 use Rattle.ledger.specs.Demand3.{freshBoard, wordsAfter, repliesTo, standing, replyAt, SettlingTakes, Demand3}
 use Rattle.ledger.proofs.LayoutBoard.{layout-count}
 use Rattle.ledger.proofs.Proper.{empty-proper}
-use Rattle.ledger.proofs.LedgerRuns.{run-append, run-proper, step-not-eleven, step-counted, step-untouched}
+use Rattle.ledger.proofs.LedgerRuns.{run-append, run-proper, step-not-eleven, step-changes, step-counted, step-untouched}
 use Rattle.ledger.proofs.LedgerLaws.{standing-met}
 use Rattle.ledger.proofs.LedgerSteps.{took}
 use Rattle.ledger.proofs.Histories.{open-accepted, history, board-as-ledger, refused-keeps, withdrawal-restores}
@@ -74,13 +74,23 @@ module _ (p : ℕ) (ok : IsModulus p) (n : ℕ) (ws : List ℕ) (done : openCall
       ∙ refused-keeps (got boardStep (freshBoard p n ws) t) (t .call)
       (subst (λ (r : Reply). IsRefusal (r .told .number)) (turn-answered boardStep board-once (freshBoard p n ws) t) h)
 
+  -- the frames that stand after it are those of the ledger's step
+  turn-standing : {cs : List Call} (t : Turn cs)
+      → standing p ok n (t .before ++ (t .call ∷ [])) ≡ ledgerStep p ok n (ledger (standing p ok n (t .before))) (t .call) .state .entries
+  turn-standing t = ap (λ (l : Ledger). l .entries) (turn-left (ledgerStep p ok n) (ledger []) t)
+
+  turn-changes : {cs : List Call} (t : Turn cs)
+      → Changes n (t .call) (replyAt p n ws t .told) (standing p ok n (t .before)) (standing p ok n (t .before ++ (t .call ∷ [])))
+  turn-changes t =
+      subst₂ (λ (r : Reply) fs. Changes n (t .call) (r .told) (standing p ok n (t .before)) fs) (sym (turn-replied t)) (sym (turn-standing t))
+      (step-changes p ok n (ledger (standing p ok n (t .before))) (t .call))
+
   -- the count of the board that it left is that of the ledger's step
   turn-count : {cs : List Call} (t : Turn cs)
       → countWord (left boardStep (freshBoard p n ws) t)
       ≡ length (ledgerStep p ok n (ledger (standing p ok n (t .before))) (t .call) .state .entries)
   turn-count t =
-      reached-count (t .before ++ (t .call ∷ []))
-      ∙ ap (λ (l : Ledger). length (l .entries)) (turn-left (ledgerStep p ok n) (ledger []) t)
+      reached-count (t .before ++ (t .call ∷ [])) ∙ ap length (turn-standing t)
 
   turn-counted : {cs : List Call} (t : Turn cs)
       → Counted n (t .call) (replyAt p n ws t .told) (countWord (left boardStep (freshBoard p n ws) t))
@@ -152,6 +162,7 @@ module _ (p : ℕ) (ok : IsModulus p) (n : ℕ) (ws : List ℕ) (done : openCall
         answers = λ t.
             subst (λ (r : Reply). Answers p n (standing p ok n (t .before)) (t .call) (r .told)) (sym (turn-replied t))
             (step-answers p ok n (standing p ok n (t .before)) (standing-proper (t .before)) (t .call));
+        changes = turn-changes;
         counted = turn-counted;
         untouched = λ t.
             subst (Untouched (t .call)) (sym (turn-replied t)) (step-untouched p ok n (ledger (standing p ok n (t .before))) (t .call));

@@ -1,7 +1,7 @@
 -- Lists of calls on the ledger: a list after a list, that a ledger stays proper, that without withdrawals entries are only
--- added behind those that stand, that no reply tells 11, what is told of the count, what is left as it was
+-- added behind those that stand, that no reply tells 11, how the entries change, what is told of the count, what is left as it was
 -- lent, and that a refused call changes nothing.
-use mathlib.Core.Path.{_≡_, refl, sym, ap, _∙_}
+use mathlib.Core.Path.{_≡_, refl, sym, ap, ap₂, _∙_}
 use mathlib.Core.List.{List, [], _∷_, _++_, append-nil, append-assoc}
 use Prim.Native.Nat.{ℕ, _-_}
 use native.Mathlib.Nat.{sub-le}
@@ -16,11 +16,12 @@ use Rattle.checks.specs.Told.{results}
 use Rattle.checks.proofs.Refusals.{refusal-number}
 use Rattle.checks.proofs.InOrder.{in-order-elim}
 use Rattle.checks.specs.Outcome.{Outcome}
+use Rattle.frame.proofs.Round.{accepted-found}
 use Rattle.ledger.specs.Ledger.{Entry, entry, Ledger}
 use Rattle.ledger.specs.Steps.{ledgerTake, ledgerShow}
 use Rattle.ledger.specs.History.{Call, reply, After, after, ledgerStep, run, ledgerRun}
 use Rattle.ledger.specs.Turns.{replyOf}
-use Rattle.ledger.specs.Answers.{Counted, Untouched}
+use Rattle.ledger.specs.Answers.{Changes, Counted, Untouched}
 use Rattle.ledger.specs.Heard.{NoWithdrawal}
 use Rattle.ledger.specs.Proper.{Proper}
 use Rattle.ledger.proofs.EntryMore.{length-more}
@@ -90,6 +91,29 @@ module _ (p : ℕ) (ok : IsModulus p) (n : ℕ) where
   step-not-eleven l (Call.take frame mix) d = took-not-eleven l frame mix (took p ok n l frame mix) d
   step-not-eleven l (Call.withdraw t) d = withdrew-not-eleven l t (withdrew l t) d
   step-not-eleven l (Call.show marks numbers) d = showed-not-eleven l (showed p ok n l marks numbers) d
+
+  -- ---- how the entries change
+
+  took-changes : (l : Ledger) (frame mix : List ℕ) {r : Outcome (Ledger × List ℕ)} → Took p ok n l frame mix r
+      → Changes n (Call.take frame mix) (r .told) (l .entries) (r .lent .0 .entries)
+  took-changes l frame mix (new xs v e f) =
+      let (xs-found, v-found) = accepted-found p n frame xs v e in
+      (λ _. ap₂ (λ ys w. l .entries ++ (entry ys w ∷ [])) (sym xs-found) (sym v-found), λ h. absurd (h refl))
+  took-changes l frame mix (repeat xs v e c g) = (λ d. absurd (omega arith), λ _. refl)
+  took-changes l frame mix (conflict xs v e c g) = (λ d. absurd (omega arith), λ _. refl)
+  took-changes l frame mix (refusal k i) = (λ d. absurd (omega (arith, refusal-number k)), λ _. refl)
+
+  withdrew-changes : (l : Ledger) (t : ℕ) {r : Outcome Ledger} → Withdrew l t r
+      → Changes n (Call.withdraw t) (r .told) (l .entries) (r .lent .entries)
+  withdrew-changes l t (dropped h) = (λ _. refl, λ i. absurd (omega arith))
+  withdrew-changes l t overlong = (λ f. absurd (f (refusal-number Withdrawal)), λ _. refl)
+
+  pub step-changes : (l : Ledger) (c : Call)
+      → Changes n c (replyOf (ledgerStep p ok n l c) .told) (l .entries) (ledgerStep p ok n l c .state .entries)
+  unfolding ledgerStep
+  step-changes l (Call.take frame mix) = took-changes l frame mix (took p ok n l frame mix)
+  step-changes l (Call.withdraw t) = withdrew-changes l t (withdrew l t)
+  step-changes l (Call.show marks numbers) = refl
 
   -- ---- what is told of the count
 

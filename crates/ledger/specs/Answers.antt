@@ -2,10 +2,11 @@
 -- makes of every call of a list.
 use mathlib.Core.Path.{_≡_}
 use mathlib.Core.Logic.{_↔_}
-use mathlib.Core.List.{List, [], _∷_}
+use mathlib.Core.List.{List, [], _∷_, _++_}
 use Prim.Native.Nat.{ℕ, suc, _-_, _≤_, _<_}
 use lib.IntN.{ℤ, pos}
 use lib.ListN.{length, getD}
+use lib.ListN as lists
 use Rattle.algebra.specs.Matrix.{Vector}
 use Rattle.algebra.specs.Span.{Combines}
 use Rattle.checks.specs.declared.Refusal.{Refusal}
@@ -15,7 +16,7 @@ use Rattle.checks.specs.Told.{Told, refused, results}
 use Rattle.checks.specs.InOrder.{AllHold, FirstFailing}
 use Rattle.field.specs.Residue.{reduce, residues}
 use Rattle.frame.specs.Reading.{frameMultipliers, frameValue}
-use Rattle.ledger.specs.Ledger.{Entry, InSpan, GivesValue, Settled, multiplierRows}
+use Rattle.ledger.specs.Ledger.{Entry, entry, InSpan, GivesValue, Settled, multiplierRows}
 use Rattle.ledger.specs.Steps.{newTold, repeatTold, takeChecks}
 use Rattle.ledger.specs.History.{Call, take, withdraw, show, Reply}
 use Rattle.ledger.specs.Settle.{Gives}
@@ -47,6 +48,17 @@ abbrev pub Answers : (p n : ℕ) → List Entry → Call → Told → Type 0
 Answers p n es (take frame mix) told = TakeAnswers p n es frame mix told
 Answers p n es (withdraw t) told = WithdrawAnswers es t told
 Answers p n es (show marks numbers) told = ShowAnswers n es marks numbers told
+
+-- ---- the standing frames
+
+-- how a call changes the standing frames, from es to fs, by what it told: "append: answer new, .. Neither changes the list", "drops the last
+-- t entries", "A refused call leaves it as it is"; a show only reads them
+abbrev pub Changes : (n : ℕ) → Call → Told → (es fs : List Entry) → Type 0
+Changes n (take frame mix) told es fs =
+    (told .number ≡ 0 → fs ≡ es ++ (entry (frameMultipliers n frame) (frameValue n frame) ∷ [])) × ((told .number ≡ 0 → ⊥) → fs ≡ es)
+Changes n (withdraw t) told es fs =
+    ((IsRefusal (told .number) → ⊥) → fs ≡ lists.take (length es - t) es) × (IsRefusal (told .number) → fs ≡ es)
+Changes n (show marks numbers) told es fs = fs ≡ es
 
 -- ---- what is written
 

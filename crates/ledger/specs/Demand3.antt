@@ -16,7 +16,7 @@ use Rattle.ledger.specs.History.{Call, take, withdraw, show, Reply, boar
 use Rattle.ledger.specs.Turns.{Turn, got, left, answered}
 use Rattle.ledger.specs.Heard.{NoWithdrawal, news, heard, ledgerRows, rowsRank}
 use Rattle.ledger.specs.Settle.{AllSettled, unitTake}
-use Rattle.ledger.specs.Answers.{Answers, Shows, IsMix, Counted, Untouched}
+use Rattle.ledger.specs.Answers.{Answers, Changes, Shows, IsMix, Counted, Untouched}
 
 module _ (p n : ℕ) (ws : List ℕ) where
   -- the board that open wrote into the words ws
@@ -54,6 +54,9 @@ module _ (p : ℕ) (ok : IsModulus p) (n : ℕ) (ws : List ℕ) where
     pub each-answered : length (repliesTo p n ws cs) ≡ length cs
     -- every call answers as 01 says, by the frames that stood before it: which is refused and by what, and all else is accepted
     pub answers : (t : Turn cs) → Answers p n (standing p ok n (t .before)) (t .call) (replyAt p n ws t .told)
+    -- and changes the standing frames as 01 says
+    pub changes : (t : Turn cs)
+        → Changes n (t .call) (replyAt p n ws t .told) (standing p ok n (t .before)) (standing p ok n (t .before ++ (t .call ∷ [])))
     -- "answer new, with the count", "The answer is the count": of the board that the call left
     pub counted : (t : Turn cs) → Counted n (t .call) (replyAt p n ws t .told) (countWord (left boardStep (freshBoard p n ws) t))
     -- memory that a call is lent and does not write is as it was
