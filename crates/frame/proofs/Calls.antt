@@ -17,7 +17,8 @@ use Rattle.checks.specs.InOrder.{passed, _else_, _⨾_, andThen, AllHold, First
 use Rattle.checks.specs.Decide.{long?}
 use Rattle.checks.specs.Sizes.{frameSizes}
 use Rattle.checks.proofs.Refusals.{refusal-number, given-value, refused-gives-none}
-use Rattle.checks.proofs.InOrder.{none-left, in-order-done, in-order-refused, in-order-elim, in-order-map, in-order-then, hold-and-then, fails-in-front, fails-then, _and-then_, in-order-accepted}
+use Rattle.checks.proofs.InOrder.{none-left, in-order-done, in-order-refused, in-order-elim, in-order-accepted, in-order-map, in-order-then}
+use Rattle.checks.proofs.InOrder.{hold-and-then, fails-in-front, fails-then, _and-then_}
 use Rattle.frame.specs.Format.{frameOf}
 use Rattle.frame.specs.Reading.{frameChecks, Found, accepted, rejected, readFrame}
 use Rattle.frame.specs.Sealing.{sealed}

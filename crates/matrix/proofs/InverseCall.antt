@@ -32,7 +32,8 @@ use Rattle.matrix.specs.Promises.{FreeMarks, QuasiinverseDone}
 use Rattle.matrix.proofs.Checker.{by-size, sized-same}
 use Rattle.matrix.proofs.Memory.{marked-yes, marked-no, place-inside}
 use Rattle.matrix.proofs.Stored.{table-pivots}
-use Rattle.matrix.proofs.Theorems.{quasiinverse-table, inverse-table, inverse-only, rank-columns, chosen-columns-free, chosen-columns-depend, chosen-rows-free, chosen-rows-depend}
+use Rattle.matrix.proofs.Theorems.{quasiinverse-table, inverse-table, inverse-only, rank-columns}
+use Rattle.matrix.proofs.Theorems.{chosen-columns-free, chosen-columns-depend, chosen-rows-free, chosen-rows-depend}
 
 -- ---- what is read from written memory
 
