@@ -7,7 +7,7 @@ use lib.Dec.{ltb}
 use borrow.Author.Tests.{lt-ltb, le-ltb}
 use Rattle.algebra.specs.Choice.{choose}
 use Rattle.algebra.specs.Ring.{Ring, IsField}
-use Rattle.algebra.specs.Matrix.{Vector, Matrix, Sized, mixed}
+use Rattle.algebra.specs.Matrix.{Vector, Matrix, Sized, mixed, cut}
 use Rattle.algebra.specs.Span.{Combines, IsCombination, Independent}
 use Rattle.algebra.proofs.Choice.{all-below?}
 use Rattle.algebra.proofs.Alike.{mixed-alike}
@@ -15,17 +15,13 @@ use Rattle.algebra.proofs.Exists.{PivotInverse, pivot-inverse}
 use Rattle.algebra.proofs.Independent.{combination-found, independent-chosen, chosen-independent}
 
 module _ (R : Ring) where
-  -- X cut to m rows and n columns
-  unfoldable pub cut : (m n : ℕ) → Matrix R → Matrix R
-  cut m n X i j = choose (ltb i m) (choose (ltb j n) (X i j) (R .zero)) (R .zero)
-
-  pub cut-inside : (m n : ℕ) (X : Matrix R) (i j : ℕ) → i < m → j < n → cut m n X i j ≡ X i j
+  pub cut-inside : (m n : ℕ) (X : Matrix R) (i j : ℕ) → i < m → j < n → cut R m n X i j ≡ X i j
   unfolding cut
   cut-inside m n X i j h l =
       ap (λ b. choose b (choose (ltb j n) (X i j) (R .zero)) (R .zero)) (lt-ltb i m h)
       ∙ ap (λ b. choose b (X i j) (R .zero)) (lt-ltb j n l)
 
-  pub cut-sized : (m n : ℕ) (X : Matrix R) → Sized R m n (cut m n X)
+  pub cut-sized : (m n : ℕ) (X : Matrix R) → Sized R m n (cut R m n X)
   unfolding cut
   cut-sized m n X =
       record {
@@ -38,8 +34,8 @@ module _ (R : Ring) where
       same false = refl
 
   -- the rows that are cut combine as the whole ones do
-  mixed-cut : (m n : ℕ) (X : Matrix R) (u : Vector R) (j : ℕ) → j < n → mixed R m u (cut m n X) j ≡ mixed R m u X j
-  mixed-cut m n X u j l = mixed-alike R m n (cut m n X) X (cut-inside m n X) u j l
+  pub mixed-cut : (m n : ℕ) (X : Matrix R) (u : Vector R) (j : ℕ) → j < n → mixed R m u (cut R m n X) j ≡ mixed R m u X j
+  mixed-cut m n X u j l = mixed-alike R m n (cut R m n X) X (cut-inside m n X) u j l
 
 module _ (R : Ring) (F : IsField R) where
   -- whether v, n numbers, is a combination of the first k rows of X

@@ -11,7 +11,7 @@ use lib.Dec.{ltb}
 use borrow.Author.Tests.{lt-ltb, le-ltb}
 use Rattle.algebra.specs.Choice.{choose, pick}
 use Rattle.algebra.specs.Ring.{Ring, IsField}
-use Rattle.algebra.specs.Matrix.{Matrix, Sized, transpose}
+use Rattle.algebra.specs.Matrix.{Matrix, Sized, transpose, cut}
 use Rattle.algebra.specs.Span.{IsCombination, RowDepends, Independent}
 use Rattle.algebra.specs.Quasiinverse.{Marks, count, IsPivotInverse}
 use Rattle.algebra.specs.Chosen.{DecidesCombinations, chosenColumns, chosenRows, rank, Inverse}
@@ -25,7 +25,7 @@ use Rattle.algebra.proofs.Exists.{PivotInverse, pivot-inverse}
 use Rattle.algebra.proofs.Unique.{inverse-on, inverse-unique}
 use Rattle.algebra.proofs.Rank.{same-span-same-rank}
 use Rattle.algebra.proofs.Independent.{all-counted, independent-chosen}
-use Rattle.algebra.proofs.Decide.{cut, cut-inside, cut-sized}
+use Rattle.algebra.proofs.Decide.{cut-inside, cut-sized}
 
 module _ (R : Ring) (F : IsField R) (decide : DecidesCombinations R) where
   -- ---- a pivot inverse of A, whose m rows and n columns are those of X

@@ -6,7 +6,7 @@ use native.Mathlib.Nat.{ne-of-lt, lt-of-lt-of-le}
 use native.Mathlib.Decide.{decLt}
 use native.Mathlib.Omega.{arith}
 use Rattle.algebra.specs.Ring.{Ring, IsCommutativeRing, IsField}
-use Rattle.algebra.specs.Matrix.{Vector, Matrix, unit, product, apply}
+use Rattle.algebra.specs.Matrix.{Vector, Matrix, unit, product, apply, cut}
 use Rattle.algebra.specs.Span.{Solves, AgreeAt}
 use Rattle.algebra.specs.Quasiinverse.{Absorbs}
 use Rattle.algebra.specs.Kernel.{kernelVector}
@@ -17,7 +17,7 @@ use Rattle.algebra.proofs.Applied as applied
 use Rattle.algebra.proofs.Kernel.{kernel-vector-in}
 use Rattle.algebra.proofs.Solve.{candidate-solves}
 use Rattle.algebra.proofs.Exists.{PivotInverse, pivot-inverse}
-use Rattle.algebra.proofs.Decide.{cut, cut-sized, cut-inside}
+use Rattle.algebra.proofs.Decide.{cut-sized, cut-inside}
 
 module _ (R : Ring) (L : IsCommutativeRing R) where
   open Ring R using (Carrier, zero as 𝟘, plus as _⊕_, times as _⊗_, minus)

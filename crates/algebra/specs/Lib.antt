@@ -7,3 +7,4 @@ pub mod Quasiinverse
 pub mod Chosen
 pub mod Kernel
 pub mod Solve
+pub mod Echelon

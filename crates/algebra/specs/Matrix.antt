@@ -61,6 +61,10 @@ module _ (R : Ring) where
   unfoldable pub lowerRows : ℕ → Matrix R → Matrix R
   lowerRows m X i j = X (m + i) j
 
+  -- X cut to m rows and n columns
+  unfoldable pub cut : (m n : ℕ) → Matrix R → Matrix R
+  cut m n X i j = choose (ltb i m) (choose (ltb j n) (X i j) (R .zero)) (R .zero)
+
   -- X is zero outside its m rows and n columns
   pub record Sized (m n : ℕ) (X : Matrix R) : Type 0 where
     pub rows-end : (i j : ℕ) → m ≤ i → X i j ≡ R .zero
