@@ -9,7 +9,7 @@ use lib.ListN.{length, getD}
 use mir.Val.{Fits}
 use mir.Syntax.{w64}
 use Rattle.field.specs.Residue.{reduce, _⊕_}
-use Rattle.words.specs.Lengths.{longestRow}
+use Rattle.words.specs.Lengths.{longestRow, widestRow}
 use Rattle.words.specs.Words.{Zeros}
 use Rattle.field.specs.Totals.{products}
 use Rattle.matrix_mul.specs.declared.Place.{Place}
@@ -33,13 +33,13 @@ summed-same {p} {before = before} e s =
 
 -- lo and hi hold at the first `width` places the limbs of what the first t rows add there
 pub record RowsHeld (by table : List ℕ) (Y : Place) (width t : ℕ) (lo hi : List ℕ) : Type 0 where
-  pub long-lo : length lo ≡ longestRow
-  pub long-hi : length hi ≡ longestRow
+  pub long-lo : length lo ≡ widestRow
+  pub long-hi : length hi ≡ widestRow
   pub held-at : (j : ℕ) → j < width → Sums t (getD lo j 0) (getD hi j 0) (partAt by table Y t j)
 
 module _ {by table : List ℕ} {Y : Place} {width : ℕ} where
   -- before the first row the sums are zeros
-  pub held-none : {lo hi : List ℕ} → Zeros longestRow lo → Zeros longestRow hi → RowsHeld by table Y width 0 lo hi
+  pub held-none : {lo hi : List ℕ} → Zeros widestRow lo → Zeros widestRow hi → RowsHeld by table Y width 0 lo hi
   held-none z y =
       record {
         long-lo = z .0;
@@ -48,7 +48,7 @@ module _ {by table : List ℕ} {Y : Place} {width : ℕ} where
       }
 
   -- the sums have room for four rows more
-  pub held-ready : {t : ℕ} {lo hi : List ℕ} → t ≤ longestRow → width ≤ longestRow → RowsHeld by table Y width t lo hi → Ready width lo hi
+  pub held-ready : {t : ℕ} {lo hi : List ℕ} → t ≤ longestRow → width ≤ widestRow → RowsHeld by table Y width t lo hi → Ready width lo hi
   held-ready {t} {lo} {hi} b n h =
       record {
         small = n;

@@ -10,7 +10,7 @@ use Rattle.checks.specs.Prime.{largestModulus}
 use Rattle.field.specs.View.{line}
 use Rattle.field.specs.Totals.{total, products}
 use Rattle.field.specs.Limbs.{limbBase, low, high, whole, LimbFits}
-use Rattle.words.specs.Lengths.{longestRow}
+use Rattle.words.specs.Lengths.{longestRow, widestRow}
 use Rattle.words.specs.Words.{Below}
 use Rattle.matrix_mul.specs.declared.Place.{Place}
 use Rattle.matrix_mul.specs.declared.rows.Row.{Row}
@@ -111,11 +111,11 @@ pub record FourTaken (by next : List ℕ) (Y : Place) (t : ℕ) (f : Four) : Typ
   pub third : RowTaken by next Y (f .b .next) (f .c)
   pub fourth : RowTaken by next Y (f .c .next) (f .d)
 
--- lo and hi are sums of limbs for the longest row, to which a limb can be added at the first n places
+-- lo and hi are sums of limbs for the widest row, to which a limb can be added at the first n places
 pub record Ready (n : ℕ) (lo hi : List ℕ) : Type 0 where
-  pub small : n ≤ longestRow
-  pub long-lo : length lo ≡ longestRow
-  pub long-hi : length hi ≡ longestRow
+  pub small : n ≤ widestRow
+  pub long-lo : length lo ≡ widestRow
+  pub long-hi : length hi ≡ widestRow
   pub fits-lo : (j : ℕ) → j < n → LimbFits (getD lo j 0)
   pub fits-hi : (j : ℕ) → j < n → LimbFits (getD hi j 0)
 
@@ -139,12 +139,12 @@ pub record Summed (p : ℕ) (v : ℕ → ℕ) (before after : List ℕ) : Type 0
   pub long : length after ≡ length before
   pub summed-at : (j : ℕ) → j < length before → getD after j 0 ≡ summedAt p v before j
 
--- what a combination of rows asks: residues, no more of them than the longest row has, and rows that lie in the table
+-- what a combination of rows asks: residues, no more of them than the longest row has, and rows that lie in the table, one number longer at most
 pub record Combinable (p : ℕ) (by table : List ℕ) (Y : Place) (out : List ℕ) : Type 0 where
   pub positive : 0 < p
   pub in-range : p ≤ largestModulus
   pub few : length by ≤ longestRow
-  pub narrow : length out ≤ longestRow
+  pub narrow : length out ≤ widestRow
   pub by-below : Below p by
   pub table-below : Below p table
   pub inside : RowsInside (length by) Y (length out) (length table)

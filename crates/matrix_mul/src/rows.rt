@@ -6,7 +6,7 @@ ghost use lib.ListN.{length};
 ghost use Rattle.field.specs.Residue.{reduce};
 ghost use Rattle.checks.specs.Prime.{largestModulus};
 ghost use Rattle.field.specs.Limbs.{whole, LimbFits};
-ghost use Rattle.words.specs.Lengths.{longestRow};
+ghost use Rattle.words.specs.Lengths.{widestRow};
 ghost use Rattle.words.specs.Words.{Zeros};
 ghost use Rattle.matrix_mul.specs.Places.{place};
 ghost use Rattle.matrix_mul.specs.Rows.{Shorts, Inside, FourInside, Quarter, productAt, fourAt, Powers, Ready, Added, wholeAt};
@@ -14,27 +14,28 @@ ghost use Rattle.matrix_mul.specs.Rows.{Each, Passes, Walkable, RowTaken
 use super::Place;
 use field::sums::BASE;
 use words::ROW;
+use words::WIDE;
 
 // The sums of limbs of no rows.
-fn no_rows() -> [u64; ROW]
-    ensures { λ r. ⌜ Zeros longestRow r ⌝ }
+pub fn no_rows() -> [u64; WIDE]
+    ensures { λ r. ⌜ Zeros widestRow r ⌝ }
 {
-    [0u64; ROW]
+    [0u64; WIDE]
 }
 
 // A row of a table that is to be added: its multiplier, where it begins, and the row to look at after it.
-struct Row {
-    times: u32,
-    at: usize,
-    next: usize,
+pub struct Row {
+    pub times: u32,
+    pub at: usize,
+    pub next: usize,
 }
 
 // Four rows that are to be added together.
-struct Four {
-    a: Row,
-    b: Row,
-    c: Row,
-    d: Row,
+pub struct Four {
+    pub a: Row,
+    pub b: Row,
+    pub c: Row,
+    pub d: Row,
 }
 
 // The list that passes over no row: next[t] is the next row to visit after t, here t + 1.
@@ -124,7 +125,7 @@ fn add_four(p: u32, table: &[u32], four: Four, out: &mut [u32])
 }
 
 // Adds the limbs of the sums of products of four rows to the sums of limbs, at the first `width` places.
-fn add_rows(width: usize, table: &[u32], four: Four, lo: &mut [u64; ROW], hi: &mut [u64; ROW])
+pub fn add_rows(width: usize, table: &[u32], four: Four, lo: &mut [u64; WIDE], hi: &mut [u64; WIDE])
     requires { ⌜ Ready width (now lo) (now hi) × FourInside width (now table) four ⌝ }
     ensures { λ _. ⌜ Added width (fourAt (now (table .entry)) four) (now (lo .entry)) (now (hi .entry)) (now (lo .exit)) (now (hi .exit)) ⌝ }
 {
@@ -138,7 +139,7 @@ fn add_rows(width: usize, table: &[u32], four: Four, lo: &mut [u64; ROW], hi: &m
 }
 
 // The residue of lo + 2^32 × hi, with one division: `once` and `twice` are 2^32 and 2^64 modulo p.
-fn folded(p: u32, once: u64, twice: u64, lo: u64, hi: u64) -> u32
+pub fn folded(p: u32, once: u64, twice: u64, lo: u64, hi: u64) -> u32
     requires { ⌜ (0 < p) × Powers p once twice × LimbFits hi ⌝ }
     ensures { λ r. ⌜ r ≡ (reduce p (whole lo hi)) .value ⌝ }
 {
@@ -148,7 +149,7 @@ fn folded(p: u32, once: u64, twice: u64, lo: u64, hi: u64) -> u32
 }
 
 // Adds to each number of `out` what the sums of limbs stand for, modulo p.
-fn fold_into(p: u32, lo: &[u64; ROW], hi: &[u64; ROW], out: &mut [u32])
+pub fn fold_into(p: u32, lo: &[u64; WIDE], hi: &[u64; WIDE], out: &mut [u32])
     requires { ⌜ (0 < p) × (p ≤ largestModulus) × Ready (length (now out)) (now lo) (now hi) ⌝ }
     ensures { λ _. ⌜ Summed p (wholeAt (now (lo .entry)) (now (hi .entry))) (now (out .entry)) (now (out .exit)) ⌝ }
 {

@@ -6,7 +6,11 @@ use Rattle.checks.specs.Largest.{largest}
 abbrev pub longestRow : ℕ
 longestRow = largest
 
--- half of that
+-- a row with one number carried behind it
+abbrev pub widestRow : ℕ
+widestRow = 65
+
+-- half the longest row
 abbrev pub halfRows : ℕ
 halfRows = 32
 
@@ -19,3 +23,7 @@ halfTable = 2048
 
 abbrev pub quarterTable : ℕ
 quarterTable = 1024
+
+-- as many of the widest rows as the largest table has rows
+abbrev pub widestTable : ℕ
+widestTable = 4160

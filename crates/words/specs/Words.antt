@@ -39,3 +39,9 @@ pub record FirstDifference (xs ys : List ℕ) (r : ℕ) : Type 0 where
   pub within : r ≤ length xs
   pub before : (i : ℕ) → i < r → getD xs i 0 ≡ getD ys i 0
   pub differs : r < length xs → getD xs r 0 ≡ getD ys r 0 → ⊥
+
+-- r is the least position of a number that is not 0, or the length
+pub record LeastNonzero (xs : List ℕ) (r : ℕ) : Type 0 where
+  pub within : r ≤ length xs
+  pub before : (t : ℕ) → t < r → getD xs t 0 ≡ 0
+  pub not-zero : r < length xs → getD xs r 0 ≡ 0 → ⊥

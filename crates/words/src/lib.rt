@@ -4,14 +4,20 @@ ghost use mathlib.Core.Path.{_≡_};
 ghost use Prim.Native.Nat.{_+_, _≤_, _<_};
 ghost use lib.ListN.{length};
 ghost use Rattle.algebra.specs.Answers.{Tells};
-ghost use Rattle.words.specs.Lengths.{longestRow, largestTable, halfTable, quarterTable};
-ghost use Rattle.words.specs.Words.{Below, Blank, Zeros, AllMarked, Copied, PutAt, FirstDifference};
+ghost use Rattle.words.specs.Lengths.{longestRow, widestRow, largestTable, widestTable, halfTable, quarterTable};
+ghost use Rattle.words.specs.Words.{Below, Blank, Zeros, AllMarked, Copied, PutAt, FirstDifference, LeastNonzero};
 
 // The most numbers of a row or a column.
 pub const ROW: usize = 64;
 
+// The numbers of a row with one number carried behind it.
+pub const WIDE: usize = 65;
+
 // The numbers of the largest table.
 pub const TABLE: usize = 4096;
+
+// The same with a number carried behind each row.
+pub const WIDE_TABLE: usize = 4160;
 
 // The numbers of half its rows.
 pub const HALF: usize = 2048;
@@ -31,6 +37,20 @@ pub fn table_room() -> [u32; TABLE]
     ensures { λ r. ⌜ Zeros largestTable r ⌝ }
 {
     [0u32; TABLE]
+}
+
+// Room for a row with one number carried behind it.
+pub fn wide_room() -> [u32; WIDE]
+    ensures { λ r. ⌜ Zeros widestRow r ⌝ }
+{
+    [0u32; WIDE]
+}
+
+// Room for a table with a number carried behind each row.
+pub fn wide_table() -> [u32; WIDE_TABLE]
+    ensures { λ r. ⌜ Zeros widestTable r ⌝ }
+{
+    [0u32; WIDE_TABLE]
 }
 
 // Room for half the rows of the largest table.
@@ -92,6 +112,22 @@ pub fn first_difference(xs: &[u32], ys: &[u32]) -> usize
         i += 1;
     }
     i
+}
+
+// The least position of a number that is not 0, or the length where there is none.
+pub fn least_nonzero(xs: &[u32]) -> usize
+    ensures { λ r. ⌜ LeastNonzero (now (xs .entry)) r ⌝ }
+{
+    let len = xs.len();
+    let mut found = len;
+    let mut v = 0;
+    while v < found {
+        if xs[v] != 0 {
+            found = v;
+        }
+        v += 1;
+    }
+    found
 }
 
 // Whether two rows of the same length have the same numbers.

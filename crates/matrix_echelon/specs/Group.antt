@@ -1,0 +1,109 @@
+-- A row that is worked off: what its parts ask and leave. x is the row that the sums of limbs stand for.
+use mathlib.Core.Path.{_≡_}
+use mathlib.Core.List.{List}
+use Prim.Native.Nat.{ℕ, _+_, _*_, _/_, _≤_, _<_}
+use lib.ListN.{length, getD}
+use Rattle.algebra.specs.Matrix.{Vector, Matrix, unit}
+use Rattle.algebra.specs.Echelon.{Cleared}
+use Rattle.checks.specs.Prime.{largestModulus}
+use Rattle.words.specs.Lengths.{longestRow, widestRow, widestTable}
+use Rattle.words.specs.Words.{Below}
+use Rattle.field.specs.Residue.{reduce, residues, negated}
+use Rattle.field.specs.Limbs.{limbBase}
+use Rattle.matrix_mul.specs.declared.rows.Row.{Row}
+use Rattle.matrix_mul.specs.declared.rows.Four.{Four}
+use Rattle.matrix_mul.specs.Rows.{Powers, Ready, wholeAt}
+use Rattle.matrix_echelon.specs.declared.Grid.{Grid}
+use Rattle.matrix_echelon.specs.Grid.{gridPlace}
+
+-- row i of a table that has columns, and its carried number, can be read
+pub record RowReadable (g : Grid) (i : ℕ) (a w : List ℕ) (step : ℕ) : Type 0 where
+  pub some : 0 < g .columns
+  pub narrow : g .columns ≤ longestRow
+  pub inside : (j : ℕ) → j < g .columns → gridPlace g i j < length a
+  pub carried : i * step < length w
+
+-- the numbers of the row, and behind them the carried one
+pub record RowRead (g : Grid) (i : ℕ) (a w : List ℕ) (step : ℕ) (lo : List ℕ) : Type 0 where
+  pub long : length lo ≡ widestRow
+  pub each : (j : ℕ) → j < g .columns → getD lo j 0 ≡ getD a (gridPlace g i j) 0
+  pub last : getD lo (g .columns) 0 ≡ getD w (i * step) 0
+  pub small : (j : ℕ) → j ≤ g .columns → getD lo j 0 < limbBase
+
+-- the row that sums of limbs stand for
+abbrev pub rowIn : (p : ℕ) (lo hi : List ℕ) → Vector (residues p)
+rowIn p lo hi j = reduce p (wholeAt lo hi j)
+
+-- the worked rows, each `width` numbers long, one behind the other; and their pivots
+abbrev pub workedRows : (p : ℕ) (e : List ℕ) (width : ℕ) → Matrix (residues p)
+workedRows p e width t j = reduce p (getD e (t * width + j) 0)
+
+abbrev pub pivotsOf : List ℕ → ℕ → ℕ
+pivotsOf pivots t = getD pivots t 0
+
+-- the pivots of r worked rows lie in rows of `width` numbers
+pub record Pivots (width r : ℕ) (pivots : List ℕ) : Type 0 where
+  pub narrow : width ≤ widestRow
+  pub few : r ≤ longestRow
+  pub long : length pivots ≡ longestRow
+  pub inside : (t : ℕ) → t < r → getD pivots t 0 < width
+
+-- what finding the multiplier of row t asks
+pub record PivotRoom (p once twice width r t : ℕ) (pivots lo hi : List ℕ) : Type 0 where
+  pub positive : 0 < p
+  pub in-range : p ≤ largestModulus
+  pub powers : Powers p once twice
+  pub pivots-in : Pivots width r pivots
+  pub near : t ≤ longestRow + 3
+  pub ready : Ready width lo hi
+
+-- the worked row t, with the negative of the number at its pivot; or times 0
+pub record IsPivotRow (p width r t : ℕ) (pivots lo hi : List ℕ) (row : Row) : Type 0 where
+  pub below : row .times < p
+  pub place : t < r → row .at ≡ t * width
+  pub multiplier : t < r → reduce p (row .times) ≡ negated (rowIn p lo hi (pivotsOf pivots t))
+  pub first : r ≤ t → row .at ≡ 0
+  pub no-multiplier : r ≤ t → row .times ≡ 0
+
+-- the same of the four rows from g on
+pub record GroupRoom (p once twice width r g : ℕ) (pivots lo hi : List ℕ) : Type 0 where
+  pub positive : 0 < p
+  pub in-range : p ≤ largestModulus
+  pub powers : Powers p once twice
+  pub pivots-in : Pivots width r pivots
+  pub near : g ≤ longestRow
+  pub ready : Ready width lo hi
+
+pub record GroupTaken (p width r g : ℕ) (pivots lo hi : List ℕ) (four : Four) : Type 0 where
+  pub row-a : IsPivotRow p width r g pivots lo hi (four .a)
+  pub row-b : IsPivotRow p width r (g + 1) pivots lo hi (four .b)
+  pub row-c : IsPivotRow p width r (g + 2) pivots lo hi (four .c)
+  pub row-d : IsPivotRow p width r (g + 3) pivots lo hi (four .d)
+
+-- worked rows with room for all, below p
+pub record WorkedRoom (p : ℕ) (e : List ℕ) : Type 0 where
+  pub long : length e ≡ widestTable
+  pub below : Below p e
+
+-- each worked row has a 1 at its pivot, and 0 at those of its own group and of earlier ones
+abbrev pub GroupsCleared : (p n r : ℕ) (e pivots : List ℕ) → Type 0
+GroupsCleared p n r e pivots =
+    (s t : ℕ) → s < r → t < r → s / 4 ≤ t / 4
+    → workedRows p e (n + 1) t (pivotsOf pivots s) ≡ unit (residues p) s t
+
+-- what clearing a fresh row at all pivots asks
+pub record Clearable (p n r : ℕ) (e pivots lo hi : List ℕ) : Type 0 where
+  pub positive : 0 < p
+  pub in-range : p ≤ largestModulus
+  pub room : WorkedRoom p e
+  pub pivots-in : Pivots (n + 1) r pivots
+  pub cleared : GroupsCleared p n r e pivots
+  pub long-lo : length lo ≡ widestRow
+  pub long-hi : length hi ≡ widestRow
+  pub small : (j : ℕ) → j ≤ n → getD lo j 0 < limbBase
+  pub fresh : (j : ℕ) → getD hi j 0 ≡ 0
+
+-- the row has multiples of the worked rows added, and is 0 at all pivots
+pub record PivotsCleared (p n r : ℕ) (e pivots lo hi los his : List ℕ) : Type 0 where
+  pub cleared : Cleared (residues p) 0 n (λ i. rowIn p lo hi) r (workedRows p e (n + 1)) (pivotsOf pivots) (rowIn p los his)
+  pub ready : Ready (n + 1) los his

@@ -1,0 +1,67 @@
+-- What comes of the worked rows: the reduced form of the table, and a solution.
+use mathlib.Core.Path.{_≡_}
+use mathlib.Core.Bool.{true}
+use mathlib.Core.List.{List}
+use Prim.Native.Nat.{ℕ, _+_, _*_, _≤_, _<_}
+use lib.ListN.{length, getD}
+use lib.Dec.{eqb}
+use Rattle.algebra.specs.Choice.{choose}
+use Rattle.algebra.specs.Matrix.{product, apply}
+use Rattle.algebra.specs.Echelon.{others, RowReduced}
+use Rattle.checks.specs.Prime.{largestModulus}
+use Rattle.words.specs.Lengths.{longestRow, widestTable}
+use Rattle.words.specs.Words.{Below}
+use Rattle.field.specs.Residue.{reduce, residues}
+use Rattle.field.specs.View.{line}
+use Rattle.field.specs.Written.{numbers}
+use Rattle.matrix_mul.specs.Rows.{Each}
+use Rattle.matrix_echelon.specs.declared.Grid.{Grid}
+use Rattle.matrix_echelon.specs.Grid.{gridOf}
+use Rattle.matrix_echelon.specs.Group.{workedRows, pivotsOf, Pivots, WorkedRoom}
+use Rattle.matrix_echelon.specs.Forward.{IsRank}
+
+-- r worked rows of `width` numbers and their pivots, of which row t is looked at
+pub record Lookable (p width r t : ℕ) (e pivots : List ℕ) : Type 0 where
+  pub positive : 0 < p
+  pub in-range : p ≤ largestModulus
+  pub rows-in : WorkedRoom p e
+  pub pivots-in : Pivots width r pivots
+  pub one-of : t < r
+
+-- the multipliers that make row t 0 at the pivots of the other rows
+pub record Multipliers (p width r t : ℕ) (e pivots by : List ℕ) : Type 0 where
+  pub long : length by ≡ longestRow
+  pub below : Below p by
+  pub each : (s : ℕ) → s < r → reduce p (getD by s 0) ≡ others (residues p) t (workedRows p e width) (pivotsOf pivots) s
+
+pub record Reducible (p width r t : ℕ) (next e pivots : List ℕ) : Type 0 where
+  pub lookable : Lookable p width r t e pivots
+  pub through : Each next
+
+-- they have been used on row t
+pub record RowLessened (p width r t : ℕ) (pivots e e′ : List ℕ) : Type 0 where
+  pub room : WorkedRoom p e′
+  pub reduced : (n : ℕ) → width ≡ n + 1 → RowReduced (residues p) n r t (workedRows p e width) (pivotsOf pivots) (workedRows p e′ width)
+
+-- the reduced form: for some pivot inverse D of the table, the row of pivot c is row c of D A, with row c of D w behind it
+pub record ReducedForm (p : ℕ) (g : Grid) (a w : List ℕ) (step r : ℕ) (e pivots : List ℕ) : Type 0 where
+  pub rank : IsRank p g a r
+  pub below : Below p e
+  pub long : length e ≡ widestTable
+  pub pivots-long : length pivots ≡ longestRow
+  pub pivots-below : (t : ℕ) → t < r → getD pivots t 0 < g .columns
+  pub chosen : (t : ℕ) → t < r → rank .I (getD pivots t 0) ≡ true
+  pub found : (c : ℕ) → rank .I c ≡ true → (t : ℕ) × ((t < r) × (getD pivots t 0 ≡ c))
+  pub row :
+      (t j : ℕ) → t < r → j < g .columns
+      → reduce p (getD e (t * (g .columns + 1) + j) 0)
+      ≡ product (residues p) (g .rows) (rank .D) (gridOf p g a) (getD pivots t 0) j
+  pub carried :
+      (t : ℕ) → t < r
+      → reduce p (getD e (t * (g .columns + 1) + g .columns) 0)
+      ≡ apply (residues p) (g .rows) (rank .D) (line p w 0 step) (getD pivots t 0)
+
+-- z is D w, for some pivot inverse D of the table
+pub record SolutionFound (p : ℕ) (g : Grid) (a w : List ℕ) (step r : ℕ) (z : List ℕ) : Type 0 where
+  pub rank : IsRank p g a r
+  pub is-solution : z ≡ numbers (g .columns) (apply (residues p) (g .rows) (rank .D) (line p w 0 step))

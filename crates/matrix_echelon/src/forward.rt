@@ -1,0 +1,74 @@
+// Forward elimination: the rows of the table are worked off one after the other.
+ghost use Prim.Native.Nat.{suc};
+ghost use Rattle.matrix_echelon.specs.Grid.{TableReadable, Readable};
+ghost use Rattle.matrix_echelon.specs.Forward.{Room, Workable, Held, IsRank};
+use super::Grid;
+use super::group;
+use super::worked;
+use matrix_mul::rows;
+use words::least_nonzero;
+
+// Works row i off: adds it to the worked rows where it does not follow from those before it. Answers how many there are then.
+fn work_row(
+    p: u32,
+    grid: Grid,
+    i: usize,
+    a: &[u32],
+    w: &[u32],
+    step: usize,
+    rank: usize,
+    e: &mut [u32],
+    pivots: &mut [u32],
+) -> usize
+    requires { ⌜ Workable p grid i (now a) (now w) step rank (now e) (now pivots) ⌝ }
+    ensures { λ r. ⌜ Held p grid (suc i) (now (a .entry)) (now (w .entry)) step r (now (e .exit)) (now (pivots .exit)) ⌝ }
+{
+    let n = grid.columns;
+    let width = n + 1;
+    let mut lo = group::row_limbs(grid, i, a, w, step);
+    let mut hi = rows::no_rows();
+    group::clear_pivots(p, n, rank, e, pivots, &mut lo, &mut hi);
+    let mut x = words::wide_room();
+    rows::fold_into(p, &lo, &hi, &mut x[..width]);
+    let v = least_nonzero(&x[..n]);
+    if v == n {
+        return rank;
+    }
+    worked::grow(p, &mut x[..width], v, rank, e, pivots);
+    rank + 1
+}
+
+// Works all rows off, as long as a column has no pivot yet. Answers the rank.
+pub fn forward(
+    p: u32,
+    grid: Grid,
+    a: &[u32],
+    w: &[u32],
+    step: usize,
+    e: &mut [u32],
+    pivots: &mut [u32],
+) -> usize
+    requires { ⌜ Readable p grid (now a) (now w) step × Room p (now e) (now pivots) ⌝ }
+    ensures { λ r. ⌜ Held p grid (grid .rows) (now (a .entry)) (now (w .entry)) step r (now (e .exit)) (now (pivots .exit)) ⌝ }
+{
+    let mut rank = 0;
+    let mut i = 0;
+    while i < grid.rows {
+        if rank < grid.columns {
+            rank = work_row(p, grid, i, a, w, step, rank, e, pivots);
+        }
+        i += 1;
+    }
+    rank
+}
+
+// The rank of the table.
+pub fn rank(p: u32, grid: Grid, a: &[u32]) -> usize
+    requires { ⌜ TableReadable p grid (now a) ⌝ }
+    ensures { λ r. ⌜ IsRank p grid (now (a .entry)) r ⌝ }
+{
+    let none = words::row_room();
+    let mut e = words::wide_table();
+    let mut pivots = words::row_room();
+    forward(p, grid, a, &none, 1, &mut e, &mut pivots)
+}

@@ -1,0 +1,107 @@
+// A row that is worked off: it is read as sums of limbs, which stay apart while the worked rows are added, group after group, each
+// with the multiplier that makes the row 0 at its pivot. The worked rows are in groups of four, and as long as a row of the table
+// with its carried number; row t begins at t times that length.
+ghost use Prim.Native.Nat.{_+_, _≤_};
+ghost use Rattle.matrix_echelon.specs.Group.{RowReadable, RowRead, PivotRoom, IsPivotRow, GroupRoom, GroupTaken, Clearable, PivotsCleared};
+use super::Grid;
+use field::sums::BASE;
+use matrix_mul::rows;
+use matrix_mul::rows::Four;
+use matrix_mul::rows::Row;
+use words::WIDE;
+
+// Row i of the table with its carried number behind it, as sums of low limbs.
+pub fn row_limbs(grid: Grid, i: usize, a: &[u32], w: &[u32], step: usize) -> [u64; WIDE]
+    requires { ⌜ RowReadable grid i (now a) (now w) step ⌝ }
+    ensures { λ r. ⌜ RowRead grid i (now (a .entry)) (now (w .entry)) step r ⌝ }
+{
+    let mut lo = rows::no_rows();
+    let n = grid.columns;
+    let from = grid.start + i * grid.down;
+    let mut j = 0;
+    while j < n {
+        lo[j] = a[from + j * grid.along] as u64;
+        j += 1;
+    }
+    lo[n] = w[i * step] as u64;
+    lo
+}
+
+// The worked row t with the multiplier that makes the sum 0 at its pivot; the first row, times 0, where there is no row t. `once`
+// and `twice` are 2^32 and 2^64 modulo p.
+fn pivot_row(
+    p: u32,
+    once: u64,
+    twice: u64,
+    width: usize,
+    rank: usize,
+    t: usize,
+    pivots: &[u32],
+    lo: &[u64; WIDE],
+    hi: &[u64; WIDE],
+) -> Row
+    requires { ⌜ PivotRoom p once twice width rank t (now pivots) (now lo) (now hi) ⌝ }
+    ensures { λ r. ⌜ IsPivotRow p width rank t (now (pivots .entry)) (now (lo .entry)) (now (hi .entry)) r ⌝ }
+{
+    if t < rank {
+        let v = pivots[t] as usize;
+        let x = rows::folded(p, once, twice, lo[v], hi[v]);
+        return Row {
+            times: field::arith::minus(p, 0, x),
+            at: t * width,
+            next: t + 1,
+        };
+    }
+    Row {
+        times: 0,
+        at: 0,
+        next: t + 1,
+    }
+}
+
+// The four rows of the group that begins with row g: the multipliers are known at once, since each row of the group is 0 at the
+// pivots of the others.
+fn group_rows(
+    p: u32,
+    once: u64,
+    twice: u64,
+    width: usize,
+    rank: usize,
+    g: usize,
+    pivots: &[u32],
+    lo: &[u64; WIDE],
+    hi: &[u64; WIDE],
+) -> Four
+    requires { ⌜ GroupRoom p once twice width rank g (now pivots) (now lo) (now hi) ⌝ }
+    ensures { λ r. ⌜ GroupTaken p width rank g (now (pivots .entry)) (now (lo .entry)) (now (hi .entry)) r ⌝ }
+{
+    let a = pivot_row(p, once, twice, width, rank, g, pivots, lo, hi);
+    let b = pivot_row(p, once, twice, width, rank, g + 1, pivots, lo, hi);
+    let c = pivot_row(p, once, twice, width, rank, g + 2, pivots, lo, hi);
+    let d = pivot_row(p, once, twice, width, rank, g + 3, pivots, lo, hi);
+    Four { a, b, c, d }
+}
+
+// Adds the combination of the worked rows that makes the sums 0 at all pivots.
+pub fn clear_pivots(
+    p: u32,
+    n: usize,
+    rank: usize,
+    e: &[u32],
+    pivots: &[u32],
+    lo: &mut [u64; WIDE],
+    hi: &mut [u64; WIDE],
+)
+    requires { ⌜ Clearable p n rank (now e) (now pivots) (now lo) (now hi) ⌝ }
+    ensures { λ _. ⌜ PivotsCleared p n rank (now (e .entry)) (now (pivots .entry)) (now (lo .entry)) (now (hi .entry)) (now (lo .exit)) (now (hi .exit)) ⌝ }
+{
+    let width = n + 1;
+    let once = BASE % (p as u64);
+    let twice = once * once % (p as u64);
+    let mut g = 0;
+    while g < rank {
+        let four = group_rows(p, once, twice, width, rank, g, pivots, lo, hi);
+        rows::add_rows(width, e, four, lo, hi);
+        g += 4;
+    }
+}
