@@ -23,3 +23,4 @@ pub mod Members
 pub mod Decide
 pub mod Marked
 pub mod Settled
+pub mod Within
