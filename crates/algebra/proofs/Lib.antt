@@ -24,3 +24,4 @@ pub mod Decide
 pub mod Marked
 pub mod Settled
 pub mod Within
+pub mod NextRow
