@@ -25,3 +25,4 @@ pub mod Marked
 pub mod Settled
 pub mod Within
 pub mod NextRow
+pub mod Echelon
