@@ -1,23 +1,23 @@
 -- The forward elimination, row after row (`specs/Echelon.antt`). A row is cleared at the pivots in groups of four worked rows. What then
 -- is left of it is the remainder of `NextRow`: if it is zero the row is skipped, else it joins the worked rows, with the place of
 -- its first number that is not zero as its pivot. Once every column has its pivot each further row is skipped.
-use mathlib.Core.Path.{_≡_, refl, sym, ap, ap₂, _∙_, subst}
+use mathlib.Core.Path.{_≡_, refl, sym, ap, _∙_, subst}
 use mathlib.Core.Logic.{⊎-elim}
 use mathlib.Core.Bool.{true, false}
-use Prim.Native.Nat.{ℕ, zero, suc, _+_, _*_, _/_, _≤_, _<_, zero-le}
+use Prim.Native.Nat.{ℕ, suc, _+_, _*_, _/_, _≤_, _<_, zero-le}
 use native.Mathlib.Nat.{not-suc-le-zero, le-refl, lt-suc-self, le-step, le-of-suc-le-suc, eq-or-lt-of-le, lt-trans, ne-of-lt, add-zero}
 use native.Mathlib.Decide.{decLe, ℕ-discrete}
 use native.Mathlib.Omega.{arith}
 use borrow.Author.Tests.{eq-eqb, eqb-true, ne-eqb}
 use Rattle.algebra.specs.Ring.{Ring, IsCommutativeRing}
 use Rattle.algebra.specs.Matrix.{Vector, Matrix, unit, zeros, mixed, cut}
-use Rattle.algebra.specs.Quasiinverse.{Marks, count, either, follow, none, only, IsPivotInverse}
+use Rattle.algebra.specs.Quasiinverse.{count, either, follow, none, only, IsPivotInverse}
 use Rattle.algebra.specs.Echelon.{Within, Worked, Cleared, Grown}
 use Rattle.algebra.proofs.Rings as rings
 use Rattle.algebra.proofs.Sums as sums
 use Rattle.algebra.proofs.Blocks.{Part, upper, lower, part}
 use Rattle.algebra.proofs.Counts as counts
-use Rattle.algebra.proofs.Marks.{by-test, is-false}
+use Rattle.algebra.proofs.Marks.{is-false}
 use Rattle.algebra.proofs.Base.{zero-table, count-none, count-only}
 use Rattle.algebra.proofs.Chosen.{row-end}
 use Rattle.algebra.proofs.Independent.{count-most, all-marked}

@@ -26,3 +26,4 @@ pub mod Settled
 pub mod Within
 pub mod NextRow
 pub mod Echelon
+pub mod Cleared

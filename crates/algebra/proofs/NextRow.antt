@@ -17,7 +17,6 @@ use Rattle.algebra.proofs.Matrices as matrices
 use Rattle.algebra.proofs.Applied as applied
 use Rattle.algebra.proofs.Blocks.{Part, upper, lower, part, stack-upper, stack-lower}
 use Rattle.algebra.proofs.Counts.{follow-upper, follow-lower}
-use Rattle.algebra.proofs.Marks.{by-test}
 use Rattle.algebra.proofs.Chosen.{row-end}
 use Rattle.algebra.proofs.Step as steps
 use Rattle.algebra.proofs.Base as base
