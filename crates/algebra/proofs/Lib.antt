@@ -27,3 +27,4 @@ pub mod Within
 pub mod NextRow
 pub mod Echelon
 pub mod Cleared
+pub mod EchelonReduced
