@@ -78,6 +78,22 @@ module _ (R : Ring) (L : IsCommutativeRing R) where
   unfolding product mixed add negative
   difference-mixed m u v X j = matrices.entry R (matrices.difference-product R L m (λ k. u) (λ k. v) X) j j
 
+  -- (u + v) X, (- u) X and (a u) X
+  pub plus-mixed : (m : ℕ) (u v : Vector R) (X : Matrix R) (j : ℕ)
+      → mixed R m (λ t. u t ⊕ v t) X j ≡ mixed R m u X j ⊕ mixed R m v X j
+  unfolding product mixed add
+  plus-mixed m u v X j = matrices.entry R (matrices.add-product R L m (λ k. u) (λ k. v) X) j j
+
+  pub negative-mixed : (m : ℕ) (u : Vector R) (X : Matrix R) (j : ℕ) → mixed R m (λ t. minus (u t)) X j ≡ minus (mixed R m u X j)
+  unfolding product mixed negative
+  negative-mixed m u X j = matrices.entry R (matrices.negative-product R L m (λ k. u) X) j j
+
+  pub times-mixed : (m : ℕ) (a : Carrier) (u : Vector R) (X : Matrix R) (j : ℕ) → mixed R m (λ t. a ⊗ u t) X j ≡ a ⊗ mixed R m u X j
+  unfolding mixed
+  times-mixed m a u X j =
+      sums.sum-same R m (λ t. a ⊗ u t ⊗ X t j) (λ t. a ⊗ (u t ⊗ X t j)) (λ t l. L .times-assoc a (u t) (X t j))
+      ∙ sym (sums.times-sum R L m a (λ t. u t ⊗ X t j))
+
   -- X (- x) = - X x
   pub apply-negative : (n : ℕ) (X : Matrix R) (x : Vector R) (i : ℕ)
       → apply R n X (λ t. minus (x t)) i ≡ minus (apply R n X x i)
@@ -132,3 +148,12 @@ module _ (R : Ring) (L : IsCommutativeRing R) where
 
       zero-term : (t : ℕ) → c ≤ t → f t ≡ 𝟘
       zero-term t k = ap (λ a. X i t ⊗ a) (h t k) ∙ rings.times-zero R L (X i t)
+
+  -- likewise multipliers
+  pub mixed-ends : (c n : ℕ) (u : Vector R) (X : Matrix R) (j : ℕ) → c ≤ n → ((t : ℕ) → c ≤ t → u t ≡ 𝟘)
+      → mixed R n u X j ≡ mixed R c u X j
+  unfolding mixed apply
+  mixed-ends c n u X j l h =
+      sums.sum-same R n (λ t. u t ⊗ X t j) (λ t. X t j ⊗ u t) (λ t b. L .times-comm (u t) (X t j))
+      ∙ apply-ends c n (λ k t. X t j) u j l h
+      ∙ sums.sum-same R c (λ t. X t j ⊗ u t) (λ t. u t ⊗ X t j) (λ t b. L .times-comm (X t j) (u t))

@@ -55,6 +55,15 @@ pub either-true : (I K : Marks) (c : ℕ) {P : Type 0} → either I K c ≡ true
 unfolding either
 either-true I K c e f g = by-test (I c) f (λ h. g h (sym (ap (λ b. choose b true (K c)) h) ∙ e))
 
+-- a member of one of two sets is in their union
+pub either-first : (I K : Marks) (c : ℕ) → I c ≡ true → either I K c ≡ true
+unfolding either
+either-first I K c e = ap (λ b. choose b true (K c)) e
+
+pub either-second : (I K : Marks) (c : ℕ) → K c ≡ true → either I K c ≡ true
+unfolding either
+either-second I K c e = by-test (I c) (either-first I K c) (λ f. ap (λ b. choose b true (K c)) f ∙ e)
+
 pub follow-upper : (m : ℕ) (J K : Marks) (y : ℕ) → y < m → follow m J K y ≡ J y
 unfolding follow
 follow-upper m J K y h = choose-upper m y (J y) (K (y - m)) h

@@ -23,3 +23,8 @@ pub mod Members
 pub mod Decide
 pub mod Marked
 pub mod Settled
+pub mod Within
+pub mod NextRow
+pub mod Echelon
+pub mod Cleared
+pub mod EchelonReduced
