@@ -8,7 +8,7 @@ use native.Mathlib.Nat.{not-suc-le-zero, lt-suc-self, le-step}
 use native.Mathlib.Omega.{arith}
 use Rattle.algebra.specs.Choice.{choose}
 use Rattle.algebra.specs.Ring.{Ring, IsCommutativeRing, IsField}
-use Rattle.algebra.specs.Matrix.{Vector, Matrix, unit, apply, mixed}
+use Rattle.algebra.specs.Matrix.{Vector, Matrix, unit, apply, mixed, cut}
 use Rattle.algebra.specs.Span.{IsCombination, Independent, Solves}
 use Rattle.algebra.specs.Quasiinverse.{Marks, count}
 use Rattle.algebra.specs.Kernel.{kernelVector}
@@ -19,11 +19,10 @@ use Rattle.algebra.proofs.Marks.{by-test, is-true}
 use Rattle.algebra.proofs.Kernel.{kernel-vector-in, kernel-vector-own, kernel-vector-chosen}
 use Rattle.algebra.proofs.Settled.{agree-if, agree-only-if}
 use Rattle.algebra.proofs.Exists.{PivotInverse, pivot-inverse}
-use Rattle.algebra.proofs.Decide.{cut, cut-sized}
+use Rattle.algebra.proofs.Decide.{cut-inside, cut-sized}
 use Rattle.algebra.proofs.Independent.{count-next, count-most, all-marked, all-counted}
 use Rattle.algebra.proofs.Alike.{mixed-alike}
 use Rattle.ledger.proofs.RankRows.{apply-alike, all-chosen}
-use Rattle.algebra.proofs.Decide.{cut-inside}
 
 -- a set with fewer than n members below n lacks one of them
 pub unmarked : (n : ℕ) (I : Marks) → count n I < n → (c : ℕ) × (c < n) × (I c ≡ false)

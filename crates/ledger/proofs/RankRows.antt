@@ -11,7 +11,7 @@ use lib.Dec.{ltb}
 use borrow.Author.Tests.{lt-ltb, le-ltb}
 use Rattle.algebra.specs.Choice.{choose}
 use Rattle.algebra.specs.Ring.{Ring, IsCommutativeRing, IsField}
-use Rattle.algebra.specs.Matrix.{Vector, Matrix, unit, product, apply, mixed, transpose}
+use Rattle.algebra.specs.Matrix.{Vector, Matrix, unit, product, apply, mixed, transpose, cut}
 use Rattle.algebra.specs.Span.{Combines, IsCombination, Independent, Solves}
 use Rattle.algebra.specs.Quasiinverse.{Marks, IsPivotInverse}
 use Rattle.algebra.proofs.Alike.{Alike, alike-back}
@@ -20,7 +20,7 @@ use Rattle.algebra.proofs.Sums as sums
 use Rattle.algebra.proofs.Applied as applied
 use Rattle.algebra.proofs.Transpose.{mixed-transpose}
 use Rattle.algebra.proofs.Exists.{PivotInverse, pivot-inverse}
-use Rattle.algebra.proofs.Decide.{cut, cut-inside, cut-sized}
+use Rattle.algebra.proofs.Decide.{cut-inside, cut-sized}
 use Rattle.algebra.proofs.Independent.{independent-chosen, independent-inverse, all-counted, count-most}
 use Rattle.algebra.proofs.Alike.{independent-alike}
 

@@ -3,7 +3,7 @@ ghost use mathlib.Core.Path.{_≡_};
 ghost use lib.ListN.{length};
 ghost use Rattle.matrix_echelon.specs.Grid.{Readable};
 ghost use Rattle.matrix_echelon.specs.Forward.{Room};
-ghost use Rattle.matrix_echelon.specs.Reduced.{Lookable, Multipliers, Reducible, RowLessened, ReducedForm, SolutionFound};
+ghost use Rattle.matrix_echelon.specs.Reduced.{Lookable, Multipliers, Reducible, RowLessened, ReducedForm, Pivoting, RowsByPivot, SolutionFound};
 use super::Grid;
 use super::forward::forward;
 use matrix_mul::Place;
@@ -65,6 +65,20 @@ pub fn reduced(
         reduce_row(p, width, rank, t, &next, e, pivots);
     }
     rank
+}
+
+// For each column the number of the worked row that has its pivot there, plus 1; 0 where none has.
+pub fn rows_by_pivot(rank: usize, pivots: &[u32]) -> [u32; ROW]
+    requires { ⌜ Pivoting rank (now pivots) ⌝ }
+    ensures { λ r. ⌜ RowsByPivot rank (now (pivots .entry)) r ⌝ }
+{
+    let mut at = words::row_room();
+    let mut t = 0;
+    while t < rank {
+        at[pivots[t] as usize] = (t + 1) as u32;
+        t += 1;
+    }
+    at
 }
 
 // The solution z = D w of the system of the table with the right side w, where it has one, by substituting back: from the last
