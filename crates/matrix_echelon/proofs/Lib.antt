@@ -1,1 +1,2 @@
 pub mod WorkedMultiples
+pub mod WorkedClear
