@@ -1,0 +1,2 @@
+pub mod WorkedMultiples
+pub mod WorkedClear
