@@ -93,7 +93,7 @@ GroupsCleared p n r e pivots =
 
 -- what clearing a fresh row at all pivots asks
 pub record Clearable (p n r : ℕ) (e pivots lo hi : List ℕ) : Type 0 where
-  pub positive : 0 < p
+  pub proper : 1 < p
   pub in-range : p ≤ largestModulus
   pub room : WorkedRoom p e
   pub pivots-in : Pivots (n + 1) r pivots
