@@ -1,2 +1,3 @@
 pub mod WorkedMultiples
 pub mod WorkedClear
+pub mod WorkedGrow
