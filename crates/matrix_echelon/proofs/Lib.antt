@@ -1,3 +1,4 @@
 pub mod WorkedMultiples
 pub mod WorkedClear
 pub mod WorkedGrow
+pub mod ReduceMultipliers
