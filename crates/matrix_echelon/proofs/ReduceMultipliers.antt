@@ -23,9 +23,9 @@ unfoldable pub oppositeAt : (p width t : ℕ) (e pivots : List ℕ) → ℕ → 
 oppositeAt p width t e pivots s = (reduce p 0 ⊕ negated (reduce p (getD e (t * width + getD pivots s 0) 0))) .value
 
 -- the pivot of row s lies in row t, and that in the room
-pub pivot-inside : (p width r t : ℕ) (e pivots : List ℕ) → Lookable p width r t e pivots → (s : ℕ) → s < r
+pub pivot-inside : {p width r t : ℕ} {e pivots : List ℕ} → Lookable p width r t e pivots → (s : ℕ) → s < r
     → t * width + getD pivots s 0 < length e
-pivot-inside p width r t e pivots can s h =
+pivot-inside {width = width} {t = t} can s h =
     omega (
       arith,
       row-inside t width (omega (arith, can .one-of, can .pivots-in .few)) (can .pivots-in .narrow),
@@ -34,7 +34,7 @@ pivot-inside p width r t e pivots can s h =
     )
 
 -- of r numbers written into an empty list, and a 0 at place t
-module _ (p width r t : ℕ) (e pivots none by : List ℕ) (can : Lookable p width r t e pivots) (empty : Zeros longestRow none)
+module _ {p width r t : ℕ} {e pivots none by : List ℕ} (can : Lookable p width r t e pivots) (empty : Zeros longestRow none)
     (w : Walked r (oppositeAt p width t e pivots) none by) where
   here : t < length by
   here = omega (arith, can .one-of, can .pivots-in .few, empty .0, w .long)

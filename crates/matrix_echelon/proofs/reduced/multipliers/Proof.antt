@@ -40,23 +40,23 @@ cast-minus c = omega (arith, c .shared-slice-known3 .given (c .before .before .l
 add-minus : tie.Need-add-minus Inv-loop μ-loop
 add-minus c =
     let s = c .before .before .before .before .before .before in
-    omega (arith, pivot-inside _ _ _ _ _ _ (s .pre) (c .before .before .loop .s) (omega arith))
+    omega (arith, pivot-inside (s .pre) (c .before .before .loop .s) (omega arith))
 
 mul-minus-2 : tie.Need-mul-minus-2 Inv-loop μ-loop
 mul-minus-2 c =
     let s = c .before .before .before .before .before .before in
-    omega (arith, pivot-inside _ _ _ _ _ _ (s .pre) (c .before .before .loop .s) (omega arith), s .pre .rows-in .long)
+    omega (arith, pivot-inside (s .pre) (c .before .before .loop .s) (omega arith), s .pre .rows-in .long)
 
 shared-slice-read-minus-2 : tie.Need-shared-slice-read-minus-2 Inv-loop μ-loop
 shared-slice-read-minus-2 c =
     let s = c .before .before .before .before .before .before .before in
-    pivot-inside _ _ _ _ _ _ (s .pre) (c .before .before .before .loop .s) (omega arith)
+    pivot-inside (s .pre) (c .before .before .before .loop .s) (omega arith)
 
 minus-requires : tie.Need-minus-requires Inv-loop μ-loop
 minus-requires c κs =
     let s = c .before .before .before .before .before .before .before in (
       s .pre .positive,
-      s .pre .rows-in .below _ (pivot-inside _ _ _ _ _ _ (s .pre) (c .before .before .before .loop .s) (omega arith)),
+      s .pre .rows-in .below _ (pivot-inside (s .pre) (c .before .before .before .loop .s) (omega arith)),
       s .pre .in-range,
     )
 
@@ -94,7 +94,7 @@ returns c =
     let l = c .before .loop in
     let e : l .s ≡ s .args .rank = omega arith in
     let w = rw e at (l .inv .1) in
-    multipliers-found _ _ _ _ _ _ _ _ (s .pre) (c .before .before .row-room .ensures) w
+    multipliers-found (s .pre) (c .before .before .row-room .ensures) w
 
 pub multipliers-spec : {M : Type 1} → statement M
 multipliers-spec =
