@@ -21,8 +21,7 @@ use Rattle.matrix_mul.specs.Rows.{Each, Combinable, CombinedInto, Passes}
 use Rattle.matrix_mul.proofs.RowsTaken.{each-passes}
 use Rattle.matrix_echelon.specs.Group.{workedRows, pivotsOf}
 use Rattle.matrix_echelon.specs.Reduced.{Lookable, Multipliers, RowLessened}
-use Rattle.matrix_echelon.proofs.WorkedClear.{row-inside, row-before}
-use Rattle.matrix_echelon.proofs.WorkedGrow.{put-below}
+use Rattle.matrix_echelon.proofs.WorkedClear.{row-inside, row-before, put-below}
 
 -- the worked rows lie in the room
 pub looked-inside : {p width r t : ℕ} {e pivots : List ℕ} → Lookable p width r t e pivots → (s : ℕ) → s < r

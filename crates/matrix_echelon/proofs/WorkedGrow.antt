@@ -1,8 +1,7 @@
 -- A row becomes the next worked row: what is left once it is scaled, its group is cleared at its pivot, and it is put behind the others.
 use mathlib.Core.Path.{_≡_, sym, ap, subst, _∙_}
 use mathlib.Core.List.{List}
-use Prim.Native.Nat.{ℕ, _+_, _*_, _/_, _-_, _≤_, _<_}
-use native.Mathlib.Decide.{decLt}
+use Prim.Native.Nat.{ℕ, _+_, _*_, _/_, _≤_, _<_}
 use native.Mathlib.Omega.{arith}
 use lib.ListN.{length, getD, set, length-set}
 use lib.Seq.{getD-set-same, getD-set-other}
@@ -13,22 +12,11 @@ use Rattle.field.proofs.Residues.{reduce-of-value, below-of-value}
 use Rattle.matrix_echelon.specs.Group.{workedRows, pivotsOf}
 use Rattle.matrix_echelon.specs.Worked.{Scaled, GroupClearable, GroupCleared, Growable, RowGrown}
 use Rattle.matrix_echelon.proofs.WorkedMultiples.{scaled-zero}
-use Rattle.matrix_echelon.proofs.WorkedClear.{row-inside, row-before}
-
--- numbers below p that are put among numbers below p
-pub put-below : (p : ℕ) (xs : List ℕ) (at : ℕ) (e e′ : List ℕ) → Below p xs → Below p e → PutAt xs at e e′ → Below p e′
-put-below p xs at e e′ bx be put q h = by-place (decLt q at) (decLt q (at + length xs))
-  where
-    by-place : Dec (q < at) → Dec (q < at + length xs) → getD e′ q 0 < p
-    by-place (yes l) d = rw (put .2 q l) (be q (omega (arith, put .0)))
-    by-place (no l) (no d) = rw (put .3 q (omega arith)) (be q (omega (arith, put .0)))
-    by-place (no l) (yes d) =
-        let place : q ≡ at + (q - at) = omega arith in
-        rw (ap (λ n. getD e′ n 0) place ∙ put .1 (q - at) (omega arith)) (bx (q - at) (omega arith))
+use Rattle.matrix_echelon.proofs.WorkedClear.{row-inside, row-before, put-below}
 
 -- a scaled row is below p, begins at the same place, and can clear its group there
-module _ (p s : ℕ) (x x′ : List ℕ) (v r : ℕ) (e : List ℕ) (can : GroupClearable p x v r e) (scaled : Scaled p s x x′) where
-  pub scaled-below : Below p x′
+module _ {p s : ℕ} {x x′ : List ℕ} {v r : ℕ} {e : List ℕ} (can : GroupClearable p x v r e) (scaled : Scaled p s x x′) where
+  scaled-below : Below p x′
   scaled-below j h =
       below-of-value (can .leading .positive) (reduce p s ⊗ reduce p (getD x j 0)) (scaled .each j (omega (arith, scaled .same-length)))
 
@@ -52,12 +40,12 @@ module _ (p s : ℕ) (x x′ : List ℕ) (v r : ℕ) (e : List ℕ) (can : Group
       }
 
 -- a row that clears its group fits the room behind it
-pub row-fits : (p : ℕ) (x : List ℕ) (v r : ℕ) (e e′ : List ℕ) → GroupClearable p x v r e → GroupCleared p x v r e e′
+pub row-fits : {p : ℕ} {x : List ℕ} {v r : ℕ} {e e′ : List ℕ} → GroupClearable p x v r e → GroupCleared p x v r e e′
     → r * length x + length x ≤ length e′
-row-fits p x v r e e′ can cleared = omega (arith, row-inside r (length x) (can .few) (can .narrow), cleared .room .long)
+row-fits {x = x} {r = r} can cleared = omega (arith, row-inside r (length x) (can .few) (can .narrow), cleared .room .long)
 
 -- the row x, scaled to x′, has cleared its group and stands as row r
-module _ (p s : ℕ) (x x′ : List ℕ) (v r : ℕ) (e e′ e″ pivots : List ℕ) (can : Growable p x v r e pivots) (scaled : Scaled p s x x′)
+module _ {p s : ℕ} {x x′ : List ℕ} {v r : ℕ} {e e′ pivots : List ℕ} (e″ : List ℕ) (can : Growable p x v r e pivots) (scaled : Scaled p s x x′)
     (cleared : GroupCleared p x′ v r e e′) (put : PutAt x′ (r * length x′) e′ e″) where
   new-row : (j : ℕ) → j < length x′ → workedRows p e″ (length x′) r j ≡ reduce p (getD x′ j 0)
   new-row j h = ap (reduce p) (put .1 j h)
@@ -92,7 +80,7 @@ module _ (p s : ℕ) (x x′ : List ℕ) (v r : ℕ) (e e′ e″ pivots : List 
             record {
               long = put .0 ∙ cleared .room .long;
               below =
-                  put-below p x′ (r * length x′) e′ e″ (scaled-below p s x x′ v r e (can .clearable) scaled) (cleared .room .below) put;
+                  put-below p x′ (r * length x′) e′ e″ (scaled-below (can .clearable) scaled) (cleared .room .below) put;
             };
         pivots-long = length-set pivots r v ∙ can .pivots-long;
         factor = reduce p s;

@@ -28,20 +28,20 @@ scale-requires c κs = search needs
 clear-group-requires : tie.Need-clear-group-requires
 clear-group-requires c κs =
     let s = c .before .before .before .before .before .before .before .before .before .before .before in
-    scaled-clearable _ _ _ _ _ _ _ (s .pre .clearable) (c .before .before .before .before .scale .ensures)
+    scaled-clearable (s .pre .clearable) (c .before .before .before .before .scale .ensures)
 
 put-requires : tie.Need-put-requires
 put-requires c κs =
     let clear = c .before .before .before .before in
     let scaled = clear .before .before .before .before .before in
     let s = scaled .before .before .before .before .before .before .before in
-    row-fits _ _ _ _ _ _ (scaled-clearable _ _ _ _ _ _ _ (s .pre .clearable) (scaled .scale .ensures)) (clear .clear-group .ensures)
+    row-fits (scaled-clearable (s .pre .clearable) (scaled .scale .ensures)) (clear .clear-group .ensures)
 
 mul-put : tie.Need-mul-put
 mul-put c =
     let scaled = c .before .before .before .before .before .before .before .before .before in
     let s = scaled .before .before .before .before .before .before .before in
-    let can = scaled-clearable _ _ _ _ _ _ _ (s .pre .clearable) (scaled .scale .ensures) in
+    let can = scaled-clearable (s .pre .clearable) (scaled .scale .ensures) in
     omega (arith, row-inside _ _ (can .few) (can .narrow))
 
 cast-pivots : tie.Need-cast-pivots
@@ -68,7 +68,7 @@ returns c =
     let clear = c .before .before .before .before .before .before .before .clear-group in
     let scaled = c .before .before .before .before .before .before .before .before .before .before .before .before in
     let s = scaled .before .before .before .before .before .before .before in
-    row-grown _ _ _ _ _ _ _ _ _ _ (s .pre) (scaled .scale .ensures) (clear .ensures) (put .ensures) (scaled .before .before .inverse .ensures .1)
+    row-grown _ (s .pre) (scaled .scale .ensures) (clear .ensures) (put .ensures) (scaled .before .before .inverse .ensures .1)
 
 pub grow-spec : {M : Type 1} → statement M
 grow-spec =
