@@ -1,3 +1,6 @@
 pub mod WorkedMultiples
 pub mod WorkedClear
+pub mod WorkedGrow
 pub mod Groups
+pub mod ReduceMultipliers
+pub mod ReduceRow
