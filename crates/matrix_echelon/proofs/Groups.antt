@@ -1,6 +1,6 @@
 -- A group of four worked rows that is added to the sums of limbs: the rows lie in their memory, the limbs have room for them, and
 -- the row that the limbs stand for has the group added, each row with the multiplier found at its pivot.
-use mathlib.Core.Path.{_≡_, refl, sym, ap, ap₂, _∙_}
+use mathlib.Core.Path.{_≡_, sym, ap, ap₂, _∙_, subst}
 use mathlib.Core.List.{List}
 use Prim.Native.Nat.{ℕ, zero, suc, _+_, _*_, _≤_, _<_}
 use native.Mathlib.Decide.{decLt}
@@ -9,8 +9,9 @@ use lib.ListN.{length, getD}
 use mir.Val.{Fits}
 use mir.Syntax.{w64}
 use Rattle.algebra.specs.Ring.{IsCommutativeRing}
-use Rattle.algebra.specs.Matrix.{mixed, sum}
-use Rattle.algebra.specs.Echelon.{GroupAdded}
+use Rattle.algebra.specs.Matrix.{Vector, mixed, sum}
+use Rattle.algebra.specs.Echelon.{ClearedTo, GroupAdded}
+use Rattle.algebra.proofs.Cleared as cleared
 use Rattle.algebra.proofs.Rings as rings
 use Rattle.algebra.proofs.Sums as sums
 use Rattle.checks.specs.Prime.{largestModulus}
@@ -24,7 +25,8 @@ use Rattle.matrix_mul.specs.declared.rows.Row.{Row}
 use Rattle.matrix_mul.specs.declared.rows.Four.{Four}
 use Rattle.matrix_mul.specs.Rows.{Short, Inside, FourInside, Ready, Added, productAt, fourAt, wholeAt}
 use Rattle.matrix_mul.proofs.RowsTaken.{below-shorts, quarter-product, four-fit}
-use Rattle.matrix_echelon.specs.Group.{Pivots, WorkedRoom, IsPivotRow, GroupTaken, Clearable, rowIn, workedRows, pivotsOf}
+use Rattle.matrix_echelon.specs.Group.{Pivots, WorkedRoom, IsPivotRow, GroupTaken, GroupsCleared, Clearable, rowIn, workedRows}
+use Rattle.matrix_echelon.specs.Group.{pivotsOf}
 use Rattle.matrix_echelon.proofs.WorkedClear.{row-inside}
 
 -- 1 is not 0 modulo p
@@ -117,6 +119,11 @@ module _ (p n r : ℕ) (e pivots : List ℕ) (positive : 0 < p) (in-range : p �
             ∙ sym (rings.zero-times (residues p) L (workedRows p e (n + 1) t j))
             ∙ ap (λ c. reduce p c ⊗ workedRows p e (n + 1) t j) (sym none)
 
+    first-row : IsPivotRow p (n + 1) r (g + 0) pivots lo hi (four .a)
+    first-row =
+        let here : g ≡ g + 0 = omega arith in
+        subst (λ t. IsPivotRow p (n + 1) r t pivots lo hi (four .a)) here (taken .row-a)
+
     -- the four multipliers
     multipliers : ℕ → Residue p
     multipliers zero = reduce p (four .a .times)
@@ -133,11 +140,11 @@ module _ (p n r : ℕ) (e pivots : List ℕ) (positive : 0 < p) (in-range : p �
         (reduce-plus p (productAt e (four .a) j + productAt e (four .b) j) (productAt e (four .c) j)
         ∙ ap₂ _⊕_
         (reduce-plus p (productAt e (four .a) j) (productAt e (four .b) j)
-        ∙ ap₂ _⊕_ (term (taken .row-a) j ∙ sym (rings.zero-plus (residues p) (residues-ring p positive) _)) (term (taken .row-b) j))
+        ∙ ap₂ _⊕_ (term first-row j ∙ sym (rings.zero-plus (residues p) (residues-ring p positive) _)) (term (taken .row-b) j))
         (term (taken .row-c) j))
         (term (taken .row-d) j)
 
-    pub group-added : {los his : List ℕ} → Added (n + 1) (fourAt e four) lo hi los his
+    group-added : {los his : List ℕ} → Added (n + 1) (fourAt e four) lo hi los his
         → GroupAdded (residues p) g n r (workedRows p e (n + 1)) (pivotsOf pivots) (rowIn p lo hi) (rowIn p los his)
     unfolding wholeAt multipliers
     group-added a =
@@ -152,15 +159,27 @@ module _ (p n r : ℕ) (e pivots : List ℕ) (positive : 0 < p) (in-range : p �
         }
       where
         at-pivot : (k : ℕ) → k < 4 → g + k < r → multipliers k ≡ residues p .minus (rowIn p lo hi (pivotsOf pivots (g + k)))
-        at-pivot zero h l = taken .row-a .multiplier (omega arith)
+        at-pivot zero h l = first-row .multiplier l
         at-pivot (suc zero) h l = taken .row-b .multiplier l
         at-pivot (suc (suc zero)) h l = taken .row-c .multiplier l
         at-pivot (suc (suc (suc zero))) h l = taken .row-d .multiplier l
         at-pivot (suc (suc (suc (suc k)))) h l = absurd (omega arith)
 
         beyond : (k : ℕ) → k < 4 → r ≤ g + k → multipliers k ≡ reduce p 0
-        beyond zero h l = ap (reduce p) (taken .row-a .no-multiplier (omega arith))
+        beyond zero h l = ap (reduce p) (first-row .no-multiplier l)
         beyond (suc zero) h l = ap (reduce p) (taken .row-b .no-multiplier l)
         beyond (suc (suc zero)) h l = ap (reduce p) (taken .row-c .no-multiplier l)
         beyond (suc (suc (suc zero))) h l = ap (reduce p) (taken .row-d .no-multiplier l)
         beyond (suc (suc (suc (suc k)))) h l = absurd (omega arith)
+
+    -- the row is cleared at the pivots of one group more
+    pub group-cleared : (1 < p) → (q : ℕ) → g ≡ 4 * q → GroupsCleared p n r e pivots → {x : Vector (residues p)} {los his : List ℕ}
+        → ClearedTo (residues p) (4 * q) 0 n (λ i. x) r (workedRows p e (n + 1)) (pivotsOf pivots) (rowIn p lo hi)
+        → Added (n + 1) (fourAt e four) lo hi los his
+        → ClearedTo (residues p) (4 * (q + 1)) 0 n (λ i. x) r (workedRows p e (n + 1)) (pivotsOf pivots) (rowIn p los his)
+    group-cleared proper q at-q groups {x} {los} {his} c a =
+        let more : 4 * q + 4 ≡ 4 * (q + 1) = omega arith in
+        subst (λ k. ClearedTo (residues p) k 0 n (λ i. x) r (workedRows p e (n + 1)) (pivotsOf pivots) (rowIn p los his)) more
+        (cleared.cleared-group (residues p) (residues-ring p positive) (one-not-zero p proper) q groups
+        (λ t h. omega (arith, ps .inside t h)) c
+        (subst (λ k. GroupAdded (residues p) k n r (workedRows p e (n + 1)) (pivotsOf pivots) (rowIn p lo hi) (rowIn p los his)) at-q (group-added a)))

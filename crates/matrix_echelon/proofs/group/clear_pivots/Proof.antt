@@ -12,7 +12,7 @@ use Rattle.field.proofs.Field.{residues-ring}
 use Rattle.matrix_mul.specs.Rows.{Powers}
 use Rattle.matrix_mul.proofs.RowsTaken.{mod-short, quarter-product, one-fits}
 use Rattle.matrix_echelon.specs.Group.{Clearable, rowIn, workedRows, pivotsOf}
-use Rattle.matrix_echelon.proofs.Groups.{Limbs, limbs-fresh, limbs-ready, limbs-more, four-inside, group-added}
+use Rattle.matrix_echelon.proofs.Groups.{Limbs, limbs-fresh, limbs-ready, limbs-more, four-inside, group-cleared}
 use Rattle.matrix_echelon.proofs.Groups.{one-not-zero}
 use Rattle.matrix_echelon.proofs.group.clear_pivots.Statement.{statement}
 use Rattle.matrix_echelon.proofs.group.clear_pivots.Tie as tie
@@ -75,7 +75,7 @@ group-rows-requires c κs =
       pivots-in = s .pre .pivots-in;
       near = omega (arith, i .loop-test .taken, s .pre .pivots-in .few);
       ready =
-          limbs-ready (omega (arith, i .loop-test .taken, s .pre .pivots-in .few)) (s .pre .pivots-in .narrow) (i .before .loop .inv .2 .0);
+          limbs-ready (omega (arith, i .loop-test .taken, s .pre .pivots-in .few)) (s .pre .pivots-in .narrow) (i .before .loop .inv .2);
     }
 
 add-rows-requires : tie.Need-add-rows-requires Inv-loop μ-loop
@@ -83,7 +83,7 @@ add-rows-requires c κs =
     let f = c .before .before in
     let i = f .before .before .before in
     let s = entry i in (
-      limbs-ready (omega (arith, i .loop-test .taken, s .pre .pivots-in .few)) (s .pre .pivots-in .narrow) (i .before .loop .inv .2 .0),
+      limbs-ready (omega (arith, i .loop-test .taken, s .pre .pivots-in .few)) (s .pre .pivots-in .narrow) (i .before .loop .inv .2),
       four-inside (s .args .p) (s .args .n) (s .args .rank) (s .args .e .now) (s .args .pivots .now) (omega (arith, s .pre .proper))
           (s .pre .in-range) (s .pre .room) (s .pre .pivots-in) (f .group-rows .ensures),
     )
@@ -100,7 +100,17 @@ loop-again c =
     let i = f .before .before .before in
     let l = i .before .loop in
     let s = entry i in
-    ?
+    let more : (l .g + 4) / 4 ≡ l .g / 4 + 1 = omega (arith, l .inv .0) in
+    let positive : 0 < s .args .p = omega (arith, s .pre .proper) in
+    rw more (
+      omega (arith, l .inv .0),
+      omega (arith, i .loop-test .taken),
+      limbs-more (s .args .p) (s .args .n) (s .args .rank) (s .args .e .now) (s .args .pivots .now) positive (s .pre .in-range) (s .pre .room)
+          (s .pre .pivots-in) (f .group-rows .ensures) (l .inv .2) (c .add-rows .ensures),
+      group-cleared (s .args .p) (s .args .n) (s .args .rank) (s .args .e .now) (s .args .pivots .now) positive (s .pre .in-range) (s .pre .room)
+          (s .pre .pivots-in) (f .group-rows .ensures) (s .pre .proper) (l .g / 4) (l .inv .0) (s .pre .cleared) (l .inv .3)
+          (c .add-rows .ensures),
+    )
 
 returns : tie.Need-returns Inv-loop μ-loop
 returns c =
@@ -109,8 +119,8 @@ returns c =
     record {
       cleared =
           cleared.cleared-all (residues (s .args .p)) (residues-ring (s .args .p) (omega (arith, s .pre .proper)))
-          (one-not-zero (s .args .p) (s .pre .proper)) (omega (arith, c .loop-test .left, l .inv .0)) (l .inv .2 .1);
-      ready = limbs-ready (omega (arith, s .pre .pivots-in .few, l .inv .1)) (s .pre .pivots-in .narrow) (l .inv .2 .0);
+          (one-not-zero (s .args .p) (s .pre .proper)) (omega (arith, c .loop-test .left, l .inv .0)) (l .inv .3);
+      ready = limbs-ready (omega (arith, s .pre .pivots-in .few, l .inv .1)) (s .pre .pivots-in .narrow) (l .inv .2);
     }
 
 pub clear-pivots-spec : {M : Type 1} → statement M
