@@ -69,8 +69,7 @@ folded-requires c κs =
 minus-requires : tie.Need-minus-requires
 minus-requires c κs =
     let s = c .before .before .before .before .before .before in
-    let v = getD (s .args .pivots .now) (s .args .t) 0 in
-    (
+    let v = getD (s .args .pivots .now) (s .args .t) 0 in (
       s .pre .positive,
       below-of-value (s .pre .positive) (reduce (s .args .p) (whole (getD (s .args .lo .now) v 0) (getD (s .args .hi .now) v 0))) (c .folded .ensures),
       s .pre .in-range,
