@@ -2,5 +2,6 @@ pub mod WorkedMultiples
 pub mod WorkedClear
 pub mod WorkedGrow
 pub mod Groups
+pub mod Settle
 pub mod ReduceMultipliers
 pub mod ReduceRow
