@@ -10,12 +10,6 @@ longestRow = largest
 abbrev pub halfRows : ℕ
 halfRows = 32
 
--- the largest table; half of its rows; half of the columns of these
+-- the largest table
 abbrev pub largestTable : ℕ
 largestTable = 4096
-
-abbrev pub halfTable : ℕ
-halfTable = 2048
-
-abbrev pub quarterTable : ℕ
-quarterTable = 1024

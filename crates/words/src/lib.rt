@@ -4,7 +4,7 @@ ghost use mathlib.Core.Path.{_≡_};
 ghost use Prim.Native.Nat.{_+_, _≤_, _<_};
 ghost use lib.ListN.{length};
 ghost use Rattle.algebra.specs.Answers.{Tells};
-ghost use Rattle.words.specs.Lengths.{longestRow, largestTable, halfTable, quarterTable};
+ghost use Rattle.words.specs.Lengths.{longestRow, largestTable};
 ghost use Rattle.words.specs.Words.{Below, Blank, Zeros, AllMarked, Copied, PutAt, FirstDifference};
 
 // The most numbers of a row or a column.
@@ -12,12 +12,6 @@ pub const ROW: usize = 64;
 
 // The numbers of the largest table.
 pub const TABLE: usize = 4096;
-
-// The numbers of half its rows.
-pub const HALF: usize = 2048;
-
-// The numbers of half the columns of these.
-pub const QUARTER: usize = 1024;
 
 // Zeros: room for the longest row or column.
 pub fn row_room() -> [u32; ROW]
@@ -31,20 +25,6 @@ pub fn table_room() -> [u32; TABLE]
     ensures { λ r. ⌜ Zeros largestTable r ⌝ }
 {
     [0u32; TABLE]
-}
-
-// Room for half the rows of the largest table.
-pub fn half_table() -> [u32; HALF]
-    ensures { λ r. ⌜ Zeros halfTable r ⌝ }
-{
-    [0u32; HALF]
-}
-
-// Room for a quarter of the largest table: half its rows, and half the columns of these.
-pub fn quarter_table() -> [u32; QUARTER]
-    ensures { λ r. ⌜ Zeros quarterTable r ⌝ }
-{
-    [0u32; QUARTER]
 }
 
 // Makes each number 0.
