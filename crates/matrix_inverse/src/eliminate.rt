@@ -26,23 +26,6 @@ const T_8: usize = 16;
 
 const C_8: usize = 256;
 
-// The least position of a number that is not 0, or the length where there is none.
-fn least_nonzero(xs: &[u32]) -> usize
-    ensures { λ r. ⌜ (r ≤ length (now (xs .entry))) × ((t : ℕ) → t < r → getD (now (xs .entry)) t 0 ≡ 0)
-        × (r < length (now (xs .entry)) → getD (now (xs .entry)) r 0 ≡ 0 → ⊥) ⌝ }
-{
-    let len = xs.len();
-    let mut found = len;
-    let mut v = 0;
-    while v < found {
-        if xs[v] != 0 {
-            found = v;
-        }
-        v += 1;
-    }
-    found
-}
-
 // One row: the select step takes the least usable column v, and D has 1 / a(v) there. Answers the column marks: v is marked.
 fn one_row(
     p: u32,
@@ -57,7 +40,7 @@ fn one_row(
     ensures { λ r. ⌜ Eliminated p 1 n (now (a .entry)) (now (d .entry)) at stride noMarks (now (rows .entry)) (now (d .exit)) r (now (rows .exit)) ⌝ }
 {
     let mut marks = row_room();
-    let v = least_nonzero(a);
+    let v = words::least_nonzero(a);
     if v == n {
         return marks;
     }
