@@ -1,22 +1,23 @@
 #!/usr/bin/env python3
 """The table of inverses by which is_modulus tests p: crates/checks/src/primes.rt.
 
-The table has the inverse modulo 2^32 of each prime from 65 to 46,340, the largest number whose square is at most
-2,147,483,647. A part of it is one arm of a match, which the compiler turns into a table: the number that the part starts
-from, then 64 inverses. The primes of a part lie below twice its start; where that leaves places, they are filled with ones.
-Where each part starts stands in crates/checks/specs/Inverses.antt too, and the proof checks both.
+The table has the inverse modulo 2^32 of each prime from 33 to 46,340, the largest number whose square is at most
+2,147,483,647. A part of it is one arm of a match: the number that the part starts from, then 38 inverses. The primes of a
+part lie below twice its start; where that leaves places, they are filled with ones. 38 makes it 128 parts: at a power of
+two the compiler turns the arms into tables with no case apart for the last arm, and nothing is copied to the stack. Where
+each part starts stands in crates/checks/specs/Inverses.antt too, and the proof checks both.
 
   tools/primes.py             (prints the source file)
 """
-FIRST = 65
-IN_PART = 64
+FIRST = 33
+IN_PART = 38
 LAST = 46340
 BASE = 2 ** 32
 
 HEAD = """\
 // The inverses modulo 2^32 of the primes from %d past 46,340, %d to a part. Each part opens with the number that it starts
 // from, and its primes lie below twice that; places that are left are filled with ones. Printed by tools/primes.py. The
-// parts are arms of a match, since an array constant would be copied to the stack whole.
+// parts are arms of a match, which become tables; an array constant would be copied to the stack whole.
 ghost use Prim.Native.Nat.{_<_};
 ghost use Rattle.checks.specs.Inverses.{Part};
 

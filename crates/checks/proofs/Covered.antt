@@ -10,7 +10,7 @@ use native.Mathlib.Omega.{arith}
 use lib.Dec.{T, leb, ltb, eqb, leb→le, ltb→lt, eqb→eq}
 use lib.ListN.{length, getD}
 use Rattle.checks.specs.Prime.{IsModulus, NoneBelow, largestModulus}
-use Rattle.checks.specs.Inverses.{wordBase, both, small, divides, ones, covers, start, is-part, Part, Strikes}
+use Rattle.checks.specs.Inverses.{wordBase, both, small, divides, ones, covers, start, is-part, partSize, Part, Strikes}
 use Rattle.checks.proofs.Trial.{one-more}
 use Rattle.checks.proofs.Wrapped.{multiple-low, low-multiple, one-high}
 
@@ -211,7 +211,7 @@ part-strikes p k (f ∷ vs) two range above l part struck m = go (struck .place)
         let inside : d .divisor < p = omega (arith, d .below, a .rising, a .doubled, mul-le-mul-right f above) in
         m .prime .no-divisor (d .divisor) (omega (arith, d .from)) inside (d .divides-p)
 
-    go : (j : ℕ) → 0 < j → j < 65 → p * getD (f ∷ vs) j 0 % wordBase ≤ p / f → ⊥
+    go : (j : ℕ) → 0 < j → j < partSize → p * getD (f ∷ vs) j 0 % wordBase ≤ p / f → ⊥
     go zero h i low = omega arith
     go (suc j) h i low =
         found

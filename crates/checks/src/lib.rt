@@ -59,8 +59,8 @@ pub fn number_of(kind: Refusal) -> u32
     }
 }
 
-// Whether p is a prime from 2 to 2,147,483,647: by division by 2 and the odd numbers below 65, which tells of a p below
-// the square of 65, and then by the table of inverses.
+// Whether p is a prime from 2 to 2,147,483,647: by division by 2 and the odd numbers below 33, which is all for a p below
+// 33², and then by the table of inverses.
 pub fn is_modulus(p: u32) -> bool
     ensures { λ r. ⌜ Tells r (IsModulus p) ⌝ }
 {
@@ -77,7 +77,7 @@ pub fn is_modulus(p: u32) -> bool
         return false;
     }
     let mut q: u32 = 3;
-    while q < 65 {
+    while q < 33 {
         if p / q < q {
             return true;
         }

@@ -17,28 +17,27 @@ fn wrapped(p: u32, v: u32) -> u32
     ((p as u64) * (v as u64) % BASE) as u32
 }
 
-// Whether the product of p with an inverse of the part is at most `most`. All are looked at, so that four go at a time.
-fn strikes(p: u32, most: u32, words: &[u32; 65]) -> bool
+// Whether the product of p with an inverse of the part is at most `most`.
+fn strikes(p: u32, most: u32, words: &[u32; 39]) -> bool
     ensures { λ r. ⌜ Tells r (Strikes p most (now (words .entry))) ⌝ }
 {
-    let mut struck: u32 = 0;
     let mut i = 1;
-    while i < 65 {
+    while i < 39 {
         if wrapped(p, words[i]) <= most {
-            struck += 1;
+            return true;
         }
         i += 1;
     }
-    0 < struck
+    false
 }
 
-// Whether p, which has no divisor below 65, has none at all: by the parts whose start's square is at most p.
+// Whether p, which has no divisor below 33, has none at all: by the parts whose start's square is at most p.
 pub fn is_prime(p: u32) -> bool
-    requires { ⌜ Sieved 65 p ⌝ }
+    requires { ⌜ Sieved 33 p ⌝ }
     ensures { λ r. ⌜ Tells r (IsModulus p) ⌝ }
 {
     let mut part: usize = 0;
-    while part < 77 {
+    while part < 128 {
         let words = primes::inverses(part);
         let start = words[0];
         let most = p / start;

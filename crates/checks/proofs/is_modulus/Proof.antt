@@ -1,5 +1,5 @@
--- `checks::is_modulus` meets its contract, by trial division by the numbers below 65, and then by the table. The loop's
--- invariant: q is odd, and no number strictly between 1 and q divides p. The measure is what is left up to 65.
+-- `checks::is_modulus` meets its contract, by trial division by the numbers below 33, and then by the table. The loop's
+-- invariant: q is odd, and no number strictly between 1 and q divides p. The measure is what is left up to 33.
 use mathlib.Core.Path.{_≡_}
 use Prim.Native.Nat.{_-_, _%_, _≤_}
 use native.Mathlib.Nat.{mod-eq-zero-of-dvd}
@@ -14,7 +14,7 @@ abbrev Inv-loop : tie.InvT-loop
 Inv-loop p q₀ q = (3 ≤ q) × (q % 2 ≡ 1) × NoneBelow q p
 
 abbrev μ-loop : tie.MeasureT-loop
-μ-loop p q₀ q = 65 - q
+μ-loop p q₀ q = 33 - q
 
 returns : tie.Need-returns Inv-loop μ-loop
 returns c = tells-no (λ m. omega arith)

@@ -14,10 +14,10 @@ use Rattle.checks.proofs.table.is_prime.Statement.{statement}
 use Rattle.checks.proofs.table.is_prime.Tie as tie
 
 abbrev Inv-loop : tie.InvT-loop
-Inv-loop p part₀ part = (part ≤ 77) × (1 < start part) × NoneBelow (start part) p
+Inv-loop p part₀ part = (part ≤ 128) × (1 < start part) × NoneBelow (start part) p
 
 abbrev μ-loop : tie.MeasureT-loop
-μ-loop p part₀ part = 77 - part
+μ-loop p part₀ part = 128 - part
 
 loop-holds : tie.Need-loop-holds Inv-loop μ-loop
 unfolding start
@@ -73,9 +73,9 @@ returns-3 : tie.Need-returns-3 Inv-loop μ-loop
 unfolding start
 returns-3 c =
     let l = c .before .loop in
-    let all : l .part ≡ 77 = omega arith in
-    let low : NoneBelow 46771 (c .before .before .args .p) = subst (λ (k : ℕ). NoneBelow (start k) (c .before .before .args .p)) all (l .inv .2) in
-    tells-yes (undivided 46771 _ (omega arith) (past-root 46771 _ (omega arith) (omega arith)) (omega arith) (omega arith) low)
+    let all : l .part ≡ 128 = omega arith in
+    let low : NoneBelow 46507 (c .before .before .args .p) = subst (λ (k : ℕ). NoneBelow (start k) (c .before .before .args .p)) all (l .inv .2) in
+    tells-yes (undivided 46507 _ (omega arith) (past-root 46507 _ (omega arith) (omega arith)) (omega arith) (omega arith) low)
 
 pub is-prime-spec : {M : Type 1} → statement M
 is-prime-spec =
