@@ -12,6 +12,7 @@ use lib.ListN.{getD, length}
 abbrev pub wordBase : ℕ
 wordBase = 4294967296
 
+-- both tests
 abbrev pub both : Bool → Bool → Bool
 both true b = b
 both false b = false
@@ -33,7 +34,7 @@ unfoldable pub ones : List ℕ → Bool
 ones [] = true
 ones (v ∷ vs) = both (eqb v 1) (ones vs)
 
--- the k numbers from n on: each has the next entry for its inverse modulo 2^32, or else has a divisor; then the entries are used up
+-- the k numbers from n on: each has the next entry for its inverse modulo 2^32, or else has a divisor; then only ones are left
 unfoldable pub covers : ℕ → ℕ → List ℕ → Bool
 covers zero n vs = ones vs
 covers (suc k) n [] = both (divides small n) (covers k (suc n) [])
@@ -67,6 +68,7 @@ is-part k (f ∷ vs) =
 abbrev pub partSize : ℕ
 partSize = 39
 
+-- what the contract of a part says
 pub record Part (k : ℕ) (ws : List ℕ) : Type 0 where
   pub size : length ws ≡ partSize
   pub computed : T (is-part k ws)

@@ -38,7 +38,7 @@ div-if5 c = omega arith
 returns-5 : tie.Need-returns-5 Inv-loop μ-loop
 returns-5 c =
     let l = c .before .before in
-    tells-yes (undivided (l .loop .q) _ (omega arith) (c .if5 .taken) (omega arith) (omega arith) (l .loop .inv .2))
+    tells-yes (undivided (l .loop .q) _ (omega arith) (omega arith) (omega arith) (omega arith) (l .loop .inv .2))
 
 rem-if6 : tie.Need-rem-if6 Inv-loop μ-loop
 rem-if6 c = omega arith

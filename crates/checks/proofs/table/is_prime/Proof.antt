@@ -37,7 +37,7 @@ returns c =
     let l = c .before .before .before in
     let first = part-first _ _ (c .before .inverses .ensures) in
     tells-yes
-    (undivided (getD (c .before .inverses .result) 0 0) _ (omega arith) (c .if1 .taken) (omega arith) (omega arith)
+    (undivided (getD (c .before .inverses .result) 0 0) _ (omega arith) (omega arith) (omega arith) (omega arith)
     (rw first (l .loop .inv .2)))
 
 strikes-requires : tie.Need-strikes-requires Inv-loop μ-loop

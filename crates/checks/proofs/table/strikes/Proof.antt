@@ -7,7 +7,7 @@ use native.Mathlib.Omega.{arith}
 use native.Mathlib.Decide.{ℕ-discrete}
 use lib.ListN.{getD}
 use Rattle.algebra.proofs.Answers.{tells-yes, tells-no}
-use Rattle.checks.specs.Inverses.{wordBase, Strikes}
+use Rattle.checks.specs.Inverses.{wordBase}
 use Rattle.checks.proofs.table.strikes.Statement.{statement}
 use Rattle.checks.proofs.table.strikes.Tie as tie
 

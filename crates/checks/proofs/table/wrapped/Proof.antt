@@ -1,5 +1,5 @@
 -- `checks::table::wrapped` meets its contract: the product of two 32-bit numbers fits 64 bits.
-use Prim.Native.Nat.{_≤_, _*_}
+use Prim.Native.Nat.{_≤_}
 use native.Mathlib.Nat.{mul-le-mul}
 use native.Mathlib.Omega.{arith}
 use mathlib.Core.Path.{refl}
