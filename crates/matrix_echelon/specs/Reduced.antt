@@ -4,8 +4,6 @@ use mathlib.Core.Bool.{true}
 use mathlib.Core.List.{List}
 use Prim.Native.Nat.{ℕ, suc, _+_, _*_, _≤_, _<_}
 use lib.ListN.{length, getD}
-use lib.Dec.{eqb}
-use Rattle.algebra.specs.Choice.{choose}
 use Rattle.algebra.specs.Matrix.{product, apply}
 use Rattle.algebra.specs.Echelon.{others, RowReduced}
 use Rattle.checks.specs.Prime.{largestModulus}
