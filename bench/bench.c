@@ -1,6 +1,6 @@
 /* The benchmark: the calls of libdauneroad.a beside FLINT, in one process, on the same tables.
  *
- *   bench race SECONDS FILE    times everything, one line each, about SECONDS for a line; writes the table to FILE
+ *   bench race SECONDS TABLE AIMS    times everything, one line each, about SECONDS for a line; writes these two files
  *   bench count CALL           prepares, then makes one call of take, repeat, show, quasiinverse or prime: for callgrind
  *
  * Before a thing is timed both sides work it out and must agree, or the program ends with status 1. A time is the fastest of
@@ -706,30 +706,46 @@ static void write_table(const char *path) {
     must(fclose(f) == 0, "the table is written");
 }
 
-/* The aims stand against the plain compositions; the sparing ones are told beside them, as the stricter measure. */
-static void tell_aims(void) {
-    for (int i = 0; i < result_count; i++) {
-        result *r = &results[i];
-        int quasiinverse = !strncmp(r->call, "quasiinverse", 12) && r->n == MOST;
-        int taken = !strncmp(r->call, "take", 4) && !strncmp(r->kind, "mean", 4);
-        for (int q = 0; q < 3 && (quasiinverse || taken); q++) {
+/* What is aimed at, all at n = 64: a ratio to FLINT below 1. */
+static const struct {
+    const char *call, *kind;
+} AIMS[] = {{"quasiinverse (composed)", "full rank"},
+            {"quasiinverse (composed)", "half rank"},
+            {"kernel (nmod_mat_nullspace)", "half rank"},
+            {"solve (nmod_mat_solve_vec)", "full rank"},
+            {"take, new (composed, sparing)", "mean, 0..63"},
+            {"take, new (composed, sparing)", "k = 63"},
+            {"take, repeat (composed, sparing)", "mean, 0..63"},
+            {"take, repeat (composed, sparing)", "k = 63"}};
+
+static void write_aims(const char *path) {
+    FILE *f = fopen(path, "w");
+    must(f != NULL, "the aims' file can be written");
+    fprintf(f, "| Aim: a ratio to FLINT below 1, at n = %d | p = %u | p = %u | p = %u | |\n|---|---|---|---|---|\n", MOST, PRIMES[0],
+            PRIMES[1], PRIMES[2]);
+    for (size_t i = 0; i < sizeof AIMS / sizeof *AIMS; i++) {
+        result *r = result_of(AIMS[i].call, AIMS[i].kind, MOST);
+        double worst = 0;
+        fprintf(f, "| %s, %s |", r->call, r->kind);
+        for (int q = 0; q < 3; q++) {
             double ratio = r->ours[q] / r->theirs[q];
-            printf("%s %s, %s, n %u, p %u: ratio %.3f, %s: %s\n", strstr(r->call, "sparing") ? "stricter:" : "aim:     ", r->call,
-                   r->kind, r->n, PRIMES[q], ratio, quasiinverse ? "below 1" : "at most 4",
-                   (quasiinverse ? ratio < 1 : ratio <= 4) ? "met" : "missed");
+            fprintf(f, " %.2f |", ratio);
+            if (ratio > worst) worst = ratio;
         }
+        fprintf(f, " %s |\n", worst < 1 ? "met" : "missed");
     }
+    must(fclose(f) == 0, "the aims are written");
 }
 
-static int race_all(double seconds, const char *path) {
+static int race_all(double seconds, const char *table, const char *aims) {
     weigh_clock();
     race_primes(seconds);
     for (int half = 0; half < 2; half++)
         for (int size = 0; size < 4; size++)
             for (int prime = 0; prime < 3; prime++) race_tables(prime, SIZES[size], half, seconds);
     for (int prime = 0; prime < 3; prime++) race_board(prime, seconds);
-    tell_aims();
-    write_table(path);
+    write_table(table);
+    write_aims(aims);
     return 0;
 }
 
@@ -759,8 +775,8 @@ static int count(const char *call) {
 }
 
 int main(int argc, char **argv) {
-    if (argc == 4 && !strcmp(argv[1], "race")) return race_all(atof(argv[2]), argv[3]);
+    if (argc == 5 && !strcmp(argv[1], "race")) return race_all(atof(argv[2]), argv[3], argv[4]);
     int status = argc == 3 && !strcmp(argv[1], "count") ? count(argv[2]) : 2;
-    if (status == 2) fprintf(stderr, "usage: bench race SECONDS FILE | bench count take|repeat|show|quasiinverse|prime\n");
+    if (status == 2) fprintf(stderr, "usage: bench race SECONDS TABLE AIMS | bench count take|repeat|show|quasiinverse|prime\n");
     return status;
 }
