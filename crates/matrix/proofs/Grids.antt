@@ -99,8 +99,9 @@ module _ (p m n : ℕ) (a : List ℕ) where
     pub plain-pivots : IsPivotInverse (residues p) m n (tableOf p m n a) (h .D) (h .I) (h .J)
     plain-pivots = subst (λ X. IsPivotInverse (residues p) m n X (h .D) (h .I) (h .J)) plain-same (h .inverse)
 
-    pub rank-columns : r ≤ n
-    rank-columns = rw (h .rank) (count-most n (h .I))
+    -- the rank is at most the number of columns
+    pub rank-within : r ≤ n
+    rank-within = rw (h .rank) (count-most n (h .I))
 
     module _ (ok : IsModulus p) where
       pub plain-inverse : h .D ≡ inverseOf p ok m n a
@@ -125,7 +126,7 @@ module _ (p m n : ℕ) (a : List ℕ) where
     pivoting few =
         record {
           long = f .pivots-long;
-          few = omega (arith, rank-columns (f .rank));
+          few = omega (arith, rank-within (f .rank));
           inside = λ t l. omega (arith, f .pivots-below t l);
           differ = f .differ;
         }
@@ -163,7 +164,7 @@ module _ (p m n : ℕ) (a : List ℕ) where
             is-modulus = ok;
             n-most = few;
             at-long = b .long;
-            at-most = λ j. omega (arith, b .few j, rank-columns (f .rank));
+            at-most = λ j. omega (arith, b .few j, rank-within (f .rank));
             e-long = f .long;
             e-below = f .below;
             m = m;

@@ -4,7 +4,7 @@ use mathlib.Core.List.{List}
 use Prim.Native.Nat.{ℕ}
 use native.Mathlib.Omega.{arith}
 use lib.ListN.{length}
-use Rattle.matrix.proofs.Grids.{plain-readable, plain-rank, rank-columns}
+use Rattle.matrix.proofs.Grids.{plain-readable, plain-rank, rank-within}
 use Rattle.matrix.proofs.Memory.{copied-whole, zeros-written}
 use Rattle.matrix.proofs.Systems.{candidate-found, solved-by, refused-by}
 use Rattle.matrix_calls.proofs.work.solve_with.Statement.{statement}
@@ -72,7 +72,7 @@ solved c = c .before .before .before .before .before .before .before .before .be
 cast-t28 : tie.Need-cast-t28
 cast-t28 c =
     let f = made (solved c) in
-    omega (arith, rank-columns _ _ _ _ (f .solution .ensures .rank), start f .pre .0 .n-most)
+    omega (arith, rank-within _ _ _ _ (f .solution .ensures .rank), start f .pre .0 .n-most)
 
 same-length-3 : tie.Need-same-length-3
 same-length-3 c = made (solved c) .solution .kept .1 .1 .1 .1 .1 .0
