@@ -1,28 +1,28 @@
 #!/usr/bin/env python3
-"""The table of the primes that is_modulus divides by: crates/checks/src/primes.rt.
+"""The table of inverses by which is_modulus tests p: crates/checks/src/primes.rt.
 
-The table holds gaps: from 29 to the next prime, from there to the next, and so on, until it is past 46,340, the largest
-number whose square is at most 2,147,483,647. Nine gaps stand in a word, seven bits each, the first lowest; twenty words
-make a part, and a part is one arm of a match, which the compiler turns into a table. The prime that a part starts from is
-the comment above its arm; crates/checks/specs/Gaps.antt has these numbers too, and the proof checks them. The gaps from 2
-to 29 are a word too, which stands in is_modulus itself, so that small p need no table.
+The table has the inverse modulo 2^32 of each prime from 33 to 46,340, the largest number whose square is at most
+2,147,483,647. A part of it is one arm of a match: the number that the part starts from, then 38 inverses. The primes of a
+part lie below twice its start; where that leaves places, they are filled with ones. 38 makes it 128 parts: at a power of
+two the compiler turns the arms into tables with no case apart for the last arm, and nothing is copied to the stack. Where
+each part starts stands in crates/checks/specs/Inverses.antt too, and the proof checks both.
 
   tools/primes.py             (prints the source file)
 """
-BITS = 7
-IN_WORD = 9
-IN_PART = 20
+FIRST = 33
+IN_PART = 38
 LAST = 46340
+BASE = 2 ** 32
 
 HEAD = """\
-// The primes from 29 past 46,340, as the gaps between them: nine to a word, seven bits each, the first lowest; twenty words
-// to a part. Printed by tools/primes.py. The parts are arms of a match, since an array constant would be copied to the
-// stack whole.
+// The inverses modulo 2^32 of the primes from %d past 46,340, %d to a part. Each part opens with the number that it starts
+// from, and its primes lie below twice that; places that are left are filled with ones. Printed by tools/primes.py. The
+// parts are arms of a match, which become tables; an array constant would be copied to the stack whole.
 ghost use Prim.Native.Nat.{_<_};
-ghost use Rattle.modulus.specs.Gaps.{Part};
+ghost use Rattle.checks.specs.Inverses.{Part};
 
-// The gaps of one part. The comment above an arm is the prime that its first gap starts from.
-pub fn gaps(part: usize) -> [u64; %d]
+// The start of a part, and its inverses.
+pub fn inverses(part: usize) -> [u32; %d]
     requires { ⌜ part < %d ⌝ }
     ensures { λ r. ⌜ Part part r ⌝ }
 {
@@ -41,23 +41,26 @@ def primes(below):
     return [n for n in range(below) if sieve[n]]
 
 
-def word(gaps):
-    return f'{sum(g << (BITS * j) for j, g in enumerate(gaps)):#018x}'
+def parts():
+    """Each part's start and primes."""
+    left = [q for q in primes(2 * LAST) if FIRST <= q]
+    start = FIRST
+    while start <= LAST:
+        mine = [q for q in left[:IN_PART] if q < 2 * start]
+        left = left[len(mine):]
+        yield start, mine
+        start = min(2 * start, left[0])
 
 
 def main():
-    ps = primes(2 * LAST)
-    gaps = [b - a for a, b in zip(ps, ps[1:])][IN_WORD:]
-    starts = ps[IN_WORD:]
-    size = IN_WORD * IN_PART
-    parts = next(k for k in range(len(ps)) if starts[k * size] > LAST)
-    print(HEAD % (IN_PART, parts), end='')
-    for part in range(parts):
-        key = '_' if part == parts - 1 else str(part)
-        print(f'        // {starts[part * size]}')
+    table = list(parts())
+    print(HEAD % (FIRST, IN_PART, IN_PART + 1, len(table)), end='')
+    for part, (start, mine) in enumerate(table):
+        key = '_' if part == len(table) - 1 else str(part)
         print(f'        {key} => [')
-        for at in range(part * size, (part + 1) * size, IN_WORD):
-            print(f'            {word(gaps[at:at + IN_WORD])},')
+        print(f'            {start},')
+        for at in range(IN_PART):
+            print(f'            {pow(mine[at], -1, BASE) if at < len(mine) else 1:#010x},')
         print('        ],')
     print('    }\n}')
 

@@ -1,5 +1,6 @@
 pub mod InOrder
 pub mod Refusals
 pub mod Trial
-pub mod Walk
+pub mod Wrapped
+pub mod Covered
 pub mod Modulus

@@ -1,16 +1,12 @@
--- Trial division, over plain numbers: a divisor strictly between 1 and p refutes that p is a modulus, and where none is
--- found below a d with p / d < d there is none at all.
+-- Trial division, over plain numbers: a divisor strictly between 1 and p refutes that p is a modulus, where none is found
+-- below a d with p / d < d there is none at all, and the search goes on by one number or from an odd one to the next.
 use mathlib.Core.Path.{_≡_, subst}
-use Prim.Native.Nat.{ℕ, _*_, _/_, _%_, _≤_, _<_, _∣_}
-use native.Mathlib.Nat.{dvd-mul-right, dvd-of-mod-eq-zero, div-mul-cancel, le-div-iff-mul-le, div-lt-iff-lt-mul, mul-le-mul, mul-le-mul-left}
-use native.Mathlib.Nat.{mul-le-mul-right, lt-of-mul-lt-mul-right}
-use native.Mathlib.Decide.{decLt}
+use Prim.Native.Nat.{ℕ, suc, _+_, _*_, _/_, _%_, _≤_, _<_, _∣_}
+use native.Mathlib.Nat.{dvd-mul-right, dvd-trans, dvd-of-mod-eq-zero, mod-eq-zero-of-dvd, div-mul-cancel, le-div-iff-mul-le, div-lt-iff-lt-mul}
+use native.Mathlib.Nat.{mul-le-mul, mul-le-mul-left, mul-le-mul-right, lt-of-mul-lt-mul-right}
+use native.Mathlib.Decide.{decLt, ℕ-discrete}
 use native.Mathlib.Omega.{arith}
-use Rattle.checks.specs.Prime.{IsModulus}
-
--- no number strictly between 1 and d divides p
-abbrev pub NoneBelow : ℕ → ℕ → Type 0
-NoneBelow d p = (e : ℕ) → 1 < e → e < d → e ∣ p → ⊥
+use Rattle.checks.specs.Prime.{IsModulus, NoneBelow}
 
 -- a number with a divisor strictly between is no modulus
 pub divided : (d p : ℕ) → 1 < d → d < p → p % d ≡ 0 → IsModulus p → ⊥
@@ -43,3 +39,19 @@ undivided d p z s t r below = record { prime = record { two-or-more = t; no-divi
     none : (e : ℕ) → 1 < e → e < p → e ∣ p → ⊥
     none e h l v =
         elim (decLt e d) [ yes k ↦ below e h k v | no k ↦ other e (p / e) (div-mul-cancel e v) (omega arith) l ]
+
+-- one number more
+pub one-more : (n p : ℕ) → NoneBelow n p → (n ∣ p → ⊥) → NoneBelow (suc n) p
+one-more n p below not e h l v = go (ℕ-discrete e n)
+  where
+    go : Dec (e ≡ n) → ⊥
+    go (yes k) = not (subst (λ (m : ℕ). m ∣ p) k v)
+    go (no k) = below e h (omega arith) v
+
+-- the even number after an odd one does not divide an odd p
+pub two-more : (q p : ℕ) → q % 2 ≡ 1 → (p % 2 ≡ 0 → ⊥) → NoneBelow q p → (p % q ≡ 0 → ⊥) → NoneBelow (q + 2) p
+two-more q p odd odd-p below not e h l v =
+    one-more (suc q) p (one-more q p below (λ d. not (mod-eq-zero-of-dvd q d))) even e h (omega arith) v
+  where
+    even : suc q ∣ p → ⊥
+    even d = odd-p (mod-eq-zero-of-dvd 2 (dvd-trans 2 (dvd-of-mod-eq-zero 2 (omega arith)) d))

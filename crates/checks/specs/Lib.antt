@@ -6,4 +6,4 @@ pub mod Prime
 pub mod Largest
 pub mod Decide
 pub mod Sizes
-pub mod Gaps
+pub mod Inverses

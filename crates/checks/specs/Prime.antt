@@ -14,3 +14,13 @@ pub record Prime (p : ℕ) : Type 0 where
 pub record IsModulus (p : ℕ) : Type 0 where
   pub prime : Prime p
   pub in-range : p ≤ largestModulus
+
+-- no number strictly between 1 and d divides p: how far the test of p has come
+abbrev pub NoneBelow : ℕ → ℕ → Type 0
+NoneBelow d p = (e : ℕ) → 1 < e → e < d → e ∣ p → ⊥
+
+-- what the test by the table takes: p in range, with no divisor below d
+pub record Sieved (d p : ℕ) : Type 0 where
+  pub two-or-more : 2 ≤ p
+  pub in-range : p ≤ largestModulus
+  pub none : NoneBelow d p

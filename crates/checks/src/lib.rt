@@ -6,6 +6,7 @@ ghost use Rattle.checks.specs.Prime.{IsModulus};
 ghost use Rattle.checks.specs.Sizes.{tableSizes, frameSizes, Judges};
 
 mod primes;
+mod table;
 
 // The most rows, columns or records.
 pub const LARGEST: u32 = 64;
@@ -58,9 +59,8 @@ pub fn number_of(kind: Refusal) -> u32
     }
 }
 
-// Whether p is a prime from 2 to 2,147,483,647, by trial division by the primes q whose square is at most p: those up to
-// 46,340 for the largest p. words is a part of the table of primes, of which i words are taken; w has the gaps that are
-// left of the last one, at first those from 2 to 29.
+// Whether p is a prime from 2 to 2,147,483,647: by division by 2 and the odd numbers below 33, which is all for a p below
+// 33², and then by the table of inverses.
 pub fn is_modulus(p: u32) -> bool
     ensures { λ r. ⌜ Tells r (IsModulus p) ⌝ }
 {
@@ -70,31 +70,23 @@ pub fn is_modulus(p: u32) -> bool
     if LARGEST_MODULUS < p {
         return false;
     }
-    let mut words = [0u64; 20];
-    let mut part: usize = 0;
-    let mut i: usize = 20;
-    let mut w: u64 = 0x0608082020808101;
-    let mut q: u32 = 2;
-    while q < 46341 {
+    if p == 2 {
+        return true;
+    }
+    if p % 2 == 0 {
+        return false;
+    }
+    let mut q: u32 = 3;
+    while q < 33 {
         if p / q < q {
             return true;
         }
         if p % q == 0 {
             return false;
         }
-        if w == 0 {
-            if i == 20 {
-                words = primes::gaps(part);
-                part += 1;
-                i = 0;
-            }
-            w = words[i];
-            i += 1;
-        }
-        q += (w % 128) as u32;
-        w /= 128;
+        q += 2;
     }
-    true
+    table::is_prime(p)
 }
 
 // What going through checks in order tells: all hold, or the kind of the first that fails.

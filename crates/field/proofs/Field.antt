@@ -1,6 +1,6 @@
 -- The residues modulo p are a commutative ring, and a field where p is prime. The inverse of a goes by the remainders of p:
 -- from a ⊗ s = x follows a ⊗ (- (p / x) ⊗ s) = p % x, which is smaller, and is not 0 since p is prime; at x = 1 the s is the
--- inverse. The function `inverse` takes the same steps.
+-- inverse. The function `inverse` takes other steps (`proofs/Euclid.antt`), and `inverse-result` says that it finds the same.
 use mathlib.Core.Path.{_≡_, sym, ap, _∙_}
 use Prim.Native.Nat.{ℕ, zero, suc, _+_, _*_, _-_, _/_, _%_, _≤_, _<_}
 use native.Mathlib.Nat.{add-assoc, add-comm, add-zero, mul-assoc, mul-comm, mul-one, mul-add, mod-self, mod-lt, zero-mod, mod-add-div', emod-pos-of-not-dvd}
@@ -41,7 +41,7 @@ plus-cancel p positive a b c e = sym (back a) ∙ ap (λ (x : Residue p). x ⊕ 
     back x = L .plus-assoc x c (negated c) ∙ ap (λ (y : Residue p). x ⊕ y) (L .plus-minus c) ∙ L .plus-zero x
 
 -- a step of the inverse: both sides are what p / x times x lacks to zero
-pub inverse-step :
+inverse-step :
     (p x : ℕ) → 0 < p → (a s : Residue p) → a ⊗ s ≡ reduce p x → a ⊗ negated (reduce p (p / x) ⊗ s) ≡ reduce p (p % x)
 inverse-step p x positive a s e = plus-cancel p positive _ _ (reduce p (p / x * x)) (left ∙ sym right)
   where
@@ -72,7 +72,7 @@ inverse-step p x positive a s e = plus-cancel p positive _ _ (reduce p (p / x * 
         ∙ times-zero (residues p) L a
 
 -- the remainder of a prime is not 0
-pub rest-positive : (p x : ℕ) → Prime p → 1 < x → x < p → 0 < p % x
+rest-positive : (p x : ℕ) → Prime p → 1 < x → x < p → 0 < p % x
 rest-positive p x prime h l = emod-pos-of-not-dvd x (prime .no-divisor x h l)
 
 -- the steps of the inverse, at most k of them, from x and s

@@ -1,5 +1,6 @@
 pub mod Residues
 pub mod Field
+pub mod Euclid
 pub mod Totals
 pub mod Limbs
 pub mod Written

@@ -57,6 +57,10 @@ pub within-zero : Within 0 0
 unfolding Within
 within-zero = omega arith
 
+pub within-one : (n : ℕ) → n < limbBase → Within 1 n
+unfolding Within
+within-one n h = omega arith
+
 pub within-low : (k n x : ℕ) → Within k n → Within (k + 1) (n + low x)
 unfolding Within low
 within-low k n x h = omega arith

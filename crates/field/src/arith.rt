@@ -28,17 +28,24 @@ pub fn times(p: u32, a: u32, b: u32) -> u32
     ((a as u64) * (b as u64) % (p as u64)) as u32
 }
 
-// The r with a × r = 1. The invariant is a × s = x; x becomes p mod x, and s is multiplied by -(p / x); p is prime, so x
-// ends at 1.
+// The r with a × r = 1, by Euclid's steps on a and p. Throughout a × s = x and a × t = -y modulo p, and x × t + y × s = p, so
+// that s and t stay below p; p is prime, so x or y comes to 1 before either comes to 0.
 pub fn inverse(p: u32, a: u32) -> u32
     requires { ⌜ IsModulus p × (0 < a) × (a < p) ⌝ }
     ensures { λ r. ⌜ (r < p) × (reduce p a ⊗ reduce p r ≡ reduce p 1) ⌝ }
 {
     let mut x = a;
-    let mut s = 1;
+    let mut y = p;
+    let mut s: u32 = 1;
+    let mut t: u32 = 0;
     while 1 < x {
-        s = minus(p, 0, times(p, p / x, s));
-        x = p % x;
+        t += y / x * s;
+        y %= x;
+        if y == 1 {
+            return p - t;
+        }
+        s += x / y * t;
+        x %= y;
     }
     s
 }

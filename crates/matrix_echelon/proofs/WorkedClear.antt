@@ -10,7 +10,7 @@ use lib.ListN.{length, getD}
 use borrow.Author.Count.{below-more}
 use Rattle.algebra.proofs.Rings.{zero-plus}
 use Rattle.words.specs.Lengths.{longestRow, widestRow, widestTable}
-use Rattle.words.specs.Words.{Below}
+use Rattle.words.specs.Words.{Below, PutAt}
 use Rattle.field.specs.Residue.{reduce, residues, _⊕_, _⊗_, negated}
 use Rattle.field.proofs.Residues.{reduce-of-value, below-of-value}
 use Rattle.field.proofs.Field.{residues-ring}
@@ -32,17 +32,25 @@ negative-residue p y c positive e = reduce-of-value _ e ∙ zero-plus (residues 
 pub negative-below : (p y c : ℕ) → 0 < p → c ≡ (reduce p 0 ⊕ negated (reduce p y)) .value → c < p
 negative-below p y c positive e = below-of-value positive (reduce p 0 ⊕ negated (reduce p y)) e
 
--- adding a multiple leaves numbers below p
-pub added-below : (p c : ℕ) (x : List ℕ) (at : ℕ) (e e′ : List ℕ) → 0 < p → Below p e → MultipleAdded p c x at e e′ → Below p e′
-added-below p c x at e e′ positive below a q h = by-place (decLt q at) (decLt q (at + length x))
+-- where k numbers from a place on are below p, and the others are as they were
+below-spanned : (p at k : ℕ) (e e′ : List ℕ) → length e′ ≡ length e → Below p e → ((j : ℕ) → j < k → getD e′ (at + j) 0 < p)
+    → ((q : ℕ) → q < at → getD e′ q 0 ≡ getD e q 0) → ((q : ℕ) → at + k ≤ q → getD e′ q 0 ≡ getD e q 0) → Below p e′
+below-spanned p at k e e′ long below inside before behind q h = by-place (decLt q at) (decLt q (at + k))
   where
-    by-place : Dec (q < at) → Dec (q < at + length x) → getD e′ q 0 < p
-    by-place (yes l) d = rw (a .before q l) (below q (omega (arith, a .same-length)))
-    by-place (no l) (no d) = rw (a .behind q (omega arith)) (below q (omega (arith, a .same-length)))
-    by-place (no l) (yes d) =
-        let place : q ≡ at + (q - at) = omega arith in
-        let sum = reduce p (getD e (at + (q - at)) 0) ⊕ reduce p c ⊗ reduce p (getD x (q - at) 0) in
-        below-of-value positive sum (ap (λ n. getD e′ n 0) place ∙ a .each (q - at) (omega arith))
+    by-place : Dec (q < at) → Dec (q < at + k) → getD e′ q 0 < p
+    by-place (yes l) d = rw (before q l) (below q (omega arith))
+    by-place (no l) (no d) = rw (behind q (omega arith)) (below q (omega arith))
+    by-place (no l) (yes d) = let place : q ≡ at + (q - at) = omega arith in rw place (inside (q - at) (omega arith))
+
+-- adding a multiple, and putting numbers, leaves numbers below p
+added-below : {p c : ℕ} {x : List ℕ} {at : ℕ} {e e′ : List ℕ} → 0 < p → Below p e → MultipleAdded p c x at e e′ → Below p e′
+added-below {p} {c} {x} {at} {e} {e′} positive below a =
+    below-spanned p at (length x) e e′ (a .same-length) below
+    (λ j h. below-of-value positive (reduce p (getD e (at + j) 0) ⊕ reduce p c ⊗ reduce p (getD x j 0)) (a .each j h)) (a .before) (a .behind)
+
+pub put-below : (p : ℕ) (xs : List ℕ) (at : ℕ) (e e′ : List ℕ) → Below p xs → Below p e → PutAt xs at e e′ → Below p e′
+put-below p xs at e e′ new below put =
+    below-spanned p at (length xs) e e′ (put .0) below (λ j h. rw (put .1 j h) (new j h)) (put .2) (put .3)
 
 -- the rows from `from` up to t are cleared at the place v by multiples of x, the others are as they were
 pub record RowsCleared (p : ℕ) (x : List ℕ) (v from t : ℕ) (e e′ : List ℕ) : Type 0 where
@@ -54,12 +62,12 @@ pub record RowsCleared (p : ℕ) (x : List ℕ) (v from t : ℕ) (e e′ : List 
   pub before : (q : ℕ) → q < from * length x → getD e′ q 0 ≡ getD e q 0
   pub behind : (q : ℕ) → t * length x ≤ q → getD e′ q 0 ≡ getD e q 0
 
-pub cleared-none : (p : ℕ) (x : List ℕ) (v from : ℕ) (e : List ℕ) → WorkedRoom p e → RowsCleared p x v from from e e
-cleared-none p x v from e room =
+pub cleared-none : {p : ℕ} {x : List ℕ} {v from : ℕ} {e : List ℕ} → WorkedRoom p e → RowsCleared p x v from from e e
+cleared-none room =
     record { room = room; group = λ s h l. absurd (omega arith); before = λ q h. refl; behind = λ q h. refl }
 
 -- one row more
-module _ (p : ℕ) (x : List ℕ) (v from t : ℕ) (e e′ e″ : List ℕ) (c : ℕ) (positive : 0 < p) (in-row : v < length x) (later : from ≤ t)
+module _ {p : ℕ} {x : List ℕ} {v from t : ℕ} {e e′ e″ : List ℕ} {c : ℕ} (positive : 0 < p) (later : from ≤ t)
     (w : RowsCleared p x v from t e e′) (c-is : c ≡ (reduce p 0 ⊕ negated (reduce p (getD e′ (t * length x + v) 0))) .value)
     (a : MultipleAdded p c x (t * length x) e′ e″) where
   -- the row is as it was before the multiple is added
@@ -81,7 +89,7 @@ module _ (p : ℕ) (x : List ℕ) (v from t : ℕ) (e e′ e″ : List ℕ) (c :
         room =
             record {
               long = a .same-length ∙ w .room .long;
-              below = added-below p c x (t * length x) e′ e″ positive (w .room .below) a;
+              below = added-below positive (w .room .below) a;
             };
         group =
             below-more _ t

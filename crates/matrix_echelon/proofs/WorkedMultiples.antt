@@ -30,7 +30,7 @@ sum-fits p c x y h lc lx ly =
     omega (arith, mul-le-mul hc hx)
 
 -- the sum as a residue
-pub sum-residue : (p c x y : ℕ) → reduce p (c * x + y) ≡ reduce p y ⊕ reduce p c ⊗ reduce p x
+sum-residue : (p c x y : ℕ) → reduce p (c * x + y) ≡ reduce p y ⊕ reduce p c ⊗ reduce p x
 sum-residue p c x y =
     let turned : c * x + y ≡ y + c * x = omega arith in
     ap (reduce p) turned ∙ reduce-plus p y (c * x) ∙ ap (λ r. reduce p y ⊕ r) (reduce-times p c x)
@@ -44,7 +44,7 @@ scaled-zero p s x positive e =
     ∙ ap (λ r. r .value) (reduce-times p s 0)
     ∙ ap (λ n. (reduce p s ⊗ reduce p n) .value) (sym e)
 
-pub added-zero : (p c x y : ℕ) → y < p → x ≡ 0 → y ≡ (reduce p y ⊕ reduce p c ⊗ reduce p x) .value
+added-zero : (p c x y : ℕ) → y < p → x ≡ 0 → y ≡ (reduce p y ⊕ reduce p c ⊗ reduce p x) .value
 added-zero p c x y h e =
     let nothing : y ≡ c * 0 + y = omega arith in
     sym (reduce-small p y h)
@@ -67,9 +67,9 @@ sum-at p c x at e j y same =
     ap (λ n. (c * getD x j 0 + n) % p) same ∙ ap (λ r. r .value) (sum-residue p c (getD x j 0) (getD e (at + j) 0))
 
 -- the places in front of `from` have been scaled, since they are 0
-pub scaled-front : (p s from : ℕ) (x : List ℕ) → Scalable p s from x → Walked from (scaledAt p s x) x x
+pub scaled-front : {p s from : ℕ} {x : List ℕ} → Scalable p s from x → Walked from (scaledAt p s x) x x
 unfolding scaledAt
-scaled-front p s from x can =
+scaled-front {p} {s} can =
     record {
       long = refl;
       passed = λ j h. scaled-zero p s _ (can .leading .positive) (can .leading .zeros j h);
@@ -84,10 +84,10 @@ pub record Spanned (at n : ℕ) (g : ℕ → ℕ) (before after : List ℕ) : Ty
   pub behind : (q : ℕ) → at + n ≤ q → getD after q 0 ≡ getD before q 0
 
 -- the multiple has been added at the places in front of `from`, since it is 0 there
-pub added-front : (p c : ℕ) (x : List ℕ) (from : ℕ) (e : List ℕ) (at : ℕ) → Addable p c x from e at
+pub added-front : {p c : ℕ} {x : List ℕ} {from : ℕ} {e : List ℕ} {at : ℕ} → Addable p c x from e at
     → Spanned at from (addedAt p c x at e) e e
 unfolding addedAt
-added-front p c x from e at can =
+added-front {p} {c} {at = at} can =
     record {
       long = refl;
       passed =
@@ -97,9 +97,9 @@ added-front p c x from e at can =
     }
 
 -- one place more
-pub spanned-more : (at n : ℕ) (g : ℕ → ℕ) (before after : List ℕ) (v : ℕ) → Spanned at n g before after → at + n < length before
+pub spanned-more : {at n : ℕ} {g : ℕ → ℕ} {before after : List ℕ} {v : ℕ} → Spanned at n g before after → at + n < length before
     → v ≡ g n → Spanned at (n + 1) g before (set after (at + n) v)
-spanned-more at n g before after v w h e =
+spanned-more {at} {n} {g} {before} {after} {v} w h e =
     record {
       long = length-set after (at + n) v ∙ w .long;
       passed =

@@ -1,21 +1,42 @@
 -- The worked rows of a table in memory.
 use mathlib.Core.Path.{_≡_}
 use mathlib.Core.List.{List}
-use Prim.Native.Nat.{ℕ, _+_, _≤_, _<_}
+use Prim.Native.Nat.{ℕ, suc, _+_, _≤_, _<_}
 use lib.ListN.{length}
 use Rattle.algebra.specs.Quasiinverse.{Marks, count, IsPivotInverse}
 use Rattle.algebra.specs.Matrix.{Matrix}
-use Rattle.algebra.specs.Echelon.{Worked}
+use Rattle.algebra.specs.Echelon.{Worked, Cleared}
+use Rattle.checks.specs.Prime.{IsModulus}
 use Rattle.words.specs.Lengths.{longestRow}
+use Rattle.words.specs.Words.{Blank}
 use Rattle.field.specs.Residue.{residues}
+use Rattle.matrix_mul.specs.Rows.{Ready}
 use Rattle.matrix_echelon.specs.declared.Grid.{Grid}
 use Rattle.matrix_echelon.specs.Grid.{gridOf, wide, Readable}
-use Rattle.matrix_echelon.specs.Group.{workedRows, pivotsOf, WorkedRoom}
+use Rattle.matrix_echelon.specs.Group.{rowIn, workedRows, pivotsOf, WorkedRoom}
 
 -- room for the worked rows and their pivots
 pub record Room (p : ℕ) (e pivots : List ℕ) : Type 0 where
   pub rows-in : WorkedRoom p e
   pub pivots-long : length pivots ≡ longestRow
+
+-- limbs of a row of n numbers and a carried one, and room for it beside that for the worked rows
+pub record Settleable (p n r : ℕ) (lo hi x e pivots : List ℕ) : Type 0 where
+  pub is-modulus : IsModulus p
+  pub narrow : n ≤ longestRow
+  pub few : r < longestRow
+  pub ready : Ready (n + 1) lo hi
+  pub x-long : length x ≡ n + 1
+  pub x-blank : Blank x
+  pub room : Room p e pivots
+
+-- what becomes of the worked rows of any table when the row is its next one, cleared at all pivots
+pub record RowSettled (p n r : ℕ) (lo hi e pivots : List ℕ) (r′ : ℕ) (e′ pivots′ : List ℕ) : Type 0 where
+  pub room : Room p e′ pivots′
+  pub worked :
+      (i : ℕ) (M : Matrix (residues p)) → Worked (residues p) i n M r (workedRows p e (n + 1)) (pivotsOf pivots)
+      → Cleared (residues p) i n M r (workedRows p e (n + 1)) (pivotsOf pivots) (rowIn p lo hi)
+      → Worked (residues p) (suc i) n M r′ (workedRows p e′ (n + 1)) (pivotsOf pivots′)
 
 -- r worked rows have come of the first i rows of the table
 pub record Held (p : ℕ) (g : Grid) (i : ℕ) (a w : List ℕ) (step r : ℕ) (e pivots : List ℕ) : Type 0 where

@@ -9,7 +9,7 @@ use Rattle.checks.specs.Prime.{largestModulus}
 use Rattle.words.specs.Lengths.{longestRow, widestRow, widestTable}
 use Rattle.words.specs.Words.{Below}
 use Rattle.field.specs.Residue.{reduce, residues, negated}
-use Rattle.field.specs.Limbs.{limbBase}
+use Rattle.field.specs.Limbs.{limbBase, LimbFits}
 use Rattle.matrix_mul.specs.declared.rows.Row.{Row}
 use Rattle.matrix_mul.specs.declared.rows.Four.{Four}
 use Rattle.matrix_mul.specs.Rows.{Powers, Ready, wholeAt}
@@ -48,7 +48,21 @@ pub record Pivots (width r : ℕ) (pivots : List ℕ) : Type 0 where
   pub long : length pivots ≡ longestRow
   pub inside : (t : ℕ) → t < r → getD pivots t 0 < width
 
--- what finding the multiplier of row t asks
+-- the pivot of row t is a place of the limbs
+pub record PivotReadable (p once twice t : ℕ) (pivots hi : List ℕ) : Type 0 where
+  pub positive : 0 < p
+  pub in-range : p ≤ largestModulus
+  pub powers : Powers p once twice
+  pub one-of : t < length pivots
+  pub inside : getD pivots t 0 < widestRow
+  pub fits : LimbFits (getD hi (getD pivots t 0) 0)
+
+-- the negative of the number at the pivot of row t
+pub record IsMultiplier (p t : ℕ) (pivots lo hi : List ℕ) (c : ℕ) : Type 0 where
+  pub below : c < p
+  pub negative : reduce p c ≡ negated (rowIn p lo hi (pivotsOf pivots t))
+
+-- what taking row t with its multiplier asks
 pub record PivotRoom (p once twice width r t : ℕ) (pivots lo hi : List ℕ) : Type 0 where
   pub positive : 0 < p
   pub in-range : p ≤ largestModulus
@@ -57,7 +71,7 @@ pub record PivotRoom (p once twice width r t : ℕ) (pivots lo hi : List ℕ) : 
   pub near : t ≤ longestRow + 3
   pub ready : Ready width lo hi
 
--- the worked row t, with the negative of the number at its pivot; or times 0
+-- the worked row t with its multiplier, or times 0
 pub record IsPivotRow (p width r t : ℕ) (pivots lo hi : List ℕ) (row : Row) : Type 0 where
   pub below : row .times < p
   pub place : t < r → row .at ≡ t * width
@@ -93,7 +107,7 @@ GroupsCleared p n r e pivots =
 
 -- what clearing a fresh row at all pivots asks
 pub record Clearable (p n r : ℕ) (e pivots lo hi : List ℕ) : Type 0 where
-  pub positive : 0 < p
+  pub proper : 1 < p
   pub in-range : p ≤ largestModulus
   pub room : WorkedRoom p e
   pub pivots-in : Pivots (n + 1) r pivots

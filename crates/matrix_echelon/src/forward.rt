@@ -1,12 +1,36 @@
 // Forward elimination: the rows of the table are worked off one after the other.
 ghost use Prim.Native.Nat.{suc};
 ghost use Rattle.matrix_echelon.specs.Grid.{TableReadable, Readable};
-ghost use Rattle.matrix_echelon.specs.Forward.{Room, Workable, Held, IsRank};
+ghost use Rattle.matrix_echelon.specs.Forward.{Room, Settleable, RowSettled, Workable, Held, IsRank};
 use super::Grid;
 use super::group;
 use super::worked;
 use matrix_mul::rows;
-use words::least_nonzero;
+use words::WIDE;
+
+// Makes the row that the sums of limbs stand for a worked row, unless it is 0 at its first n places. x is room for it. Answers how
+// many worked rows there are then.
+fn settle(
+    p: u32,
+    n: usize,
+    rank: usize,
+    lo: &[u64; WIDE],
+    hi: &[u64; WIDE],
+    x: &mut [u32],
+    e: &mut [u32],
+    pivots: &mut [u32],
+) -> usize
+    requires { ⌜ Settleable p n rank (now lo) (now hi) (now x) (now e) (now pivots) ⌝ }
+    ensures { λ r. ⌜ RowSettled p n rank (now (lo .entry)) (now (hi .entry)) (now (e .entry)) (now (pivots .entry)) r (now (e .exit)) (now (pivots .exit)) ⌝ }
+{
+    rows::fold_into(p, lo, hi, x);
+    let v = words::least_nonzero(&x[..n]);
+    if v == n {
+        return rank;
+    }
+    worked::grow(p, x, v, rank, e, pivots);
+    rank + 1
+}
 
 // Works row i off: adds it to the worked rows where it does not follow from those before it. Answers how many there are then.
 fn work_row(
@@ -24,18 +48,12 @@ fn work_row(
     ensures { λ r. ⌜ Held p grid (suc i) (now (a .entry)) (now (w .entry)) step r (now (e .exit)) (now (pivots .exit)) ⌝ }
 {
     let n = grid.columns;
-    let width = n + 1;
     let mut lo = group::row_limbs(grid, i, a, w, step);
     let mut hi = rows::no_rows();
     group::clear_pivots(p, n, rank, e, pivots, &mut lo, &mut hi);
     let mut x = words::wide_room();
-    rows::fold_into(p, &lo, &hi, &mut x[..width]);
-    let v = least_nonzero(&x[..n]);
-    if v == n {
-        return rank;
-    }
-    worked::grow(p, &mut x[..width], v, rank, e, pivots);
-    rank + 1
+    let width = n + 1;
+    settle(p, n, rank, &lo, &hi, &mut x[..width], e, pivots)
 }
 
 // Works all rows off, as long as a column has no pivot yet. Answers the rank.

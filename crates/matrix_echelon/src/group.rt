@@ -2,7 +2,7 @@
 // with the multiplier that makes the row 0 at its pivot. The worked rows are in groups of four, and as long as a row of the table
 // with its carried number; row t begins at t times that length.
 ghost use Prim.Native.Nat.{_+_, _≤_};
-ghost use Rattle.matrix_echelon.specs.Group.{RowReadable, RowRead, PivotRoom, IsPivotRow, GroupRoom, GroupTaken, Clearable, PivotsCleared};
+ghost use Rattle.matrix_echelon.specs.Group.{RowReadable, RowRead, PivotReadable, IsMultiplier, PivotRoom, IsPivotRow, GroupRoom, GroupTaken, Clearable, PivotsCleared};
 use super::Grid;
 use field::sums::BASE;
 use matrix_mul::rows;
@@ -27,8 +27,26 @@ pub fn row_limbs(grid: Grid, i: usize, a: &[u32], w: &[u32], step: usize) -> [u6
     lo
 }
 
-// The worked row t with the multiplier that makes the sum 0 at its pivot; the first row, times 0, where there is no row t. `once`
-// and `twice` are 2^32 and 2^64 modulo p.
+// The multiplier of the worked row t: the negative of the number at its pivot, which it makes 0. `once` and `twice` are 2^32 and
+// 2^64 modulo p.
+fn multiplier(
+    p: u32,
+    once: u64,
+    twice: u64,
+    t: usize,
+    pivots: &[u32],
+    lo: &[u64; WIDE],
+    hi: &[u64; WIDE],
+) -> u32
+    requires { ⌜ PivotReadable p once twice t (now pivots) (now hi) ⌝ }
+    ensures { λ r. ⌜ IsMultiplier p t (now (pivots .entry)) (now (lo .entry)) (now (hi .entry)) r ⌝ }
+{
+    let v = pivots[t] as usize;
+    let x = rows::folded(p, once, twice, lo[v], hi[v]);
+    field::arith::minus(p, 0, x)
+}
+
+// The worked row t with its multiplier; the first row, times 0, where there is no row t.
 fn pivot_row(
     p: u32,
     once: u64,
@@ -44,10 +62,8 @@ fn pivot_row(
     ensures { λ r. ⌜ IsPivotRow p width rank t (now (pivots .entry)) (now (lo .entry)) (now (hi .entry)) r ⌝ }
 {
     if t < rank {
-        let v = pivots[t] as usize;
-        let x = rows::folded(p, once, twice, lo[v], hi[v]);
         return Row {
-            times: field::arith::minus(p, 0, x),
+            times: multiplier(p, once, twice, t, pivots, lo, hi),
             at: t * width,
             next: t + 1,
         };

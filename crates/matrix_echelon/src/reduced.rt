@@ -27,7 +27,15 @@ fn multipliers(p: u32, width: usize, rank: usize, t: usize, e: &[u32], pivots: &
 }
 
 // Makes the worked row t 0 at the pivots of the other rows. `next` leads through all rows.
-fn reduce_row(p: u32, width: usize, rank: usize, t: usize, next: &[u32; ROW], e: &mut [u32], pivots: &[u32])
+fn reduce_row(
+    p: u32,
+    width: usize,
+    rank: usize,
+    t: usize,
+    next: &[u32; ROW],
+    e: &mut [u32],
+    pivots: &[u32],
+)
     requires { ⌜ Reducible p width rank t (now next) (now e) (now pivots) ⌝ }
     ensures { λ _. ⌜ RowLessened p width rank t (now (pivots .entry)) (now (e .entry)) (now (e .exit)) ⌝ }
 {

@@ -3,26 +3,27 @@
 use mathlib.Core.Path.{_≡_, sym, ap, subst, _∙_}
 use mathlib.Core.List.{List}
 use Prim.Native.Nat.{ℕ, _+_, _*_, _-_, _/_, _≤_, _<_}
-use native.Mathlib.Nat.{mul-le-mul}
+use native.Mathlib.Nat.{mul-le-mul, mul-le-mul-left, mul-le-mul-right}
 use native.Mathlib.Omega.{arith}
 use lib.ListN.{length, getD, take, length-drop}
 use lib.Seq.{length-take-le}
-use Rattle.words.specs.Lengths.{halfTable, halfRows, quarterTable, longestRow}
+use Rattle.words.specs.Lengths.{halfRows, longestRow}
 use Rattle.algebra.specs.Quasiinverse.{either, follow}
 use Rattle.words.specs.Words.{Below}
 use Rattle.matrix_mul.specs.Places.{place, Kept}
 use Rattle.matrix_inverse.specs.Eliminated.{Eliminable, Eliminated}
-use Rattle.matrix_inverse.specs.Steps.{split, Halves, Reduced, Joined}
+use Rattle.matrix_inverse.specs.Steps.{split, Scratch, Halves, Reduced, Joined}
 use Rattle.matrix_mul.proofs.Places.{front-table, kept-trans, kept-wider, kept-at}
 use Rattle.words.proofs.Parts.{replaced, part-rest, taken-below, dropped-below}
 use Rattle.matrix_inverse.proofs.ElimMarks.{behind, with-front, rows-length, behind-length, marked-either, marked-rows}
 use Rattle.matrix_inverse.proofs.ElimStep.{whole-quasiinverse}
 use Rattle.matrix_inverse.proofs.StepNegative.{row-inside}
+use Rattle.matrix_inverse.proofs.StepScratch.{scratch-again}
 
--- the m rows of a table are m₁ upper rows and m₂ lower rows, at most 32 each
+-- the m rows of a table are m₁ upper rows and m₂ lower rows: at most 32 lower rows, and no more upper ones than these
 pub record Splits (m m₁ m₂ : ℕ) : Type 0 where
   pub whole : m₁ + m₂ ≡ m
-  pub upper-most : m₁ ≤ halfRows
+  pub upper-most : m₁ ≤ m₂
   pub lower-most : m₂ ≤ halfRows
 
 pub halved : (m : ℕ) → m ≤ longestRow → Splits m (m / 2) (m - m / 2)
@@ -35,11 +36,11 @@ module _ {p m m₁ m₂ n : ℕ} {a d : List ℕ} {at stride : ℕ} {columns row
     pub cut : m₁ * n + m₂ * n ≡ length a
     cut = omega (arith, ap (λ k. k * n) (s .whole), e .a-long)
 
-    pub upper-size : m₁ * n ≤ halfTable
-    upper-size = omega (arith, mul-le-mul (s .upper-most) (e .n-most))
+    pub lower-size : m₂ * n ≤ halfRows * longestRow
+    lower-size = mul-le-mul (s .lower-most) (e .n-most)
 
-    pub lower-size : m₂ * n ≤ halfTable
-    lower-size = omega (arith, mul-le-mul (s .lower-most) (e .n-most))
+    pub upper-size : m₁ * n ≤ halfRows * longestRow
+    upper-size = omega (arith, mul-le-mul-right n (s .upper-most), lower-size)
 
     pub upper-inside : m₁ ≤ length rows
     upper-inside = omega (arith, e .rows-long, s .whole)
@@ -49,7 +50,7 @@ module _ {p m m₁ m₂ n : ℕ} {a d : List ℕ} {at stride : ℕ} {columns row
     upper-call =
         record {
           is-modulus = e .is-modulus;
-          m-most = omega (arith, s .upper-most);
+          m-most = omega (arith, s .upper-most, s .lower-most);
           n-most = e .n-most;
           stride-most = e .stride-most;
           a-long = length-take-le (m₁ * n) a (omega (arith, cut));
@@ -74,11 +75,10 @@ module _ {p m m₁ m₂ n : ℕ} {a d : List ℕ} {at stride : ℕ} {columns row
         {d′ : List ℕ} →
         length d′ ≡ length d →
         Below p d′ →
-        (t c : List ℕ) →
-        length t ≡ quarterTable →
-        length c ≡ halfTable →
+        {t c : List ℕ} →
+        Scratch p m₂ t c →
         Halves p (split m₁ m₂ n) a d′ (place at stride) t c
-    halves long below t c t-long c-long =
+    halves long below scratch =
         record {
           is-modulus = e .is-modulus;
           upper-most = s .upper-most;
@@ -90,13 +90,12 @@ module _ {p m m₁ m₂ n : ℕ} {a d : List ℕ} {at stride : ℕ} {columns row
           d-long = long ∙ e .d-long;
           d-below = below;
           fits = omega (arith, e .fits, s .whole);
-          t-long = t-long;
-          c-long = c-long;
+          scratch = scratch;
         }
 
     -- after the call for the upper rows
     module _ {d₁ columns₁ upper : List ℕ} (E₁ : Eliminated p m₁ n (take (m₁ * n) a) d at stride columns (take m₁ rows) d₁ columns₁ upper) where
-      pub between : (t c : List ℕ) → length t ≡ quarterTable → length c ≡ halfTable → Halves p (split m₁ m₂ n) a d₁ (place at stride) t c
+      pub between : {t c : List ℕ} → Scratch p m₂ t c → Halves p (split m₁ m₂ n) a d₁ (place at stride) t c
       between = halves (E₁ .kept .same-length) (E₁ .kept .below)
 
       rows-split : length rows ≡ m₁ + m₂
@@ -117,11 +116,11 @@ module _ {p m m₁ m₂ n : ℕ} {a d : List ℕ} {at stride : ℕ} {columns row
           ∙ e .blank i (m₁ + j) h (omega (arith, s .whole))
 
       -- after the step between
-      module _ {t c t₁ c₁ : List ℕ} (t-long : length t ≡ quarterTable) (c-long : length c ≡ halfTable)
+      module _ {t c t₁ c₁ : List ℕ} (scratch : Scratch p m₂ t c)
           (R : Reduced p (split m₁ m₂ n) a (behind (m₁ * n) a) d₁ (place at stride) t c t₁ c₁)
         where
           pub reduced-inside : m₂ * n ≤ length c₁
-          reduced-inside = omega (arith, mul-le-mul (s .lower-most) (e .n-most), R .c-long)
+          reduced-inside = omega (arith, mul-le-mul-left m₂ (e .n-most), scratch .c-long, R .c-again .same-length)
 
           -- the call for the reduced lower rows
           pub lower-call : Eliminable p m₂ n (take (m₂ * n) c₁) d₁ (at + m₁) stride columns₁ (behind m₁ (with-front upper m₁ rows))
@@ -132,7 +131,7 @@ module _ {p m m₁ m₂ n : ℕ} {a d : List ℕ} {at stride : ℕ} {columns row
                 n-most = e .n-most;
                 stride-most = e .stride-most;
                 a-long = length-take-le (m₂ * n) c₁ reduced-inside;
-                a-below = taken-below p c₁ (m₂ * n) (R .c-below);
+                a-below = taken-below p c₁ (m₂ * n) (R .c-again .below);
                 d-long = E₁ .kept .same-length ∙ e .d-long;
                 d-below = E₁ .kept .below;
                 fits = omega (arith, e .fits, s .whole);
@@ -143,7 +142,7 @@ module _ {p m m₁ m₂ n : ℕ} {a d : List ℕ} {at stride : ℕ} {columns row
 
           -- after the call for the lower rows
           pub after : {d₂ : List ℕ} → Kept p d₁ d₂ (place (at + m₁) stride) n m₂ → Halves p (split m₁ m₂ n) a d₂ (place at stride) t₁ c₁
-          after kept = halves (kept .same-length ∙ E₁ .kept .same-length) (kept .below) t₁ c₁ (R .t-long ∙ t-long) (R .c-long ∙ c-long)
+          after kept = halves (kept .same-length ∙ E₁ .kept .same-length) (kept .below) (scratch-again scratch (R .t-again) (R .c-again))
 
           module _ {d₂ columns₂ lower : List ℕ}
               (E₂ : Eliminated p m₂ n (take (m₂ * n) c₁) d₁ (at + m₁) stride columns₁ (behind m₁ (with-front upper m₁ rows)) d₂ columns₂ lower)

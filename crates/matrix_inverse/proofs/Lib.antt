@@ -2,6 +2,7 @@ pub mod ElimMarks
 pub mod ElimColumns
 pub mod ElimTables
 pub mod RowOne
+pub mod StepScratch
 pub mod StepNegative
 pub mod StepReduce
 pub mod StepJoin

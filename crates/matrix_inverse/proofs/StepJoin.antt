@@ -9,13 +9,14 @@ use Rattle.algebra.specs.Matrix.{Matrix, add, product}
 use Rattle.algebra.proofs.Matrices.{product-negative}
 use Rattle.field.specs.Residue.{residues}
 use Rattle.field.specs.View.{table}
+use Rattle.words.specs.Lengths.{longestRow}
 use Rattle.words.specs.Words.{Below}
 use Rattle.field.proofs.Field.{residues-ring}
 use Rattle.matrix_mul.specs.Places.{place, shape, Block, Factors, Kept, Multiplied, Used, FactorsWithin}
 use Rattle.matrix_inverse.specs.Steps.{split, IsNegativeProduct, Halves, Joined}
 use Rattle.matrix_mul.proofs.Places.{kept-trans, kept-wider, table-kept}
 use Rattle.matrix_inverse.proofs.StepNegative.{rows-block, columns-block}
-use Rattle.matrix_inverse.proofs.StepReduce.{modulus-positive, quarter-room, factors}
+use Rattle.matrix_inverse.proofs.StepReduce.{modulus-positive, t-room, factors}
 
 module _ {p m₁ m₂ n : ℕ} {a d : List ℕ} {at stride : ℕ} {t c : List ℕ}
     (h : Halves p (split m₁ m₂ n) a d (place at stride) t c)
@@ -25,13 +26,15 @@ module _ {p m₁ m₂ n : ℕ} {a d : List ℕ} {at stride : ℕ} {t c : List �
     lower-block = columns-block d (at + m₁) stride n m₂ (h .d-long) (omega (arith, h .fits)) (h .d-below)
 
     small-room : m₁ * m₂ ≤ length c
-    small-room = omega (arith, mul-le-mul (h .upper-most) (h .lower-most), h .c-long)
+    small-room =
+        let lower : m₂ ≤ longestRow = omega (arith, h .lower-most) in
+        omega (arith, mul-le-mul (h .upper-most) lower, h .scratch .c-long)
 
     -- B F into c
-    pub join-first : Below p c → Factors p (shape m₁ n m₂) a (place 0 n) d (place (at + m₁) stride) c (place 0 m₂)
-    join-first c-below =
+    pub join-first : Factors p (shape m₁ n m₂) a (place 0 n) d (place (at + m₁) stride) c (place 0 m₂)
+    join-first =
         factors h (h .n-most) (omega (arith, h .lower-most)) (rows-block a m₁ n (h .a-long) (h .a-below)) lower-block
-        (rows-block c m₁ m₂ small-room c-below)
+        (rows-block c m₁ m₂ small-room (h .scratch .c-below))
 
     -- F + E (-(B F)) for F
     pub join-second : {c′ upper : List ℕ} → length c′ ≡ length c → Below p c′ → Used n m₁ d (place at stride) upper
@@ -39,7 +42,7 @@ module _ {p m₁ m₂ n : ℕ} {a d : List ℕ} {at stride : ℕ} {t c : List �
     join-second {c′} long c-below used =
         record {
           factors =
-              factors h (omega (arith, h .upper-most)) (omega (arith, h .lower-most))
+              factors h (omega (arith, h .upper-most, h .lower-most)) (omega (arith, h .lower-most))
               (columns-block d at stride n m₁ (h .d-long) (omega (arith, h .fits)) (h .d-below))
               (rows-block c′ m₁ m₂ (omega (arith, small-room)) c-below)
               lower-block;
@@ -50,16 +53,16 @@ module _ {p m₁ m₂ n : ℕ} {a d : List ℕ} {at stride : ℕ} {t c : List �
         }
 
     -- E + G (-T) for E
-    pub join-third : Below p t → {d′ marks : List ℕ} → Kept p d d′ (place (at + m₁) stride) n m₂
+    pub join-third : {d′ marks : List ℕ} → Kept p d d′ (place (at + m₁) stride) n m₂
         → Used n m₂ d′ (place (at + m₁) stride) marks
         → FactorsWithin p (shape n m₂ m₁) marks (at + m₁) t (place 0 m₁) d′ (place at stride)
-    join-third t-below {d′} kept used =
+    join-third {d′} kept used =
         let long = kept .same-length ∙ h .d-long in
         record {
           factors =
-              factors h (omega (arith, h .lower-most)) (omega (arith, h .upper-most))
+              factors h (omega (arith, h .lower-most)) (omega (arith, h .upper-most, h .lower-most))
               (columns-block d′ (at + m₁) stride n m₂ long (omega (arith, h .fits)) (kept .below))
-              (rows-block t m₂ m₁ (quarter-room h) t-below)
+              (rows-block t m₂ m₁ (t-room h) (h .scratch .t-below))
               (columns-block d′ at stride n m₁ long (omega (arith, h .fits)) (kept .below));
           other-columns = λ j l s o e. omega arith;
           left-fits = omega (arith, h .fits);

@@ -4,11 +4,11 @@ use mathlib.Core.Path.{_≡_}
 use mathlib.Core.List.{List}
 use Prim.Native.Nat.{ℕ, _+_, _*_, _≤_}
 use lib.ListN.{length}
-use Rattle.words.specs.Lengths.{halfTable, halfRows, quarterTable, longestRow}
+use Rattle.words.specs.Lengths.{halfRows, longestRow}
 use Rattle.algebra.specs.Matrix.{Matrix, add, negative, product}
 use Rattle.checks.specs.Prime.{IsModulus}
 use Rattle.field.specs.Residue.{residues}
-use Rattle.words.specs.Words.{Below, Blank}
+use Rattle.words.specs.Words.{Below}
 use Rattle.matrix_mul.specs.declared.Place.{Place}
 use Rattle.matrix_mul.specs.declared.Shape.{Shape}
 use Rattle.matrix_mul.specs.Places.{columnsFrom, matrixAt, matrixOf, Kept, Used}
@@ -27,10 +27,22 @@ pub record IsNegativeProduct (p : ℕ) (s : Shape) (x y : List ℕ) (Y : Place) 
       ≡ negative (residues p)
       (product (residues p) (s .inner) (matrixOf p x (s .rows) (s .inner)) (matrixAt p y Y (s .inner) (s .columns)))
 
--- what both steps ask: the sizes, and memory that is large enough
+-- scratch memory for two halves of up to k rows each: k × k numbers for T and k × 64 for C, all of them below p
+pub record Scratch (p k : ℕ) (t c : List ℕ) : Type 0 where
+  pub t-long : k * k ≤ length t
+  pub c-long : k * longestRow ≤ length c
+  pub t-below : Below p t
+  pub c-below : Below p c
+
+-- scratch memory that was used and can be used again: as long as before, and below p
+pub record Reusable (p : ℕ) (xs xs′ : List ℕ) : Type 0 where
+  pub same-length : length xs′ ≡ length xs
+  pub below : Below p xs′
+
+-- what both steps ask: the sizes, no more upper rows than lower ones, and scratch memory for these
 pub record Halves (p : ℕ) (s : Split) (a d : List ℕ) (D : Place) (t c : List ℕ) : Type 0 where
   pub is-modulus : IsModulus p
-  pub upper-most : s .upper ≤ halfRows
+  pub upper-most : s .upper ≤ s .lower
   pub lower-most : s .lower ≤ halfRows
   pub n-most : s .width ≤ longestRow
   pub stride-most : D .stride ≤ longestRow
@@ -39,24 +51,19 @@ pub record Halves (p : ℕ) (s : Split) (a d : List ℕ) (D : Place) (t c : List
   pub d-long : length d ≡ s .width * D .stride
   pub d-below : Below p d
   pub fits : D .start + (s .upper + s .lower) ≤ D .stride
-  pub t-long : length t ≡ quarterTable
-  pub c-long : length c ≡ halfTable
+  pub scratch : Scratch p (s .lower) t c
 
--- what the step between asks: K in k, marks of the rows of E, and blank room for T and C
+-- what the step between asks: K in k, and marks of the rows of E
 pub record Reducible (p : ℕ) (s : Split) (a k marks d : List ℕ) (D : Place) (t c : List ℕ) : Type 0 where
   pub halves : Halves p s a d D t c
   pub lower-long : length k ≡ s .lower * s .width
   pub lower-below : Below p k
-  pub t-blank : Blank t
-  pub c-blank : Blank c
   pub used : Used (s .width) (s .upper) d D marks
 
 -- what it leaves: -T = -(K E) in t and C = K - T B in c
 pub record Reduced (p : ℕ) (s : Split) (a k d : List ℕ) (D : Place) (t c t′ c′ : List ℕ) : Type 0 where
-  pub t-long : length t′ ≡ length t
-  pub c-long : length c′ ≡ length c
-  pub t-below : Below p t′
-  pub c-below : Below p c′
+  pub t-again : Reusable p t t′
+  pub c-again : Reusable p c c′
   pub is-T :
       matrixOf p t′ (s .lower) (s .upper)
       ≡ negative (residues p)
@@ -66,11 +73,9 @@ pub record Reduced (p : ℕ) (s : Split) (a k d : List ℕ) (D : Place) (t c t�
       ≡ add (residues p) (matrixOf p k (s .lower) (s .width))
       (product (residues p) (s .upper) (matrixOf p t′ (s .lower) (s .upper)) (matrixOf p a (s .upper) (s .width)))
 
--- what the step after asks: -T in t, room in c, and marks of the rows of E and of F
+-- what the step after asks: -T in t, and marks of the rows of E and of F
 pub record Joinable (p : ℕ) (s : Split) (a t c upper marks d : List ℕ) (D : Place) : Type 0 where
   pub halves : Halves p s a d D t c
-  pub t-below : Below p t
-  pub c-below : Below p c
   pub upper-used : Used (s .width) (s .upper) d D upper
   pub lower-used : Used (s .width) (s .lower) d (columnsFrom D (s .upper)) marks
 

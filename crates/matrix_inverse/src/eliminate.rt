@@ -1,11 +1,11 @@
 // Algorithm Q of document 001: a quasiinverse of a table from those of its upper rows and of its reduced lower rows.
 ghost use mathlib.Core.Path.{_≡_};
-ghost use Prim.Native.Nat.{ℕ, _+_, _*_, _≤_, _<_};
+ghost use Prim.Native.Nat.{ℕ, _+_, _-_, _*_, _/_, _≤_, _<_};
 ghost use lib.ListN.{length, getD};
 ghost use Rattle.matrix_mul.specs.Rows.{Passes};
 ghost use Rattle.matrix_mul.specs.Places.{place, Factors};
 ghost use Rattle.matrix_inverse.specs.Eliminated.{noMarks, Eliminable, Eliminated, BothMarked};
-ghost use Rattle.matrix_inverse.specs.Steps.{IsNegativeProduct, Reducible, Reduced, Joinable, Joined};
+ghost use Rattle.matrix_inverse.specs.Steps.{IsNegativeProduct, Scratch, Reusable, Reducible, Reduced, Joinable, Joined};
 use matrix_mul::Place;
 use matrix_mul::Shape;
 use matrix_mul::add_product;
@@ -13,22 +13,18 @@ use matrix_mul::add_product_within;
 use words::ROW;
 use words::row_room;
 
-// The least position of a number that is not 0, or the length where there is none.
-fn least_nonzero(xs: &[u32]) -> usize
-    ensures { λ r. ⌜ (r ≤ length (now (xs .entry))) × ((t : ℕ) → t < r → getD (now (xs .entry)) t 0 ≡ 0)
-        × (r < length (now (xs .entry)) → getD (now (xs .entry)) r 0 ≡ 0 → ⊥) ⌝ }
-{
-    let len = xs.len();
-    let mut found = len;
-    let mut v = 0;
-    while v < found {
-        if xs[v] != 0 {
-            found = v;
-        }
-        v += 1;
-    }
-    found
-}
+// The scratch memory for up to 64, 32 and 8 rows: half as many rows as these, of as many numbers for T and of 64 for C.
+const T_64: usize = 1024;
+
+const C_64: usize = 2048;
+
+const T_32: usize = 256;
+
+const C_32: usize = 1024;
+
+const T_8: usize = 16;
+
+const C_8: usize = 256;
 
 // One row: the select step takes the least usable column v, and D has 1 / a(v) there. Answers the column marks: v is marked.
 fn one_row(
@@ -44,7 +40,7 @@ fn one_row(
     ensures { λ r. ⌜ Eliminated p 1 n (now (a .entry)) (now (d .entry)) at stride noMarks (now (rows .entry)) (now (d .exit)) r (now (rows .exit)) ⌝ }
 {
     let mut marks = row_room();
-    let v = least_nonzero(a);
+    let v = words::least_nonzero(a);
     if v == n {
         return marks;
     }
@@ -167,7 +163,7 @@ fn join_halves(
 )
     requires { ⌜ Joinable p split (now a) (now t) (now c) (now upper) (now marks) (now d) block ⌝ }
     ensures { λ _. ⌜ Joined p split (now (a .entry)) (now (t .entry)) (now (d .entry)) (now (d .exit)) block
-        × BothMarked (split .width) (now (upper .entry)) (now (marks .entry)) (now (marks .exit)) ⌝ }
+        × BothMarked (split .width) (now (upper .entry)) (now (marks .entry)) (now (marks .exit)) × Reusable p (now (c .entry)) (now (c .exit)) ⌝ }
 {
     let m1 = split.upper;
     let m2 = split.lower;
@@ -210,28 +206,8 @@ fn join_halves(
     add_product_within(p, third, marks, middle, t, in_t, d, block);
 }
 
-// One of the two halves: a row, or halves again. Answers the column marks.
-fn half(
-    p: u32,
-    m: usize,
-    n: usize,
-    a: &[u32],
-    d: &mut [u32],
-    at: usize,
-    stride: usize,
-    rows: &mut [u32],
-) -> [u32; ROW]
-    requires { ⌜ Eliminable p m n (now a) (now d) at stride noMarks (now rows) × (0 < m) ⌝ }
-    ensures { λ r. ⌜ Eliminated p m n (now (a .entry)) (now (d .entry)) at stride noMarks (now (rows .entry)) (now (d .exit)) r (now (rows .exit)) ⌝ }
-{
-    if m == 1 {
-        return one_row(p, n, a, d, at, stride, rows);
-    }
-    halves(p, m, n, a, d, at, stride, rows)
-}
-
-// Two rows or more: the quasiinverse calls itself on the two halves of the rows; the number of rows falls. The scratch memory is
-// in this frame alone, which a half of one row does not enter. Answers the column marks.
+// The m rows in two halves, with scratch memory that is lent: t for -T and c for C. The number of rows falls. The upper half is lent
+// the same memory, which is not in use yet; the lower half has its own, since it reads its rows from c. Answers the column marks.
 fn halves(
     p: u32,
     m: usize,
@@ -241,10 +217,16 @@ fn halves(
     at: usize,
     stride: usize,
     rows: &mut [u32],
+    t: &mut [u32],
+    c: &mut [u32],
 ) -> [u32; ROW]
-    requires { ⌜ Eliminable p m n (now a) (now d) at stride noMarks (now rows) × (1 < m) ⌝ }
-    ensures { λ r. ⌜ Eliminated p m n (now (a .entry)) (now (d .entry)) at stride noMarks (now (rows .entry)) (now (d .exit)) r (now (rows .exit)) ⌝ }
+    requires { ⌜ Eliminable p m n (now a) (now d) at stride noMarks (now rows) × (0 < m) × Scratch p (m - m / 2) (now t) (now c) ⌝ }
+    ensures { λ r. ⌜ Eliminated p m n (now (a .entry)) (now (d .entry)) at stride noMarks (now (rows .entry)) (now (d .exit)) r (now (rows .exit))
+        × Reusable p (now (t .entry)) (now (t .exit)) × Reusable p (now (c .entry)) (now (c .exit)) ⌝ }
 {
+    if m == 1 {
+        return one_row(p, n, a, d, at, stride, rows);
+    }
     let m1 = m / 2;
     let m2 = m - m1;
     let split = Split {
@@ -254,20 +236,79 @@ fn halves(
     };
     let block = Place { start: at, stride };
     let cut = m1 * n;
-    let upper = half(p, m1, n, &a[..cut], d, at, stride, &mut rows[..m1]);
+    let upper = halves(p, m1, n, &a[..cut], d, at, stride, &mut rows[..m1], t, c);
     let lower = &a[cut..];
-    let mut t = words::quarter_table();
-    let mut c = words::half_table();
-    reduce_rows(p, split, a, lower, &upper, d, block, &mut t, &mut c);
+    reduce_rows(p, split, a, lower, &upper, d, block, t, c);
     let middle = at + m1;
     let end = m2 * n;
-    let mut marks = half(p, m2, n, &c[..end], d, middle, stride, &mut rows[m1..]);
-    join_halves(p, split, a, &t, &mut c, &upper, &mut marks, d, block);
+    let mut marks = lower_half(p, m2, n, &c[..end], d, middle, stride, &mut rows[m1..]);
+    join_halves(p, split, a, t, c, &upper, &mut marks, d, block);
     marks
 }
 
-// The quasiinverse of the m rows of a. `halves` has a caller beside `half`, so that the compiler leaves its frame, which holds the
-// scratch memory, out of `half`.
+// Up to 32 rows, with scratch memory for about as many. The compiler puts this into `halves`, its one caller, but not what makes the
+// memory, since `halves` calls itself: so a level has the frame of its size only.
+fn lower_half(
+    p: u32,
+    m: usize,
+    n: usize,
+    a: &[u32],
+    d: &mut [u32],
+    at: usize,
+    stride: usize,
+    rows: &mut [u32],
+) -> [u32; ROW]
+    requires { ⌜ Eliminable p m n (now a) (now d) at stride noMarks (now rows) × (0 < m) × (m ≤ 32) ⌝ }
+    ensures { λ r. ⌜ Eliminated p m n (now (a .entry)) (now (d .entry)) at stride noMarks (now (rows .entry)) (now (d .exit)) r (now (rows .exit)) ⌝ }
+{
+    if m == 1 {
+        return one_row(p, n, a, d, at, stride, rows);
+    }
+    if m <= 8 {
+        return halves_8(p, m, n, a, d, at, stride, rows);
+    }
+    halves_32(p, m, n, a, d, at, stride, rows)
+}
+
+// Up to 32 rows in two halves, with scratch memory for these.
+fn halves_32(
+    p: u32,
+    m: usize,
+    n: usize,
+    a: &[u32],
+    d: &mut [u32],
+    at: usize,
+    stride: usize,
+    rows: &mut [u32],
+) -> [u32; ROW]
+    requires { ⌜ Eliminable p m n (now a) (now d) at stride noMarks (now rows) × (0 < m) × (m ≤ 32) ⌝ }
+    ensures { λ r. ⌜ Eliminated p m n (now (a .entry)) (now (d .entry)) at stride noMarks (now (rows .entry)) (now (d .exit)) r (now (rows .exit)) ⌝ }
+{
+    let mut t = [0u32; T_32];
+    let mut c = [0u32; C_32];
+    halves(p, m, n, a, d, at, stride, rows, &mut t, &mut c)
+}
+
+// Up to 8 rows in two halves, with scratch memory for these.
+fn halves_8(
+    p: u32,
+    m: usize,
+    n: usize,
+    a: &[u32],
+    d: &mut [u32],
+    at: usize,
+    stride: usize,
+    rows: &mut [u32],
+) -> [u32; ROW]
+    requires { ⌜ Eliminable p m n (now a) (now d) at stride noMarks (now rows) × (0 < m) × (m ≤ 8) ⌝ }
+    ensures { λ r. ⌜ Eliminated p m n (now (a .entry)) (now (d .entry)) at stride noMarks (now (rows .entry)) (now (d .exit)) r (now (rows .exit)) ⌝ }
+{
+    let mut t = [0u32; T_8];
+    let mut c = [0u32; C_8];
+    halves(p, m, n, a, d, at, stride, rows, &mut t, &mut c)
+}
+
+// The quasiinverse of the m rows of a.
 pub fn eliminate(
     p: u32,
     m: usize,
@@ -286,11 +327,13 @@ pub fn eliminate(
     if m == 0 {
         return;
     }
-    if m == 1 {
-        let found = one_row(p, n, a, d, at, stride, rows);
+    if m <= 8 {
+        let found = halves_8(p, m, n, a, d, at, stride, rows);
         add_marks(n, &found, columns);
         return;
     }
-    let found = halves(p, m, n, a, d, at, stride, rows);
+    let mut t = [0u32; T_64];
+    let mut c = [0u32; C_64];
+    let found = halves(p, m, n, a, d, at, stride, rows, &mut t, &mut c);
     add_marks(n, &found, columns);
 }

@@ -14,15 +14,9 @@ widestRow = 65
 abbrev pub halfRows : ℕ
 halfRows = 32
 
--- the largest table; half of its rows; half of the columns of these
+-- the largest table
 abbrev pub largestTable : ℕ
 largestTable = 4096
-
-abbrev pub halfTable : ℕ
-halfTable = 2048
-
-abbrev pub quarterTable : ℕ
-quarterTable = 1024
 
 -- as many of the widest rows as the largest table has rows
 abbrev pub widestTable : ℕ

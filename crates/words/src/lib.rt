@@ -4,7 +4,7 @@ ghost use mathlib.Core.Path.{_≡_};
 ghost use Prim.Native.Nat.{_+_, _≤_, _<_};
 ghost use lib.ListN.{length};
 ghost use Rattle.algebra.specs.Answers.{Tells};
-ghost use Rattle.words.specs.Lengths.{longestRow, widestRow, largestTable, widestTable, halfTable, quarterTable};
+ghost use Rattle.words.specs.Lengths.{longestRow, widestRow, largestTable, widestTable};
 ghost use Rattle.words.specs.Words.{Below, Blank, Zeros, AllMarked, Copied, PutAt, FirstDifference, LeastNonzero};
 
 // The most numbers of a row or a column.
@@ -18,12 +18,6 @@ pub const TABLE: usize = 4096;
 
 // The same with a number carried behind each row.
 pub const WIDE_TABLE: usize = 4160;
-
-// The numbers of half its rows.
-pub const HALF: usize = 2048;
-
-// The numbers of half the columns of these.
-pub const QUARTER: usize = 1024;
 
 // Zeros: room for the longest row or column.
 pub fn row_room() -> [u32; ROW]
@@ -51,20 +45,6 @@ pub fn wide_table() -> [u32; WIDE_TABLE]
     ensures { λ r. ⌜ Zeros widestTable r ⌝ }
 {
     [0u32; WIDE_TABLE]
-}
-
-// Room for half the rows of the largest table.
-pub fn half_table() -> [u32; HALF]
-    ensures { λ r. ⌜ Zeros halfTable r ⌝ }
-{
-    [0u32; HALF]
-}
-
-// Room for a quarter of the largest table: half its rows, and half the columns of these.
-pub fn quarter_table() -> [u32; QUARTER]
-    ensures { λ r. ⌜ Zeros quarterTable r ⌝ }
-{
-    [0u32; QUARTER]
 }
 
 // Makes each number 0.

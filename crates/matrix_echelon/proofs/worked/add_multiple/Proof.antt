@@ -16,7 +16,7 @@ abbrev μ-loop : tie.MeasureT-loop
 μ-loop p c x from e₀ at j₀ e j = length x - j
 
 loop-holds : tie.Need-loop-holds Inv-loop μ-loop
-loop-holds c = (c .pre .leading .within, added-front _ _ _ _ _ _ (c .pre))
+loop-holds c = (c .pre .leading .within, added-front (c .pre))
 
 mul-y : tie.Need-mul-y Inv-loop μ-loop
 mul-y c = omega arith
@@ -80,7 +80,7 @@ loop-again c =
     let s = c .before .before .before .before in
     let old = l .inv .1 .behind (s .args .at + l .j) (omega arith) in (
       omega arith,
-      spanned-more (s .args .at) (l .j) _ _ _ _ (l .inv .1) (omega (arith, s .pre .inside))
+      spanned-more (l .inv .1) (omega (arith, s .pre .inside))
           (sum-at (s .args .p) (s .args .c) (s .args .x .now) (s .args .at) (s .args .e .now) (l .j) _ old),
     )
 

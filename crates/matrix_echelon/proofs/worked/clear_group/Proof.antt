@@ -27,7 +27,7 @@ mul-t : tie.Need-mul-t Inv-loop μ-loop
 mul-t c = omega (arith, c .before .before .pre .few)
 
 loop-holds : tie.Need-loop-holds Inv-loop μ-loop
-loop-holds c = (omega arith, omega arith, cleared-none _ _ _ _ _ (c .before .before .pre .room))
+loop-holds c = (omega arith, omega arith, cleared-none (c .before .before .pre .room))
 
 mul-at : tie.Need-mul-at Inv-loop μ-loop
 mul-at c = omega (arith, in-room c)
@@ -72,7 +72,7 @@ loop-again c =
     let l = c .before .before .before .before .before .before .before .loop in (
       omega arith,
       omega arith,
-      cleared-more _ _ (s .args .v) _ (l .t) _ _ _ _ (s .pre .leading .positive) (s .pre .in-row) (l .inv .0) (l .inv .2)
+      cleared-more (s .pre .leading .positive) (l .inv .0) (l .inv .2)
           (c .before .before .before .before .minus .ensures)
           (c .before .before .add-multiple .ensures),
     )

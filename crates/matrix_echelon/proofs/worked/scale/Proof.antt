@@ -17,7 +17,7 @@ abbrev μ-loop : tie.MeasureT-loop
 μ-loop p s from x₀ j₀ x j = length x₀ - j
 
 loop-holds : tie.Need-loop-holds Inv-loop μ-loop
-loop-holds c = (c .before .pre .leading .within, scaled-front _ _ _ _ (c .before .pre))
+loop-holds c = (c .before .pre .leading .within, scaled-front (c .before .pre))
 
 mul-times : tie.Need-mul-times Inv-loop μ-loop
 mul-times c = omega arith

@@ -47,7 +47,7 @@ slice-aggregate-negative-product c = sym (c .before .before .list-marked .ensure
 negative-product-requires : tie.Need-negative-product-requires
 negative-product-requires c κs =
     let pre = c .before .before .before .before .before .before .before .before .before .before .before .before .before .before .pre in
-    (join-first (pre .halves) (pre .c-below), listed-passes (pre .lower-used) (c .before .before .before .before .list-marked .ensures .1))
+    (join-first (pre .halves), listed-passes (pre .lower-used) (c .before .before .before .before .list-marked .ensures .1))
 
 add-product-within-requires : tie.Need-add-product-within-requires
 add-product-within-requires c κs =
@@ -67,7 +67,7 @@ add-product-within-requires-2 c κs =
     let both = c .before .before .before .before .add-marks .ensures in
     let pre = start-of (negative-of within) .pre in
     let e = within .add-product-within .ensures in
-    join-third (pre .halves) (pre .t-below) (e .kept)
+    join-third (pre .halves) (e .kept)
     (used-product (modulus-positive (pre .halves)) (lower-block (pre .halves)) e (pre .upper-used) (pre .lower-used)
     (omega (arith, pre .lower-used .long, both .same-length))
     (both-zero both))
@@ -89,6 +89,7 @@ returns c =
       joined (pre .halves) (negative .negative-product .ensures) (first .add-product-within .ensures)
           (c .before .before .add-product-within2 .ensures),
       c .before .before .before .before .before .before .before .add-marks .ensures,
+      record { same-length = negative .negative-product .ensures .same-length; below = negative .negative-product .ensures .below },
     )
 
 pub join-halves-spec : {M : Type 1} → statement M

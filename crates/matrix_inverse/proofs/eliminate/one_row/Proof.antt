@@ -23,7 +23,7 @@ returns c =
     let s = c .before .before .before .before .before .before in
     let room = c .before .before .row-room in
     let least = c .before .least-nonzero .ensures in
-    rw (room-fresh (room .result) (room .ensures)) (nothing-chosen (s .pre) (row-zero (s .args .n) (s .args .a .now) (λ t h. least .1 t (omega arith))))
+    rw (room-fresh (room .result) (room .ensures)) (nothing-chosen (s .pre) (row-zero (s .args .n) (s .args .a .now) (λ t h. least .before t (omega arith))))
 
 mul-inverse : tie.Need-mul-inverse
 mul-inverse c = search needs
@@ -37,7 +37,7 @@ inverse-requires c κs =
     let v = c .before .before .least-nonzero .result in
     let least = c .before .before .least-nonzero .ensures in
     let inside : v < length (s .args .a .now) = omega (arith, s .pre .a-long) in
-    (s .pre .is-modulus, pos-of-ne-zero (least .2 inside), s .pre .a-below v inside)
+    (s .pre .is-modulus, pos-of-ne-zero (least .not-zero inside), s .pre .a-below v inside)
 
 -- the place that is written is one of D, which has at most 4096
 place :
@@ -89,7 +89,7 @@ returns-2 c =
     let least = c .before .before .before .least-nonzero in
     let room = c .before .before .before .before .row-room in
     rw (room-fresh (room .result) (room .ensures))
-    (one-chosen (s .pre) (least .result) (c .inverse .result) (omega (arith, s .pre .a-long)) (least .ensures .1)
+    (one-chosen (s .pre) (least .result) (c .inverse .result) (omega (arith, s .pre .a-long)) (least .ensures .before)
     (c .inverse .ensures .0)
     (c .inverse .ensures .1))
 

@@ -6,7 +6,7 @@ use lib.Seq.{length-take-le}
 use borrow.Author.Needs.{needs}
 use Rattle.matrix_mul.proofs.RowsTaken.{each-passes}
 use Rattle.matrix_mul.proofs.PlaceLists.{listed-passes}
-use Rattle.matrix_inverse.proofs.StepReduce.{half-room, reduce-first, reduce-second, reduced}
+use Rattle.matrix_inverse.proofs.StepReduce.{c-room, reduce-first, reduce-second, reduced}
 use Rattle.matrix_inverse.proofs.eliminate.reduce_rows.Statement.{statement}
 use Rattle.matrix_inverse.proofs.eliminate.reduce_rows.Tie as tie
 
@@ -42,7 +42,7 @@ mul-end c = search needs
 copy-requires : tie.Need-copy-requires
 copy-requires c κs =
     let pre = c .before .before .before .before .before .before .before .before .before .before .before .before .before .before .before .before .before .pre in
-    (omega (arith, pre .lower-long), half-room (pre .halves))
+    (omega (arith, pre .lower-long), c-room (pre .halves))
 
 each-row-requires : tie.Need-each-row-requires
 each-row-requires c κs = search needs
@@ -56,7 +56,7 @@ add-product-requires c κs =
     let negative = c .before .before .before .before .before .before .before .before .before .before in
     let pre = negative .before .before .before .before .before .before .before .before .before .before .before .before .before .before .pre in (
       reduce-second pre (negative .negative-product .ensures) (c .before .before .before .before .before .before .copy .ensures),
-      each-passes (omega (arith, pre .halves .upper-most)) each,
+      each-passes (omega (arith, pre .halves .upper-most, pre .halves .lower-most)) each,
     )
 
 same-length : tie.Need-same-length

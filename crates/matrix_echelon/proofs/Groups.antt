@@ -1,0 +1,185 @@
+-- A group of four worked rows that is added to the sums of limbs: the rows lie in their memory, the limbs have room for them, and
+-- the row that the limbs stand for has the group added, each row with the multiplier found at its pivot.
+use mathlib.Core.Path.{_≡_, sym, ap, ap₂, _∙_, subst}
+use mathlib.Core.List.{List}
+use Prim.Native.Nat.{ℕ, zero, suc, _+_, _*_, _≤_, _<_}
+use native.Mathlib.Decide.{decLt}
+use native.Mathlib.Omega.{arith}
+use lib.ListN.{length, getD}
+use mir.Val.{Fits}
+use mir.Syntax.{w64}
+use Rattle.algebra.specs.Ring.{IsCommutativeRing}
+use Rattle.algebra.specs.Matrix.{Vector, mixed, sum}
+use Rattle.algebra.specs.Echelon.{ClearedTo, GroupAdded}
+use Rattle.algebra.proofs.Cleared as cleared
+use Rattle.algebra.proofs.Rings as rings
+use Rattle.algebra.proofs.Sums as sums
+use Rattle.checks.specs.Prime.{largestModulus}
+use Rattle.words.specs.Lengths.{longestRow, widestRow, largestTable}
+use Rattle.field.specs.Residue.{Residue, reduce, residues, _⊕_, _⊗_}
+use Rattle.field.specs.Limbs.{limbBase, low, high}
+use Rattle.field.proofs.Residues.{reduce-plus, reduce-times, nonzero-of-positive}
+use Rattle.field.proofs.Field.{residues-ring}
+use Rattle.field.proofs.Limbs.{Within, within-zero, within-one, within-more, within-low, within-high, within-fits, whole-add, number-fits}
+use Rattle.matrix_mul.specs.declared.rows.Row.{Row}
+use Rattle.matrix_mul.specs.declared.rows.Four.{Four}
+use Rattle.matrix_mul.specs.Rows.{Short, Inside, FourInside, Ready, Added, productAt, fourAt, wholeAt}
+use Rattle.matrix_mul.proofs.RowsTaken.{below-shorts, quarter-product, four-fit}
+use Rattle.matrix_echelon.specs.Group.{Pivots, WorkedRoom, IsPivotRow, GroupTaken, GroupsCleared, Clearable, rowIn, workedRows}
+use Rattle.matrix_echelon.specs.Group.{pivotsOf}
+use Rattle.matrix_echelon.proofs.WorkedClear.{row-inside}
+
+-- 1 is not 0 modulo p
+pub one-not-zero : (p : ℕ) → 1 < p → reduce p 1 ≡ reduce p 0 → ⊥
+one-not-zero p h = nonzero-of-positive p 1 (omega arith) h
+
+-- at their first n + 1 places the limbs are sums of at most k limbs
+pub record Limbs (k n : ℕ) (lo hi : List ℕ) : Type 0 where
+  pub long-lo : length lo ≡ widestRow
+  pub long-hi : length hi ≡ widestRow
+  pub low-within : (j : ℕ) → j < n + 1 → Within k (getD lo j 0)
+  pub high-within : (j : ℕ) → j < n + 1 → Within k (getD hi j 0)
+
+pub limbs-fresh : {p n r : ℕ} {e pivots lo hi : List ℕ} → Clearable p n r e pivots lo hi → Limbs 1 n lo hi
+limbs-fresh c =
+    record {
+      long-lo = c .long-lo;
+      long-hi = c .long-hi;
+      low-within = λ j h. within-one _ (c .small j (omega arith));
+      high-within = λ j h. rw (c .fresh j) (within-more 0 1 0 (omega arith) within-zero);
+    }
+
+pub limbs-ready : {k n : ℕ} {lo hi : List ℕ} → k ≤ largestTable → n + 1 ≤ widestRow → Limbs k n lo hi → Ready (n + 1) lo hi
+limbs-ready {k} b w l =
+    record {
+      small = w;
+      long-lo = l .long-lo;
+      long-hi = l .long-hi;
+      fits-lo = λ j h. within-fits k _ b (l .low-within j h);
+      fits-hi = λ j h. within-fits k _ b (l .high-within j h);
+    }
+
+module _ (p n r : ℕ) (e pivots : List ℕ) (positive : 0 < p) (in-range : p ≤ largestModulus) (room : WorkedRoom p e)
+    (ps : Pivots (n + 1) r pivots) {g : ℕ} {lo hi : List ℕ} {four : Four}
+    (taken : GroupTaken p (n + 1) r g pivots lo hi four)
+  where
+    -- a row with its multiplier lies in the memory of the worked rows
+    row-in : {t : ℕ} {row : Row} → IsPivotRow p (n + 1) r t pivots lo hi row → Inside (n + 1) e row
+    unfolding Short
+    row-in {t} {row} i = record { short = omega (arith, i .below); in-table = place (decLt t r) }
+      where
+        place : Dec (t < r) → row .at + (n + 1) ≤ length e
+        place (yes h) = omega (arith, i .place h, room .long, row-inside t (n + 1) (omega (arith, ps .few)) (ps .narrow))
+        place (no h) = omega (arith, i .first (omega arith), room .long, ps .narrow)
+
+    pub four-inside : FourInside (n + 1) e four
+    four-inside =
+        record {
+          table-short = below-shorts p e in-range (room .below);
+          first = row-in (taken .row-a);
+          second = row-in (taken .row-b);
+          third = row-in (taken .row-c);
+          fourth = row-in (taken .row-d);
+        }
+
+    four-fits : (j : ℕ) → Fits w64 (fourAt e four j)
+    unfolding fourAt productAt
+    four-fits j =
+        let i = four-inside in
+        number-fits _
+        (four-fit _ _ _ _ (quarter-product _ _ (i .first .short) (i .table-short _)) (quarter-product _ _ (i .second .short) (i .table-short _))
+        (quarter-product _ _ (i .third .short) (i .table-short _)) (quarter-product _ _ (i .fourth .short) (i .table-short _)))
+
+    -- the limbs with the group added
+    pub limbs-more : {k : ℕ} {los his : List ℕ} → Limbs k n lo hi → Added (n + 1) (fourAt e four) lo hi los his → Limbs (k + 1) n los his
+    limbs-more {k} l a =
+        record {
+          long-lo = a .long-lo ∙ l .long-lo;
+          long-hi = a .long-hi ∙ l .long-hi;
+          low-within = λ j h. rw (a .low-at j h) (within-low k _ _ (l .low-within j h));
+          high-within = λ j h. rw (a .high-at j h) (within-high k _ _ (l .high-within j h) (four-fits j));
+        }
+
+    -- what a row adds is its multiplier times the worked row
+    term : {t : ℕ} {row : Row} → IsPivotRow p (n + 1) r t pivots lo hi row → (j : ℕ)
+        → reduce p (productAt e row j) ≡ reduce p (row .times) ⊗ workedRows p e (n + 1) t j
+    unfolding productAt
+    term {t} {row} i j = reduce-times p (row .times) _ ∙ at-row (decLt t r)
+      where
+        L : IsCommutativeRing (residues p)
+        L = residues-ring p positive
+
+        at-row : Dec (t < r)
+            → reduce p (row .times) ⊗ reduce p (getD e (row .at + j) 0) ≡ reduce p (row .times) ⊗ workedRows p e (n + 1) t j
+        at-row (yes h) = ap (λ q. reduce p (row .times) ⊗ reduce p (getD e (q + j) 0)) (i .place h)
+        at-row (no h) =
+            let none = i .no-multiplier (omega arith) in
+            ap (λ c. reduce p c ⊗ reduce p (getD e (row .at + j) 0)) none
+            ∙ rings.zero-times (residues p) L (reduce p (getD e (row .at + j) 0))
+            ∙ sym (rings.zero-times (residues p) L (workedRows p e (n + 1) t j))
+            ∙ ap (λ c. reduce p c ⊗ workedRows p e (n + 1) t j) (sym none)
+
+    first-row : IsPivotRow p (n + 1) r (g + 0) pivots lo hi (four .a)
+    first-row =
+        let here : g ≡ g + 0 = omega arith in
+        subst (λ t. IsPivotRow p (n + 1) r t pivots lo hi (four .a)) here (taken .row-a)
+
+    -- the four multipliers
+    multipliers : ℕ → Residue p
+    multipliers zero = reduce p (four .a .times)
+    multipliers (suc zero) = reduce p (four .b .times)
+    multipliers (suc (suc zero)) = reduce p (four .c .times)
+    multipliers (suc (suc (suc k))) = reduce p (four .d .times)
+
+    -- the group adds the combination of its rows
+    combination : (j : ℕ) → reduce p (fourAt e four j) ≡ mixed (residues p) 4 multipliers (λ k. workedRows p e (n + 1) (g + k)) j
+    unfolding fourAt mixed sum multipliers
+    combination j =
+        reduce-plus p (productAt e (four .a) j + productAt e (four .b) j + productAt e (four .c) j) (productAt e (four .d) j)
+        ∙ ap₂ _⊕_
+        (reduce-plus p (productAt e (four .a) j + productAt e (four .b) j) (productAt e (four .c) j)
+        ∙ ap₂ _⊕_
+        (reduce-plus p (productAt e (four .a) j) (productAt e (four .b) j)
+        ∙ ap₂ _⊕_ (term first-row j ∙ sym (rings.zero-plus (residues p) (residues-ring p positive) _)) (term (taken .row-b) j))
+        (term (taken .row-c) j))
+        (term (taken .row-d) j)
+
+    group-added : {los his : List ℕ} → Added (n + 1) (fourAt e four) lo hi los his
+        → GroupAdded (residues p) g n r (workedRows p e (n + 1)) (pivotsOf pivots) (rowIn p lo hi) (rowIn p los his)
+    unfolding wholeAt multipliers
+    group-added a =
+        record {
+          by = multipliers;
+          at-pivot = at-pivot;
+          beyond = beyond;
+          sums = λ j h.
+              ap (reduce p) (rw (a .low-at j (omega arith), a .high-at j (omega arith)) (whole-add (getD lo j 0) (getD hi j 0) (fourAt e four j)))
+              ∙ reduce-plus p _ (fourAt e four j)
+              ∙ ap (λ x. rowIn p lo hi j ⊕ x) (combination j);
+        }
+      where
+        at-pivot : (k : ℕ) → k < 4 → g + k < r → multipliers k ≡ residues p .minus (rowIn p lo hi (pivotsOf pivots (g + k)))
+        at-pivot zero h l = first-row .multiplier l
+        at-pivot (suc zero) h l = taken .row-b .multiplier l
+        at-pivot (suc (suc zero)) h l = taken .row-c .multiplier l
+        at-pivot (suc (suc (suc zero))) h l = taken .row-d .multiplier l
+        at-pivot (suc (suc (suc (suc k)))) h l = absurd (omega arith)
+
+        beyond : (k : ℕ) → k < 4 → r ≤ g + k → multipliers k ≡ reduce p 0
+        beyond zero h l = ap (reduce p) (first-row .no-multiplier l)
+        beyond (suc zero) h l = ap (reduce p) (taken .row-b .no-multiplier l)
+        beyond (suc (suc zero)) h l = ap (reduce p) (taken .row-c .no-multiplier l)
+        beyond (suc (suc (suc zero))) h l = ap (reduce p) (taken .row-d .no-multiplier l)
+        beyond (suc (suc (suc (suc k)))) h l = absurd (omega arith)
+
+    -- the row is cleared at the pivots of one group more
+    pub group-cleared : (1 < p) → (q : ℕ) → g ≡ 4 * q → GroupsCleared p n r e pivots → {x : Vector (residues p)} {los his : List ℕ}
+        → ClearedTo (residues p) (4 * q) 0 n (λ i. x) r (workedRows p e (n + 1)) (pivotsOf pivots) (rowIn p lo hi)
+        → Added (n + 1) (fourAt e four) lo hi los his
+        → ClearedTo (residues p) (4 * (q + 1)) 0 n (λ i. x) r (workedRows p e (n + 1)) (pivotsOf pivots) (rowIn p los his)
+    group-cleared proper q at-q groups {x} {los} {his} c a =
+        let more : 4 * q + 4 ≡ 4 * (q + 1) = omega arith in
+        subst (λ k. ClearedTo (residues p) k 0 n (λ i. x) r (workedRows p e (n + 1)) (pivotsOf pivots) (rowIn p los his)) more
+        (cleared.cleared-group (residues p) (residues-ring p positive) (one-not-zero p proper) q groups
+        (λ t h. omega (arith, ps .inside t h)) c
+        (subst (λ k. GroupAdded (residues p) k n r (workedRows p e (n + 1)) (pivotsOf pivots) (rowIn p lo hi) (rowIn p los his)) at-q (group-added a)))

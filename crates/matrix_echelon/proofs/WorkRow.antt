@@ -1,0 +1,165 @@
+-- One row of the table is worked off: what its parts ask holds, and after them one row more of the table is worked off. Where every
+-- column has its pivot nothing is to be done.
+use mathlib.Core.Path.{_≡_, sym, ap, _∙_, subst}
+use mathlib.Core.List.{List}
+use Prim.Native.Nat.{ℕ, suc, _+_, _*_, _≤_, _<_}
+use native.Mathlib.Decide.{decLt}
+use native.Mathlib.Omega.{arith}
+use lib.Dec.{ltb}
+use lib.ListN.{length, getD, take, List·getD-eq-default}
+use lib.Seq.{length-take-le, getD-take}
+use borrow.Author.Tests.{lt-ltb, le-ltb}
+use Rattle.algebra.specs.Choice.{choose}
+use Rattle.algebra.specs.Ring.{IsCommutativeRing}
+use Rattle.algebra.specs.Matrix.{mixed}
+use Rattle.algebra.specs.Echelon.{Worked, Cleared}
+use Rattle.algebra.proofs.Echelon.{worked-none, row-follows, pivot-below, rank-columns}
+use Rattle.words.specs.Lengths.{widestRow}
+use Rattle.words.specs.Words.{Blank, Zeros}
+use Rattle.field.specs.Residue.{reduce, residues}
+use Rattle.field.specs.Limbs.{whole}
+use Rattle.field.specs.View.{line}
+use Rattle.field.proofs.Field.{residues-ring}
+use Rattle.matrix_mul.specs.Rows.{wholeAt}
+use Rattle.matrix_echelon.specs.declared.Grid.{Grid}
+use Rattle.matrix_echelon.specs.Grid.{entryOf, wide, Readable}
+use Rattle.matrix_echelon.specs.Group.{rowIn, workedRows, pivotsOf, Pivots, RowReadable, RowRead, Clearable, PivotsCleared}
+use Rattle.matrix_echelon.specs.Forward.{Room, Settleable, RowSettled, Held, Workable}
+use Rattle.matrix_echelon.proofs.Groups.{one-not-zero}
+use Rattle.matrix_echelon.proofs.Settle.{modulus-proper}
+
+-- the table with its carried column, at a column and behind them
+pub wide-front : (p : ℕ) (g : Grid) (a w : List ℕ) (step i j : ℕ) → j < g .columns → wide p g a w step i j ≡ entryOf p g a i j
+unfolding wide
+wide-front p g a w step i j h = ap (λ b. choose b (entryOf p g a i j) (line p w 0 step i)) (lt-ltb j (g .columns) h)
+
+pub wide-carried : (p : ℕ) (g : Grid) (a w : List ℕ) (step i : ℕ) → wide p g a w step i (g .columns) ≡ line p w 0 step i
+unfolding wide
+wide-carried p g a w step i =
+    ap (λ b. choose b (entryOf p g a i (g .columns)) (line p w 0 step i)) (le-ltb (g .columns) (g .columns) (omega arith))
+
+-- no row yet
+pub held-none : {p : ℕ} {g : Grid} {a w : List ℕ} {step : ℕ} {e pivots : List ℕ} → Readable p g a w step → Room p e pivots
+    → Held p g 0 a w step 0 e pivots
+held-none {p} {g} {a} {w} {step} {e} {pivots} s r =
+    let proper = modulus-proper (s .table .is-modulus) in
+    record {
+      room = r;
+      worked =
+          worked-none (residues p) (residues-ring p (omega (arith, proper))) (one-not-zero p proper) (g .columns) (wide p g a w step)
+          (workedRows p e (g .columns + 1)) (pivotsOf pivots);
+    }
+
+-- every column has its pivot
+pub held-follows : {p : ℕ} {g : Grid} {i : ℕ} {a w : List ℕ} {step r : ℕ} {e pivots : List ℕ} → Readable p g a w step → g .columns ≤ r
+    → Held p g i a w step r e pivots → Held p g (suc i) a w step r e pivots
+held-follows {p} {g} {i} {a} {w} {step} {r} {e} {pivots} s full h =
+    record {
+      room = h .room;
+      worked = subst (Rows (suc i)) (sym is-n) (row-follows (residues p) L (one-not-zero p proper) (subst (Rows i) is-n (h .worked)));
+    }
+  where
+    proper : 1 < p
+    proper = modulus-proper (s .table .is-modulus)
+
+    L : IsCommutativeRing (residues p)
+    L = residues-ring p (omega (arith, proper))
+
+    Rows : ℕ → ℕ → Type 0
+    Rows k q = Worked (residues p) k (g .columns) (wide p g a w step) q (workedRows p e (g .columns + 1)) (pivotsOf pivots)
+
+    is-n : r ≡ g .columns
+    is-n = omega (arith, rank-columns (residues p) L (one-not-zero p proper) (h .worked))
+
+module _ (p : ℕ) (g : Grid) (i : ℕ) (a w : List ℕ) (step r : ℕ) (e pivots : List ℕ) (s : Workable p g i a w step r e pivots) where
+  proper : 1 < p
+  proper = modulus-proper (s .readable .table .is-modulus)
+
+  L : IsCommutativeRing (residues p)
+  L = residues-ring p (omega (arith, proper))
+
+  worked : Worked (residues p) i (g .columns) (wide p g a w step) r (workedRows p e (g .columns + 1)) (pivotsOf pivots)
+  worked = s .held .worked
+
+  pub row-readable : RowReadable g i a w step
+  row-readable =
+      record {
+        some = omega (arith, s .free);
+        narrow = s .readable .table .columns-most;
+        inside = λ j h. s .readable .table .inside i j (s .in-table) h;
+        carried = omega (arith, s .readable .carried i (s .in-table));
+      }
+
+  module _ (lo hi : List ℕ) (l : RowRead g i a w step lo) (z : Zeros widestRow hi) where
+    pub clearable : Clearable p (g .columns) r e pivots lo hi
+    clearable =
+        record {
+          proper = proper;
+          in-range = s .readable .table .is-modulus .in-range;
+          room = s .held .room .rows-in;
+          pivots-in =
+              record {
+                narrow = omega (arith, s .readable .table .columns-most);
+                few = omega (arith, s .free, s .readable .table .columns-most);
+                long = s .held .room .pivots-long;
+                inside = λ t h. omega (arith, pivot-below (residues p) L (one-not-zero p proper) worked t h);
+              };
+          cleared = worked .cleared;
+          long-lo = l .long;
+          long-hi = z .0;
+          small = l .small;
+          fresh = z .1;
+        }
+
+    -- the limbs stand for row i
+    row-there : (j : ℕ) → j < suc (g .columns) → rowIn p lo hi j ≡ wide p g a w step i j
+    unfolding wholeAt whole line
+    row-there j h = at (decLt j (g .columns))
+      where
+        only-low : whole (getD lo j 0) (getD hi j 0) ≡ getD lo j 0
+        only-low = omega (arith, z .1 j)
+
+        at : Dec (j < g .columns) → reduce p (whole (getD lo j 0) (getD hi j 0)) ≡ wide p g a w step i j
+        at (yes b) = ap (reduce p) (only-low ∙ l .each j b) ∙ sym (wide-front p g a w step i j b)
+        at (no b) =
+            let e : j ≡ g .columns = omega arith in
+            let place : i * step ≡ 0 + i * step = omega arith in
+            ap (reduce p) only-low ∙ ap (λ k. reduce p (getD lo k 0)) e ∙ ap (reduce p) (l .last ∙ ap (λ q. getD w q 0) place)
+            ∙ sym (wide-carried p g a w step i)
+            ∙ ap (wide p g a w step i) (sym e)
+
+    module _ (los his : List ℕ) (c : PivotsCleared p (g .columns) r e pivots lo hi los his) where
+      pub settleable : (x : List ℕ) → Zeros widestRow x → Settleable p (g .columns) r los his (take (g .columns + 1) x) e pivots
+      settleable x y =
+          record {
+            is-modulus = s .readable .table .is-modulus;
+            narrow = s .readable .table .columns-most;
+            few = omega (arith, s .free, s .readable .table .columns-most);
+            ready = c .ready;
+            x-long = length-take-le (g .columns + 1) x long;
+            x-blank = blank;
+            room = s .held .room;
+          }
+        where
+          long : g .columns + 1 ≤ length x
+          long = omega (arith, y .0, s .readable .table .columns-most)
+
+          blank : Blank (take (g .columns + 1) x)
+          blank j = at (decLt j (g .columns + 1))
+            where
+              at : Dec (j < g .columns + 1) → getD (take (g .columns + 1) x) j 0 ≡ 0
+              at (yes b) = getD-take (g .columns + 1) x j 0 b ∙ y .1 j
+              at (no b) = List·getD-eq-default (take (g .columns + 1) x) 0 (omega (arith, length-take-le (g .columns + 1) x long))
+
+      row-cleared : Cleared (residues p) i (g .columns) (wide p g a w step) r (workedRows p e (g .columns + 1)) (pivotsOf pivots) (rowIn p los his)
+      row-cleared =
+          record {
+            by = c .cleared .by;
+            beyond = c .cleared .beyond;
+            sums = λ j h. c .cleared .sums j h ∙ ap (λ y. residues p .plus y (mixed (residues p) r (c .cleared .by) (workedRows p e (g .columns + 1)) j)) (row-there j h);
+            zeros-at = c .cleared .zeros-at;
+          }
+
+      pub row-worked : {r′ : ℕ} {e′ pivots′ : List ℕ} → RowSettled p (g .columns) r los his e pivots r′ e′ pivots′
+          → Held p g (suc i) a w step r′ e′ pivots′
+      row-worked t = record { room = t .room; worked = t .worked i (wide p g a w step) worked row-cleared }
