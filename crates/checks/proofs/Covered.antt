@@ -40,11 +40,11 @@ passed-over (d ∷ ds) n p t below v = go (n % d) refl (λ h. passed-over ds n p
     go (suc r) e later h = later h
 
 -- a divisor of p from n up to e
-pub record DivisorIn (n e p : ℕ) : Type 0 where
-  pub divisor : ℕ
-  pub from : n ≤ divisor
-  pub below : divisor < e
-  pub divides-p : divisor ∣ p
+record DivisorIn (n e p : ℕ) : Type 0 where
+  divisor : ℕ
+  from : n ≤ divisor
+  below : divisor < e
+  divides-p : divisor ∣ p
 
 module _ (p s : ℕ) (two : 2 ≤ p) (range : p ≤ largestModulus) (above : 1 < s) where
   -- the numbers covered, where no product is low
@@ -81,7 +81,7 @@ module _ (p s : ℕ) (two : 2 ≤ p) (range : p ≤ largestModulus) (above : 1 <
           passed (both-right (divides small n) (covers k (suc n) (w ∷ vs)) r)
           (passed-over small n p (both-left (divides small n) (covers k (suc n) (w ∷ vs)) r) below)
 
-  -- no one strikes
+  -- the ones that fill a part have no low product
   ones-high : (vs : List ℕ) → T (ones vs) → (j : ℕ) → j < length vs → p * getD vs j 0 % wordBase ≤ p / s → ⊥
   unfolding ones
   ones-high [] t j i low = omega arith

@@ -6,3 +6,7 @@ pub mod Settle
 pub mod WorkRow
 pub mod ReduceMultipliers
 pub mod ReduceRow
+pub mod Grids
+pub mod ReducedPivots
+pub mod ReducedRows
+pub mod SolutionBack

@@ -1,0 +1,90 @@
+-- The table with its carried column: cut to its sizes it is the table. So the worked rows of all its rows give its rank, and their
+-- pivots lie in its columns.
+use mathlib.Core.Path.{_≡_, refl, ap, subst, fun-ext}
+use mathlib.Core.Bool.{Bool, true, false}
+use mathlib.Core.List.{List}
+use Prim.Native.Nat.{ℕ, _+_, _<_}
+use native.Mathlib.Omega.{arith}
+use lib.Dec.{ltb}
+use lib.ListN.{getD}
+use Rattle.algebra.specs.Choice.{choose}
+use Rattle.algebra.specs.Ring.{IsCommutativeRing}
+use Rattle.algebra.specs.Matrix.{Matrix, cut}
+use Rattle.algebra.specs.Quasiinverse.{IsPivotInverse}
+use Rattle.algebra.specs.Echelon.{Worked}
+use Rattle.algebra.proofs.Matrices.{entries}
+use Rattle.algebra.proofs.Echelon.{pivot-below, rank-columns}
+use Rattle.checks.specs.Prime.{IsModulus}
+use Rattle.words.specs.Lengths.{longestRow, widestTable}
+use Rattle.words.specs.Words.{Zeros}
+use Rattle.field.specs.Residue.{reduce, residues}
+use Rattle.field.specs.View.{line}
+use Rattle.field.proofs.Field.{residues-ring}
+use Rattle.field.proofs.Views.{blank-below}
+use Rattle.matrix_echelon.specs.declared.Grid.{Grid}
+use Rattle.matrix_echelon.specs.Grid.{entryOf, gridOf, wide, Readable}
+use Rattle.matrix_echelon.specs.Group.{Pivots}
+use Rattle.matrix_echelon.specs.Forward.{Room, Held, IsRank}
+use Rattle.matrix_echelon.proofs.Groups.{one-not-zero}
+use Rattle.matrix_echelon.proofs.Settle.{modulus-proper}
+use Rattle.matrix_echelon.proofs.WorkRow.{wide-carried}
+
+-- a choice that is made twice
+chosen-twice : {A : Type 0} (b : Bool) (x y z : A) → choose b (choose b x y) z ≡ choose b x z
+chosen-twice true x y z = refl
+chosen-twice false x y z = refl
+
+module _ (p : ℕ) (g : Grid) (a w : List ℕ) (step : ℕ) where
+  pub wide-cut : cut (residues p) (g .rows) (g .columns) (wide p g a w step) ≡ gridOf p g a
+  unfolding cut gridOf wide
+  wide-cut =
+      entries (residues p) _ _
+      (λ i j.
+      ap (λ x. choose (ltb i (g .rows)) x (reduce p 0))
+      (chosen-twice (ltb j (g .columns)) (entryOf p g a i j) (line p w 0 step i) (reduce p 0)))
+
+  -- behind the table stands the carried column
+  pub wide-last : _≡_ {A = ℕ → residues p .Carrier} (λ i. wide p g a w step i (g .columns)) (line p w 0 step)
+  wide-last = fun-ext (λ i. wide-carried p g a w step i)
+
+-- the D of the worked rows is a pivot inverse of the table
+abbrev pub rank-worked : {p : ℕ} {g : Grid} {a : List ℕ} (w : List ℕ) (step : ℕ) {r : ℕ} {E : Matrix (residues p)} {pivot : ℕ → ℕ}
+    → Worked (residues p) (g .rows) (g .columns) (wide p g a w step) r E pivot → IsRank p g a r
+rank-worked {p} {g} {a} w step k =
+    record {
+      D = k .D;
+      I = k .I;
+      J = k .J;
+      inverse =
+          subst (λ X. IsPivotInverse (residues p) (g .rows) (g .columns) X (k .D) (k .I) (k .J)) (wide-cut p g a w step) (k .inverse);
+      rank = k .rank;
+    }
+
+-- fresh rooms hold the worked rows and their pivots
+pub room-fresh : {p : ℕ} (e pivots : List ℕ) → IsModulus p → Zeros widestTable e → Zeros longestRow pivots → Room p e pivots
+room-fresh {p} e pivots ok zeros none =
+    record {
+      rows-in = record { long = zeros .0; below = blank-below p e (omega (arith, modulus-proper ok)) (zeros .1) };
+      pivots-long = none .0;
+    }
+
+-- the pivots lie in the columns
+module _ {p : ℕ} {g : Grid} {i : ℕ} {a w : List ℕ} {step r : ℕ} {e pivots : List ℕ} (s : Readable p g a w step)
+    (h : Held p g i a w step r e pivots) where
+  proper : 1 < p
+  proper = modulus-proper (s .table .is-modulus)
+
+  L : IsCommutativeRing (residues p)
+  L = residues-ring p (omega (arith, proper))
+
+  pub pivot-in-columns : (t : ℕ) → t < r → getD pivots t 0 < g .columns
+  pivot-in-columns = pivot-below (residues p) L (one-not-zero p proper) (h .worked)
+
+  pub pivots-held : Pivots (g .columns + 1) r pivots
+  pivots-held =
+      record {
+        narrow = omega (arith, s .table .columns-most);
+        few = omega (arith, s .table .columns-most, rank-columns (residues p) L (one-not-zero p proper) (h .worked));
+        long = h .room .pivots-long;
+        inside = λ t l. omega (arith, pivot-in-columns t l);
+      }
