@@ -15,7 +15,7 @@ use Rattle.checks.specs.Sizes.{tableSizes, Judges}
 use Rattle.checks.proofs.InOrder.{none-left, _and-then_, _then_, given, fails-in-front, in-order-done, in-order-refused}
 use Rattle.words.specs.Words.{Below}
 use Rattle.matrix.specs.Calls.{tableRank, quasiinverseChecks, quasiinverseCall, kernelChecks, kernelCall, solution, solveChecks, solveCall}
-use Rattle.matrix.specs.Parts.{Checked, Tables, InverseRoom, StoresInverse, StoresBasis, System}
+use Rattle.matrix.specs.Parts.{Checked, InverseRoom, StoresInverse, StoresBasis, System}
 
 -- 1 and 2 hold, and then the first of the others that fails has the kind k
 pub past-sizes : {p m n : ℕ} {cs : Checks Refusal} {k : Refusal} → Given (tableSizes p m n) → FirstFailing cs k
@@ -36,13 +36,9 @@ module _ {p m n : ℕ} {v : Verdict} (told : Judges (tableSizes p m n) v) where
       → FirstFailing (andThen (tableSizes p m n) (λ _. rest)) k
   sizes-failed e = sizes-first (subst (Judges (tableSizes p m n)) e told)
 
--- a table that has passed 1 to 4, and one with D's memory beside it
+-- a table that has passed 1 to 4
 pub passes-all : {p m n : ℕ} {a : List ℕ} → Given (tableSizes p m n) → length a ≡ m * n → Below p a → Checked p m n a
 passes-all s l b = record { is-modulus = s .0; m-most = s .1 .0 .0; n-most = s .1 .0 .1; a-long = l; a-below = b }
-
-pub beside-inverse : {p m n : ℕ} {a d : List ℕ} → Checked p m n a → length d ≡ n * m → Tables p m n a d
-beside-inverse k l =
-    record { is-modulus = k .is-modulus; m-most = k .m-most; n-most = k .n-most; a-long = k .a-long; d-long = l }
 
 -- ---- quasiinverse
 

@@ -11,19 +11,20 @@ use Rattle.algebra.specs.Matrix.{Matrix, sum, unit, product, apply}
 use Rattle.algebra.specs.Quasiinverse.{count}
 use Rattle.algebra.specs.Kernel.{kernelVector}
 use Rattle.algebra.specs.Solve.{mixOf}
+use Rattle.words.specs.Words.{Below}
 use Rattle.field.specs.Residue.{residues, reduce, _⊕_, _⊗_, negated}
 use Rattle.field.specs.View.{table}
 use Rattle.field.specs.Written.{numbers, tabulate}
 use Rattle.checks.specs.Prime.{IsModulus}
 use Rattle.checks.specs.Told.{results}
 use Rattle.checks.specs.Outcome.{outcome}
-use Rattle.matrix.specs.Calls.{tableOf, tableRank, vectorsFrom, firstFrom, quasiinverseCall, kernelCall, solveCall, solution, vectorOf}
-use Rattle.matrix.specs.Parts.{Checked, StoresInverse, InverseRoom, KernelVectors, StoresBasis, marked}
+use Rattle.matrix.specs.Calls.{tableOf, tableRank, vectorsFrom, firstFrom, quasiinverseCall, kernelCall, solveCall, solution, vectorOf, candidate}
+use Rattle.matrix.specs.Parts.{Checked, StoresInverse, InverseRoom, KernelVectors, StoresBasis, FirstUnsolved, marked}
 use Rattle.matrix.specs.Examples.{Becomes, solvedBy, refusedBy, SystemExample, TableExample, tableExamples, systemOutcome, Holds}
 use Rattle.matrix.proofs.Stored.{rank-is}
 use Rattle.matrix.proofs.Answers.{quasiinverse-done, kernel-done, solve-done}
-use Rattle.matrix.proofs.Basis.{basis-filled, vectors-many}
-use Rattle.matrix.proofs.Systems.{Compared, solved-by, refused-by}
+use Rattle.matrix.proofs.Basis.{basis-stored}
+use Rattle.matrix.proofs.Systems.{solved-by, refused-by}
 use Rattle.matrix.proofs.Checker.{_and_, every, everyBelow, isPivotInverse, both, every-member}
 use Rattle.matrix.proofs.CheckedTables.{areBelow, all-below, areSame, all-same, areMarks, isFirstDifference, first-difference, isPrime}
 use Rattle.matrix.proofs.CheckedTables.{isTable, table-checked, same, holdsInverse, quasiinverse-checked, inverse-checked}
@@ -96,16 +97,12 @@ module _ (e : TableExample) (checks : Checked (e .p) (e .m) (e .n) (e .a))
 
   -- kernel
   module _ (long : length vectors + rank ≡ n) (filled : flatten vectors ≡ vectorsFrom m n (marked columns) (D e) (A e) 0 n) where
-    vectors-so : KernelVectors p m n a d columns (flatten vectors ++ replicate (n * rank) 0) (length vectors)
+    vectors-so : KernelVectors m n (D e) (A e) columns (flatten vectors ++ replicate (n * rank) 0) (length vectors)
     vectors-so =
         record { filled = ap₂ (λ l r. l ++ replicate (n * r) 0) filled (sym many); many = ap (λ r. length vectors + r) many ∙ long }
 
     basis-so : (ok : IsModulus p) → StoresBasis p ok m n a (flatten vectors ++ replicate (n * rank) 0) (length vectors)
-    basis-so ok =
-        record {
-          filled = basis-filled p ok m n a d columns rows _ (length vectors) (stored ok) vectors-so;
-          many = vectors-many p ok m n a d columns rows _ (length vectors) (stored ok) vectors-so;
-        }
+    basis-so ok = basis-stored p ok m n a (quasiinverse-checked p m n a d columns rows ok inverse) vectors-so
 
     spans : (basis : List ℕ) → length basis ≡ n * n
         → kernelCall p m n a basis ≡ outcome (results (length vectors)) (flatten vectors ++ replicate (n * rank) 0)
@@ -113,36 +110,36 @@ module _ (e : TableExample) (checks : Checked (e .p) (e .m) (e .n) (e .a))
 
   -- solve
   module _ (w : List ℕ) (t : isSystem e w ≡ true) where
-    compared : Compared p m n a d w (candidateOf e w) (imageOf e w) (differing e w)
+    -- w passes the checks
+    passes-checks : (length w ≡ m) × Below p w
     unfolding isSystem
-    compared =
-        let (t, first) = both _ _ t in
-        let (long, below) = both _ _ t in
-        record {
-          w-long = eqb-true _ _ long;
-          w-below = all-below p w below;
-          x-is = refl;
-          image-is = refl;
-          first = first-difference _ _ _ first;
-        }
+    passes-checks = let (long, below) = both _ _ (both _ _ t .0) in (eqb-true _ _ long, all-below p w below)
+
+    first : FirstUnsolved p m n a (candidateOf e w) w (differing e w)
+    unfolding isSystem
+    first = first-difference _ _ _ (both _ _ t .1)
+
+    candidate-so : (ok : IsModulus p) → candidateOf e w ≡ numbers n (candidate p ok m n a w)
+    candidate-so ok = ap (λ X. numbers n (apply (residues p) m X (vectorOf p w))) (stored ok .is-D)
 
     answers : (o : Becomes) → becomesSo e w o ≡ true → (z : List ℕ) (ok : IsModulus p)
         → systemOutcome m rank o z ≡ solution p ok m n a w z
     unfolding becomesSo
     answers (solvedBy x) s z ok =
         let (nowhere, same) = both _ _ s in
-        solved-by p ok m n a d w z _ _ _ (stored ok .is-D) compared rank x (replicate m 0) (leb-true _ _ nowhere) (rank-so ok)
-        (all-same _ _ same) refl
+        solved-by p ok m n a w z _ _ (passes-checks .0) (passes-checks .1) (candidate-so ok) first rank x (replicate m 0) (leb-true _ _ nowhere)
+        (rank-so ok) (all-same _ _ same) refl
     answers (refusedBy u) s z ok =
         let (somewhere, same) = both _ _ s in
-        refused-by p ok m n a d w z _ _ _ (stored ok .is-D) compared u (ltb-true _ _ somewhere) (all-same _ _ same)
+        refused-by p ok m n a w z _ _ (passes-checks .0) (passes-checks .1) (candidate-so ok) first u (ltb-true _ _ somewhere)
+        (all-same _ _ same ∙ ap (λ X. numbers m (mixOf (residues p) n (A e) X (differing e w))) (stored ok .is-D))
 
     solves : (o : Becomes) → becomesSo e w o ≡ true → (z u : List ℕ) → length z ≡ n → length u ≡ m
         → solveCall p m n a w z u ≡ systemOutcome m rank o z
     solves o s z u z-long u-long =
         sym
         (solve-done p m n a w z u _ checks
-        (record { w-long = compared .w-long; w-below = compared .w-below; z-long = z-long; u-long = u-long })
+        (record { w-long = passes-checks .0; w-below = passes-checks .1; z-long = z-long; u-long = u-long })
         (answers o s z))
 
 passed-holds : (e : TableExample) → passes e ≡ true → Holds e

@@ -6,8 +6,11 @@ pub mod Theorems
 pub mod KernelCall
 pub mod Answers
 pub mod SolveCall
-pub mod Systems
 pub mod Basis
+pub mod Grids
+pub mod FreeColumns
+pub mod Mix
+pub mod Systems
 pub mod Checker
 pub mod CheckedTables
 pub mod InverseCall

@@ -2,34 +2,30 @@
 -- marks sums to the number of members, and products of tables are sums of products along lines of memory.
 use mathlib.Core.Path.{_≡_, sym, ap, ap₂, _∙_, fun-ext}
 use mathlib.Core.Bool.{true, false, not}
-use mathlib.Core.List.{List, _++_}
+use mathlib.Core.List.{List}
 use Prim.Native.Nat.{ℕ, zero, suc, _+_, _*_, _-_, _/_, _%_, _≤_, _<_}
-use native.Mathlib.Nat.{zero-add, mul-one, mul-zero, mod-lt, div-lt-iff-lt-mul, div-add-mod', pos-of-ne-zero, le-step, lt-suc-self, mul-le-mul, mul-le-mul-right}
+use native.Mathlib.Nat.{zero-add, mul-zero, mod-lt, div-lt-iff-lt-mul, div-add-mod', pos-of-ne-zero, le-step, lt-suc-self, mul-le-mul, mul-le-mul-right}
 use native.Mathlib.Omega.{arith}
 use lib.ListN.{length, getD, take, drop, replicate, length-take, length-drop, length-replicate, getD-replicate}
 use borrow.Author.Tests.{eq-eqb, ne-eqb}
-use lib.Seq.{getD-take, getD-drop, ext-getD, take-at}
+use lib.Seq.{getD-take, getD-drop, ext-getD}
 use Rattle.checks.specs.Largest.{largest}
 use Rattle.algebra.specs.Choice.{choose}
-use Rattle.algebra.specs.Matrix.{Vector, Matrix, sum, unit, product, apply}
+use Rattle.algebra.specs.Matrix.{Vector, Matrix, sum, apply}
 use Rattle.algebra.specs.Quasiinverse.{Marks, count}
-use Rattle.algebra.specs.Kernel.{kernelVector}
-use Rattle.algebra.specs.Solve.{mixOf}
-use Rattle.algebra.proofs.Rings.{zero-times}
 use Rattle.algebra.proofs.Sums as sums
 use Rattle.algebra.proofs.Applied.{apply-same}
-use Rattle.field.specs.Residue.{residues, reduce, _⊕_, _⊗_, negated}
+use Rattle.field.specs.Residue.{residues, reduce, _⊗_}
 use Rattle.field.specs.View.{line, table}
 use Rattle.words.specs.Words.{Below, Blank}
 use Rattle.field.specs.Written.{tabulate, numbers, rowsOf, marksOf}
 use Rattle.field.proofs.Residues.{reduce-small, reduce-value}
-use Rattle.field.proofs.Field.{residues-ring}
 use Rattle.field.proofs.Totals.{total, total-zero, total-suc}
 use Rattle.field.proofs.Views.{table-entry}
 use Rattle.words.proofs.Walk.{Walked}
 use Rattle.field.proofs.Written.{getD-tabulate, is-tabulate}
 use Rattle.matrix.specs.Calls.{vectorOf}
-use Rattle.matrix.specs.Parts.{crossed, marked}
+use Rattle.matrix.specs.Parts.{marked}
 
 -- numbers below p that read as the table D, n rows and m columns, are D written row by row
 pub rows-written : (p n m : ℕ) (d : List ℕ) (D : Matrix (residues p)) → Below p d → length d ≡ n * m → table p d 0 m n m ≡ D → d ≡ rowsOf n m D
@@ -76,16 +72,16 @@ pub marked-yes : (xs : List ℕ) (c : ℕ) → (getD xs c 0 ≡ 0 → ⊥) → m
 unfolding marked
 marked-yes xs c e = ap not (ne-eqb (getD xs c 0) 0 e)
 
--- a row of a table is a line of step 1, and a column a line of the table's width
+-- a row of a table is a line of step 1
 pub row-line : (p : ℕ) (x : List ℕ) (m n i t : ℕ) → i < m → t < n → table p x 0 n m n i t ≡ line p x (i * n) 1 t
 unfolding line
 row-line p x m n i t h l =
     table-entry p x 0 n m n i t h l ∙ ap (λ k. reduce p (getD x k 0)) (let e : 0 + i * n + t ≡ i * n + t * 1 = omega arith in e)
 
-pub column-line : (p : ℕ) (x : List ℕ) (m n j t : ℕ) → t < m → j < n → table p x 0 n m n t j ≡ line p x j n t
-unfolding line
-column-line p x m n j t h l =
-    table-entry p x 0 n m n t j h l ∙ ap (λ k. reduce p (getD x k 0)) (let e : 0 + t * n + j ≡ j + t * n = omega arith in e)
+-- the numbers of a list are a line of it
+pub vector-line : (p : ℕ) (w : List ℕ) → line p w 0 1 ≡ vectorOf p w
+unfolding line vectorOf
+vector-line p w = fun-ext (λ t. ap (λ q. reduce p (getD w q 0)) (let e : 0 + t * 1 ≡ t = omega arith in e))
 
 -- a row, and a place of it, lies in a table of m rows and n columns
 pub row-inside : (i m n : ℕ) → i < m → i * n + n ≤ m * n
@@ -98,16 +94,11 @@ place-inside i j m n h l = omega (arith, row-inside i m n h)
 pub table-most : (n m : ℕ) → n ≤ largest → m ≤ largest → n * m ≤ largest * largest
 table-most n m h l = omega (arith, mul-le-mul h l)
 
--- a table that was written to the front of a room, read again
-pub table-again : (p m n : ℕ) (d rest : List ℕ) {D : Matrix (residues p)} → length d ≡ n * m → table p d 0 m n m ≡ D
-    → table p (take (n * m) (d ++ rest)) 0 m n m ≡ D
-table-again p m n d rest e h = ap (λ l. table p l 0 m n m) (take-at d rest (n * m) e) ∙ h
-
 -- k numbers of x from s on, as the code lends them, are a line of x
 pub part-long : (x : List ℕ) (s k : ℕ) → s + k ≤ length x → length (take (s + k - s) (drop s x)) ≡ k
 part-long x s k h = omega (arith, length-take (s + k - s) (drop s x), length-drop s x)
 
-part-line : (p : ℕ) (x : List ℕ) (s k t : ℕ) → t < k → line p (take (s + k - s) (drop s x)) 0 1 t ≡ line p x s 1 t
+pub part-line : (p : ℕ) (x : List ℕ) (s k t : ℕ) → t < k → line p (take (s + k - s) (drop s x)) 0 1 t ≡ line p x s 1 t
 unfolding line
 part-line p x s k t h =
     ap (reduce p)
@@ -115,64 +106,20 @@ part-line p x s k t h =
     ∙ getD-drop s x (0 + t * 1) 0
     ∙ ap (λ q. getD x q 0) (let e : s + (0 + t * 1) ≡ s + t * 1 = omega arith in e))
 
--- the number that is the sum of products along such a part
-pub dot-of-part : (p : ℕ) (x : List ℕ) (i k : ℕ) (y : List ℕ) (j width r : ℕ) → i * k + k ≤ length x
+-- the sum of products along a row, as the code lends it, is that row's number of the table applied to a vector
+pub apply-number : (p m k : ℕ) (x w : List ℕ) (i r : ℕ) → i < m → i * k + k ≤ length x
     → r
     ≡ (sum (residues p) (length (take (i * k + k - i * k) (drop (i * k) x)))
-    (λ t. line p (take (i * k + k - i * k) (drop (i * k) x)) 0 1 t ⊗ line p y j width t)) .value
-    → r ≡ (crossed p k x i y j width) .value
-unfolding crossed
-dot-of-part p x i k y j width r h e =
+    (λ t. line p (take (i * k + k - i * k) (drop (i * k) x)) 0 1 t ⊗ line p w 0 1 t)) .value
+    → r ≡ (apply (residues p) k (table p x 0 k m k) (vectorOf p w) i) .value
+unfolding apply
+apply-number p m k x w i r h inside e =
     let s = i * k in
     e
     ∙ ap (λ v. v .value)
-    (ap (λ q. sum (residues p) q (λ t. line p (take (s + k - s) (drop s x)) 0 1 t ⊗ line p y j width t)) (part-long x s k h)
-    ∙ sums.sum-same (residues p) k _ _ (λ t b. ap (λ v. v ⊗ line p y j width t) (part-line p x s k t b)))
-
--- which is 0 where the part is zeros
-pub zero-of-part : (p : ℕ) (x : List ℕ) (i k : ℕ) (y : List ℕ) (j width : ℕ) → 0 < p → i * k + k ≤ length x
-    → Blank (take (i * k + k - i * k) (drop (i * k) x)) → 0 ≡ (crossed p k x i y j width) .value
-unfolding line
-zero-of-part p x i k y j width positive h blank =
-    dot-of-part p x i k y j width 0 h
-    (sym (reduce-small p 0 positive)
-    ∙ ap (λ v. v .value)
-    (sym
-    (sums.sum-zeros (residues p) (residues-ring p positive) (length (take (i * k + k - i * k) (drop (i * k) x))) _
-    (λ t b. ap (λ v. reduce p v ⊗ line p y j width t) (blank (0 + t * 1)) ∙ zero-times (residues p) (residues-ring p positive) _))))
-
--- the entry of a product of tables: a row of the one along a column of the other
-pub product-lines : (p m k n : ℕ) (x y : List ℕ) (i j : ℕ) → i < m → j < n
-    → product (residues p) k (table p x 0 k m k) (table p y 0 n k n) i j ≡ crossed p k x i y j n
-unfolding product crossed
-product-lines p m k n x y i j h l =
-    sums.sum-same (residues p) k _ _ (λ t b. ap₂ _⊗_ (row-line p x m k i t h b) (column-line p y k n j t b l))
-
--- the numbers of 1 - D A and of 1 - A D, for a of m rows and n columns and d of n rows and m columns
-pub kernel-number : (p m n : ℕ) (a d : List ℕ) (c j r : ℕ) → c < n → j < n
-    → r ≡ (unit (residues p) j c ⊕ negated (crossed p m d j a c n)) .value
-    → r ≡ (kernelVector (residues p) m (table p d 0 m n m) (table p a 0 n m n) c j) .value
-unfolding kernelVector
-kernel-number p m n a d c j r h l e =
-    e ∙ ap (λ v. (unit (residues p) j c ⊕ negated v) .value) (sym (product-lines p n m n d a j c l h))
-
-pub mix-number : (p m n : ℕ) (a d : List ℕ) (y t r : ℕ) → y < m → t < m
-    → r ≡ (unit (residues p) y t ⊕ negated (crossed p n a y d t m)) .value
-    → r ≡ (mixOf (residues p) n (table p a 0 n m n) (table p d 0 m n m) y t) .value
-unfolding mixOf
-mix-number p m n a d y t r h l e =
-    e ∙ ap (λ v. (unit (residues p) y t ⊕ negated v) .value) (sym (product-lines p m n m a d y t h l))
-
--- the numbers of a table applied to a vector
-pub apply-number : (p m k : ℕ) (x w : List ℕ) (i r : ℕ) → i < m → r ≡ (crossed p k x i w 0 1) .value
-    → r ≡ (apply (residues p) k (table p x 0 k m k) (vectorOf p w) i) .value
-unfolding apply vectorOf crossed line
-apply-number p m k x w i r h e =
-    e
-    ∙ ap (λ v. v .value)
-    (sym
-    (sums.sum-same (residues p) k _ _
-    (λ t b. ap₂ _⊗_ (row-line p x m k i t h b) (ap (λ q. reduce p (getD w q 0)) (sym (zero-add (t * 1) ∙ mul-one t))))))
+    (ap (λ q. sum (residues p) q (λ t. line p (take (s + k - s) (drop s x)) 0 1 t ⊗ line p w 0 1 t)) (part-long x s k inside)
+    ∙ sums.sum-same (residues p) k _ _
+    (λ t b. ap₂ _⊗_ (part-line p x s k t b ∙ sym (row-line p x m k i t h b)) (λ q. vector-line p w q t)))
 
 -- a loop that has written f's values to n places has written the list of them
 pub walked-numbers : (j n : ℕ) (f : ℕ → ℕ) (xs ys : List ℕ) → j ≡ n → length xs ≡ n → Walked j f xs ys → ys ≡ tabulate n f

@@ -37,7 +37,7 @@ module _ (p : ℕ) (ok : IsModulus p) (m n : ℕ) (a : List ℕ) where
         ∙ sym (rank-counted (residues p) (field p ok) (combinations p ok) (tableOf p m n a) (λ i j h l. refl) Q)
 
     -- it is D
-    inverse-so : D ≡ inverseOf p ok m n a
+    pub inverse-so : D ≡ inverseOf p ok m n a
     inverse-so = inverse-is (residues p) (field p ok) (combinations p ok) (givenInverse p ok m n a) Q
 
   -- D with I and J is a pivot inverse of the table

@@ -1,29 +1,35 @@
 -- How the numbers that the code compares decide a system: where A(Dw) and w agree at every place they are equal, and the
--- first place where they differ is 01's row y.
-use mathlib.Core.Path.{_≡_, sym, ap, ap₂, _∙_, subst}
-use mathlib.Core.Bool.{Bool}
+-- first place where they differ is 01's row y. Where the rank is the number of rows there is no such place.
+use mathlib.Core.Path.{_≡_, refl, sym, ap, ap₂, _∙_, subst}
+use mathlib.Core.Bool.{true}
 use mathlib.Core.List.{List}
 use Prim.Native.Nat.{ℕ, _≤_, _<_}
 use native.Mathlib.Omega.{arith}
 use lib.ListN.{length, getD, replicate}
 use Rattle.algebra.specs.Matrix.{Vector, apply}
+use Rattle.algebra.specs.Quasiinverse.{IsPivotInverse}
 use Rattle.algebra.specs.Solve.{mixOf}
+use Rattle.algebra.proofs.Applied.{apply-product, unit-apply}
+use Rattle.algebra.proofs.Independent.{all-marked}
+use Rattle.algebra.proofs.Sums.{sum-same}
 use Rattle.checks.specs.declared.Refusal.the-variants.{Insoluble}
 use Rattle.checks.specs.Told.{results, refused}
-use Rattle.checks.specs.Outcome.{Outcome, outcome}
+use Rattle.checks.specs.Outcome.{outcome}
 use Rattle.checks.specs.Prime.{IsModulus}
-use Rattle.field.specs.Residue.{residues, reduce}
-use Rattle.field.specs.View.{table}
-use Rattle.words.specs.Words.{Below}
+use Rattle.words.specs.Words.{Below, FirstDifference}
+use Rattle.field.specs.Residue.{residues, reduce, _⊗_}
+use Rattle.field.specs.View.{line}
 use Rattle.field.specs.Written.{numbers}
+use Rattle.field.proofs.Field.{residues-ring}
 use Rattle.field.proofs.Residues.{reduce-small, reduce-value}
-use Rattle.field.proofs.Written.{length-tabulate, getD-tabulate}
+use Rattle.field.proofs.Written.{length-tabulate, getD-tabulate, is-tabulate}
+use Rattle.matrix_echelon.specs.Reduced.{SolutionFound}
 use Rattle.matrix.specs.Calls.{tableOf, tableRank, inverseOf, vectorOf, candidate, firstRow, solution}
-use Rattle.matrix.specs.Parts.{solveTold}
-use Rattle.words.specs.Words.{FirstDifference}
+use Rattle.matrix.specs.Parts.{plain, FirstUnsolved}
 use Rattle.matrix.proofs.Theorems.{first-row-differs, first-row-first}
 use Rattle.matrix.proofs.SolveCall.{solution-found, solution-none}
-use Rattle.matrix.proofs.Memory.{apply-read}
+use Rattle.matrix.proofs.Memory.{vector-line, apply-read}
+use Rattle.matrix.proofs.Grids.{plain-pivots, plain-inverse}
 
 module _ (p : ℕ) (ok : IsModulus p) (m n : ℕ) (a w z : List ℕ) where
   -- A(Dw)
@@ -63,42 +69,61 @@ module _ (p : ℕ) (ok : IsModulus p) (m n : ℕ) (a w z : List ℕ) where
           solution-none p ok m n a w z (λ s. differs h (s y h))
           ∙ ap (λ k. outcome (refused Insoluble) (z, numbers m (mixOf (residues p) n (tableOf p m n a) (inverseOf p ok m n a) k))) (first-row h)
 
--- what the code has in memory: D in d, Dw in x, A(Dw) in its image, and y where that and w first differ
-pub record Compared (p : ℕ) (m n : ℕ) (a d w x image : List ℕ) (y : ℕ) : Type 0 where
-  pub w-long : length w ≡ m
-  pub w-below : Below p w
-  pub x-is : x ≡ numbers n (apply (residues p) m (table p d 0 m n m) (vectorOf p w))
-  pub image-is : image ≡ numbers m (apply (residues p) n (tableOf p m n a) (vectorOf p x))
-  pub first : FirstDifference image w y
-
-module _ (p : ℕ) (ok : IsModulus p) (m n : ℕ) (a d w z x image : List ℕ) (y : ℕ)
-    (is-D : table p d 0 m n m ≡ inverseOf p ok m n a) (h : Compared p m n a d w x image y) where
-  candidate-written : x ≡ numbers n (candidate p ok m n a w)
-  candidate-written = h .x-is ∙ ap (λ X. numbers n (apply (residues p) m X (vectorOf p w))) is-D
-
-  image-written : image ≡ numbers m (apply (residues p) n (tableOf p m n a) (candidate p ok m n a w))
-  image-written =
-      h .image-is
-      ∙ ap (λ l. numbers m (apply (residues p) n (tableOf p m n a) (vectorOf p l))) candidate-written
-      ∙ ap (numbers m) (apply-read p n (tableOf p m n a) (candidate p ok m n a w))
-
+-- what the code has in memory: Dw in x, and y where A x and w first differ
+module _ (p : ℕ) (ok : IsModulus p) (m n : ℕ) (a w z x : List ℕ) (y : ℕ) (long : length w ≡ m) (below : Below p w)
+    (x-is : x ≡ numbers n (candidate p ok m n a w)) (first : FirstUnsolved p m n a x w y) where
   first-there : FirstDifference (numbers m (apply (residues p) n (tableOf p m n a) (candidate p ok m n a w))) w y
-  first-there = subst (λ l. FirstDifference l w y) image-written (h .first)
+  first-there =
+      subst (λ l. FirstDifference l w y)
+      (ap (λ l. numbers m (apply (residues p) n (tableOf p m n a) (vectorOf p l))) x-is
+      ∙ ap (numbers m) (apply-read p n (tableOf p m n a) (candidate p ok m n a w)))
+      first
 
   -- the two answers
   pub solved-by : (r : ℕ) (z′ u′ : List ℕ) → m ≤ y → r ≡ tableRank p ok m n a → z′ ≡ x → u′ ≡ replicate m 0
       → outcome (results r) (z′, u′) ≡ solution p ok m n a w z
   solved-by r z′ u′ l rank same zeros =
-      (λ i. outcome (results (rank i)) ((same ∙ candidate-written) i, zeros i))
-      ∙ sym (nowhere p ok m n a w z (h .w-long) (h .w-below) y first-there l)
+      (λ i. outcome (results (rank i)) ((same ∙ x-is) i, zeros i)) ∙ sym (nowhere p ok m n a w z long below y first-there l)
 
-  pub refused-by : (u′ : List ℕ) → y < m → u′ ≡ numbers m (mixOf (residues p) n (tableOf p m n a) (table p d 0 m n m) y)
+  pub refused-by : (u′ : List ℕ) → y < m → u′ ≡ numbers m (mixOf (residues p) n (tableOf p m n a) (inverseOf p ok m n a) y)
       → outcome (refused Insoluble) (z, u′) ≡ solution p ok m n a w z
   refused-by u′ l e =
-      ap (λ u. outcome (refused Insoluble) (z, u)) (e ∙ ap (λ X. numbers m (mixOf (residues p) n (tableOf p m n a) X y)) is-D)
-      ∙ sym (somewhere p ok m n a w z (h .w-long) (h .w-below) y first-there l)
+      ap (λ u. outcome (refused Insoluble) (z, u)) e ∙ sym (somewhere p ok m n a w z long below y first-there l)
 
--- what is told of a system whose answer is known, by the rank where it is solved
-pub told-so : (r : ℕ) (b : Bool) {k : ℕ} {t : Bool} {lent : List ℕ × List ℕ} {x : Outcome (List ℕ × List ℕ)} → r ≡ k → t ≡ b
-    → outcome (solveTold k t) lent ≡ x → outcome (solveTold r b) lent ≡ x
-told-so r b {lent = lent} e f h = ap₂ (λ q c. outcome (solveTold q c) lent) e (sym f) ∙ h
+module _ (p : ℕ) (m n : ℕ) (a w x : List ℕ) {r : ℕ} (s : SolutionFound p (plain m n) a w 1 r x) where
+  -- the solution by the forward elimination is Dw
+  pub candidate-found : (ok : IsModulus p) → x ≡ numbers n (candidate p ok m n a w)
+  candidate-found ok =
+      s .is-solution
+      ∙ ap₂ (λ X v. numbers n (apply (residues p) m X v)) (plain-inverse p m n a (s .rank) ok) (vector-line p w)
+
+  pub solution-long : length x ≡ n
+  solution-long = ap length (s .is-solution) ∙ length-tabulate n _
+
+  -- where the rank is the number of rows all rows are in J, so A(Dw) is w
+  pub full-solved : IsModulus p → length w ≡ m → Below p w → r ≡ m → FirstUnsolved p m n a x w m
+  unfolding apply vectorOf
+  full-solved ok long below full =
+      subst (λ l. FirstDifference l w m) (is-tabulate m _ w long each)
+      record { within = omega arith; before = λ i h. refl; differs = λ h. absurd (omega arith) }
+    where
+      Q : IsPivotInverse (residues p) m n (tableOf p m n a) (s .rank .D) (s .rank .I) (s .rank .J)
+      Q = plain-pivots p m n a (s .rank)
+
+      members : (y : ℕ) → y < m → s .rank .J y ≡ true
+      members = all-marked m (s .rank .J) (sym (Q .equally-many) ∙ sym (s .rank .rank) ∙ full)
+
+      same : (i : ℕ) → i < m → apply (residues p) n (tableOf p m n a) (vectorOf p x) i ≡ vectorOf p w i
+      same i h =
+          let ring = residues-ring p (omega (arith, ok .prime .two-or-more)) in
+          let D = s .rank .D in
+          let v = line p w 0 1 in
+          ap (λ l. apply (residues p) n (tableOf p m n a) (vectorOf p l) i) (s .is-solution)
+          ∙ ap (λ l. l i) (apply-read p n (tableOf p m n a) (apply (residues p) m D v))
+          ∙ sym (apply-product (residues p) ring m n (tableOf p m n a) D v i)
+          ∙ sum-same (residues p) m _ _ (λ t l. ap (λ c. c ⊗ v t) (Q .fixes-row i t (members i h)))
+          ∙ unit-apply (residues p) ring m v i h
+          ∙ ap (λ l. l i) (vector-line p w)
+
+      each : (i : ℕ) → i < m → getD w i 0 ≡ (apply (residues p) n (tableOf p m n a) (vectorOf p x) i) .value
+      each i h = sym (ap (λ v. v .value) (same i h) ∙ reduce-small p (getD w i 0) (below i (omega arith)))

@@ -1,19 +1,21 @@
-// What the calls on tables are made of: the quasiinverse of a table that has passed the checks, and
-// products of its rows and columns with those of D. The calls of `matrix_calls` meet what each requires.
+// What the calls on tables are made of: the quasiinverse of a table that has passed the checks, the vectors that its reduced form
+// gives, and the mix of a row. The calls of `matrix_calls` meet what each requires.
 ghost use mathlib.Core.Path.{_≡_};
-ghost use Prim.Native.Nat.{ℕ, _+_, _*_, _≤_, _<_};
+ghost use Prim.Native.Nat.{ℕ, _*_, _≤_, _<_};
 ghost use lib.ListN.{length, getD};
-ghost use Rattle.algebra.specs.Matrix.{unit, apply};
+ghost use Rattle.algebra.specs.Matrix.{apply};
 ghost use Rattle.algebra.specs.Kernel.{kernelVector};
 ghost use Rattle.algebra.specs.Solve.{mixOf};
 ghost use Rattle.checks.specs.Largest.{largest};
 ghost use Rattle.checks.specs.Prime.{IsModulus};
-ghost use Rattle.field.specs.Residue.{residues, _⊕_, negated};
+ghost use Rattle.field.specs.Residue.{residues};
 ghost use Rattle.field.specs.View.{table};
 ghost use Rattle.field.specs.Written.{numbers};
 ghost use Rattle.field.proofs.Totals.{total};
-ghost use Rattle.matrix.specs.Calls.{vectorOf};
-ghost use Rattle.matrix.specs.Parts.{Tables, Crossing, crossed, KernelVectors, Checked, InverseRoom, StoresInverse};
+ghost use Rattle.matrix.specs.Calls.{tableOf, inverseOf, vectorOf};
+ghost use Rattle.matrix.specs.Parts.{ReducedRows, IsFree, KernelVectors, Checked, InverseRoom, StoresInverse};
+use matrix_echelon::Grid;
+use matrix_echelon::reduced;
 
 // The sum of marks, each 0 or 1.
 pub fn count_marks(xs: &[u32]) -> u32
@@ -29,51 +31,75 @@ pub fn count_marks(xs: &[u32]) -> u32
     r
 }
 
-// The entry at row i and column j of X Y, where a row of x has k numbers and a row of y `width`. Many rows of D are zeros.
-fn product_entry(p: u32, k: usize, x: &[u32], i: usize, y: &[u32], j: usize, width: usize) -> u32
-    requires { ⌜ Crossing p k (now x) i (now y) j width ⌝ }
-    ensures { λ r. ⌜ r ≡ (crossed p k (now (x .entry)) i (now (y .entry)) j width) .value ⌝ }
+// The number at j of the kernel vector of column c, which has no pivot: at a pivot the negative of what its row has at c, else 1
+// at c itself and 0 elsewhere.
+fn kernel_entry(p: u32, n: usize, at: &[u32], e: &[u32], c: usize, j: usize) -> u32
+    requires { ⌜ ReducedRows p n (now at) (now e) × IsFree n (now at) c × (j < n) ⌝ }
+    ensures { λ r.
+        ⌜ ((h : ReducedRows p n (now (at .entry)) (now (e .entry))) → r ≡ (kernelVector (residues p) (h .m) (h .D) (h .A) c j) .value) ⌝ }
 {
-    let start = i * k;
-    let end = start + k;
-    let row = &x[start..end];
-    if words::all_zero(row) {
-        return 0;
+    let row = at[j] as usize;
+    if row == 0 {
+        return if j == c { 1 } else { 0 };
     }
-    field::sums::dot(p, row, y, j, width)
+    field::arith::minus(p, 0, e[(row - 1) * (n + 1) + c])
 }
 
-// The entry at row i and column j of 1 - X Y.
-fn rest_entry(p: u32, k: usize, x: &[u32], i: usize, y: &[u32], j: usize, width: usize) -> u32
-    requires { ⌜ Crossing p k (now x) i (now y) j width ⌝ }
-    ensures { λ r. ⌜ r ≡ (unit (residues p) i j ⊕ negated (crossed p k (now (x .entry)) i (now (y .entry)) j width)) .value ⌝ }
-{
-    let own = if i == j { 1 } else { 0 };
-    field::arith::minus(p, own, product_entry(p, k, x, i, y, j, width))
-}
-
-// Column c of 1 - D A.
-fn kernel_vector(p: u32, m: usize, n: usize, a: &[u32], d: &[u32], c: usize, out: &mut [u32])
-    requires { ⌜ Tables p m n (now a) (now d) × (c < n) × (length (now out) ≡ n) ⌝ }
-    ensures { λ _. ⌜ now (out .exit) ≡ numbers n (kernelVector (residues p) m (table p (now (d .entry)) 0 m n m) (table p (now (a .entry)) 0 n m n) c) ⌝ }
+// The kernel vector of column c, which has no pivot: column c of 1 - D A.
+fn kernel_vector(p: u32, n: usize, at: &[u32], e: &[u32], c: usize, out: &mut [u32])
+    requires { ⌜ ReducedRows p n (now at) (now e) × IsFree n (now at) c × (length (now out) ≡ n) ⌝ }
+    ensures { λ _.
+        ⌜ ((h : ReducedRows p n (now (at .entry)) (now (e .entry))) → now (out .exit) ≡ numbers n (kernelVector (residues p) (h .m) (h .D) (h .A) c)) ⌝ }
 {
     let mut j = 0;
     while j < n {
-        out[j] = rest_entry(p, m, d, j, a, c, n);
+        out[j] = kernel_entry(p, n, at, e, c, j);
         j += 1;
     }
 }
 
-// Row y of 1 - A D.
-pub fn row_mix(p: u32, m: usize, n: usize, a: &[u32], d: &[u32], y: usize, u: &mut [u32])
-    requires { ⌜ Tables p m n (now a) (now d) × (y < m) × (length (now u) ≡ m) ⌝ }
-    ensures { λ _. ⌜ now (u .exit) ≡ numbers m (mixOf (residues p) n (table p (now (a .entry)) 0 n m n) (table p (now (d .entry)) 0 m n m) y) ⌝ }
+// The kernel vectors of the columns that have no pivot, vector after vector at the front of the basis, and how many they are; the
+// rest of the basis becomes 0. at[j] tells which row of e has its pivot at j.
+pub fn kernel_vectors(p: u32, n: usize, at: &[u32], e: &[u32], basis: &mut [u32]) -> u32
+    requires { ⌜ ReducedRows p n (now at) (now e) × (length (now basis) ≡ n * n) ⌝ }
+    ensures { λ r.
+        ⌜ ((h : ReducedRows p n (now (at .entry)) (now (e .entry)))
+        → KernelVectors (h .m) n (h .D) (h .A) (now (at .entry)) (now (basis .exit)) r) ⌝ }
 {
-    let mut t = 0;
-    while t < m {
-        u[t] = rest_entry(p, n, a, y, d, t, m);
-        t += 1;
+    let mut k = 0;
+    let mut c = 0;
+    while c < n {
+        if at[c] == 0 {
+            let from = k * n;
+            let end = from + n;
+            kernel_vector(p, n, at, e, c, &mut basis[from..end]);
+            k += 1;
+        }
+        c += 1;
     }
+    let rest = k * n;
+    words::clear(&mut basis[rest..]);
+    k as u32
+}
+
+// Row y of 1 - A D. Row y of A D is row y of A as a combination of the rows of J: the solution of the turned system that has row y
+// as its right side.
+pub fn row_mix(p: u32, m: usize, n: usize, a: &[u32], y: usize, u: &mut [u32])
+    requires { ⌜ Checked p m n (now a) × (y < m) × (length (now u) ≡ m) ⌝ }
+    ensures { λ _. ⌜ ((ok : IsModulus p) → now (u .exit) ≡ numbers m (mixOf (residues p) n (tableOf p m n (now (a .entry))) (inverseOf p ok m n (now (a .entry))) y)) ⌝ }
+{
+    let turned = Grid {
+        start: 0,
+        down: 1,
+        along: n,
+        rows: n,
+        columns: m,
+    };
+    let from = y * n;
+    let end = from + n;
+    reduced::solution(p, turned, a, &a[from..end], 1, u);
+    matrix_mul::negate(p, u);
+    u[y] = field::arith::plus(p, u[y], 1);
 }
 
 // X w, where x has `rows` rows of k numbers.
@@ -83,39 +109,11 @@ pub fn times_vector(p: u32, rows: usize, k: usize, x: &[u32], w: &[u32], out: &m
 {
     let mut i = 0;
     while i < rows {
-        out[i] = product_entry(p, k, x, i, w, 0, 1);
+        let start = i * k;
+        let end = start + k;
+        out[i] = field::sums::dot(p, &x[start..end], w, 0, 1);
         i += 1;
     }
-}
-
-// The kernel vectors of the columns that are not marked, vector after vector at the front of the basis, and how many they are;
-// the rest of the basis becomes 0.
-pub fn kernel_vectors(
-    p: u32,
-    m: usize,
-    n: usize,
-    a: &[u32],
-    d: &[u32],
-    columns: &[u32],
-    basis: &mut [u32],
-) -> u32
-    requires { ⌜ Tables p m n (now a) (now d) × (length (now columns) ≡ n) × (length (now basis) ≡ n * n) ⌝ }
-    ensures { λ r. ⌜ KernelVectors p m n (now (a .entry)) (now (d .entry)) (now (columns .entry)) (now (basis .exit)) r ⌝ }
-{
-    let mut k = 0;
-    let mut c = 0;
-    while c < n {
-        if columns[c] == 0 {
-            let at = k * n;
-            let end = at + n;
-            kernel_vector(p, m, n, a, d, c, &mut basis[at..end]);
-            k += 1;
-        }
-        c += 1;
-    }
-    let rest = k * n;
-    words::clear(&mut basis[rest..]);
-    k as u32
 }
 
 // D, I and J of a table that has passed the checks, by Algorithm Q on memory that is cleared first.

@@ -5,10 +5,14 @@ ghost use lib.ListN.{length};
 ghost use Rattle.checks.specs.Prime.{IsModulus};
 ghost use Rattle.matrix.specs.Calls.{tableRank};
 ghost use Rattle.matrix.specs.Told.{tableTold};
-ghost use Rattle.matrix.specs.Parts.{Tables, Checked, InverseRoom, StoresInverse, StoresBasis, System, SolvedBy, IsSolution};
+ghost use Rattle.matrix.specs.Parts.{plain, Checked, InverseRoom, StoresInverse, StoresBasis, System, FirstUnsolved, IsSolution};
+ghost use Rattle.matrix_echelon.specs.Reduced.{SolutionFound};
+ghost use Rattle.words.specs.Words.{Below};
 use checks::Refusal;
 use matrix::TableAnswer;
 use matrix::parts;
+use matrix_echelon::Grid;
+use matrix_echelon::reduced;
 
 // D, I and J of the table in lent memory, and its rank.
 pub fn invert_ranked(
@@ -30,76 +34,74 @@ pub fn invert_ranked(
     parts::count_marks(columns)
 }
 
-// The basis of the kernel of the table, and how many vectors it has; d, columns and rows are room for D, I and J.
-fn kernel_with(
-    p: u32,
-    m: usize,
-    n: usize,
-    a: &[u32],
-    d: &mut [u32],
-    columns: &mut [u32],
-    rows: &mut [u32],
-    basis: &mut [u32],
-) -> u32
-    requires { ⌜ Checked p m n (now a) × InverseRoom m n (now d) (now columns) (now rows) × (length (now basis) ≡ n * n) ⌝ }
-    ensures { λ r. ⌜ ((ok : IsModulus p) → StoresBasis p ok m n (now (a .entry)) (now (basis .exit)) r) ⌝ }
-{
-    parts::invert(p, m, n, a, d, columns, rows);
-    parts::kernel_vectors(p, m, n, a, d, columns, basis)
-}
-
-// The same, with room for D, I and J made here.
+// The basis of the kernel of the table, and how many vectors it has.
 pub fn kernel_of(p: u32, m: usize, n: usize, a: &[u32], basis: &mut [u32]) -> u32
     requires { ⌜ Checked p m n (now a) × (length (now basis) ≡ n * n) ⌝ }
     ensures { λ r. ⌜ ((ok : IsModulus p) → StoresBasis p ok m n (now (a .entry)) (now (basis .exit)) r) ⌝ }
 {
-    let mut d = words::table_room();
-    let mut columns = words::row_room();
-    let mut rows = words::row_room();
-    let size = n * m;
-    kernel_with(
-        p,
-        m,
-        n,
-        a,
-        &mut d[..size],
-        &mut columns[..n],
-        &mut rows[..m],
-        basis,
-    )
+    let plain = Grid {
+        start: 0,
+        down: n,
+        along: 1,
+        rows: m,
+        columns: n,
+    };
+    let none = words::row_room();
+    let mut e = words::wide_table();
+    let mut pivots = words::row_room();
+    let rank = reduced::reduced(p, plain, a, &none, 1, &mut e, &mut pivots);
+    let at = reduced::rows_by_pivot(rank, &pivots);
+    parts::kernel_vectors(p, n, &at, &e, basis)
 }
 
-// Whether the system of the table has a solution, by D in d: z becomes Dw and u 0, or u becomes the mix that shows that there is
-// none. x and image are room for Dw and A(Dw).
-fn solve_by(
+// The first row where A x and w differ, or m, for x = D w. Where the rank is m there is none.
+fn first_unsolved(p: u32, m: usize, n: usize, a: &[u32], w: &[u32], rank: usize, x: &[u32]) -> usize
+    requires { ⌜ Checked p m n (now a) × (length (now w) ≡ m) × Below p (now w) × SolutionFound p (plain m n) (now a) (now w) 1 rank (now x) ⌝ }
+    ensures { λ y. ⌜ FirstUnsolved p m n (now (a .entry)) (now (x .entry)) (now (w .entry)) y ⌝ }
+{
+    if rank == m {
+        return m;
+    }
+    let mut image = words::row_room();
+    parts::times_vector(p, m, n, a, x, &mut image[..m]);
+    words::first_difference(&image[..m], w)
+}
+
+// The answer to the system of the table: z becomes Dw and u 0, or u becomes the mix that shows that there is no solution. x is room
+// for Dw.
+fn solve_with(
     p: u32,
     m: usize,
     n: usize,
     a: &[u32],
-    d: &[u32],
     w: &[u32],
     x: &mut [u32],
-    image: &mut [u32],
     z: &mut [u32],
     u: &mut [u32],
-) -> bool
-    requires { ⌜ Tables p m n (now a) (now d) × System p m n (now w) (now z) (now u) × (length (now x) ≡ n) × (length (now image) ≡ m) ⌝ }
+) -> TableAnswer
+    requires { ⌜ Checked p m n (now a) × System p m n (now w) (now z) (now u) × (length (now x) ≡ n) ⌝ }
     ensures { λ t.
-        ⌜ SolvedBy p m n (now (a .entry)) (now (d .entry)) (now (w .entry)) (now (z .entry)) t (now (z .exit)) (now (u .exit)) ⌝ }
+        ⌜ IsSolution p m n (now (a .entry)) (now (w .entry)) (now (z .entry)) (tableTold t) (now (z .exit)) (now (u .exit)) ⌝ }
 {
-    parts::times_vector(p, n, m, d, w, x);
-    parts::times_vector(p, m, n, a, x, image);
-    let y = words::first_difference(image, w);
+    let plain = Grid {
+        start: 0,
+        down: n,
+        along: 1,
+        rows: m,
+        columns: n,
+    };
+    let rank = reduced::solution(p, plain, a, w, 1, x);
+    let y = first_unsolved(p, m, n, a, w, rank, x);
     if y < m {
-        parts::row_mix(p, m, n, a, d, y, u);
-        return false;
+        parts::row_mix(p, m, n, a, y, u);
+        return TableAnswer::Refused(Refusal::Insoluble);
     }
     words::copy(x, 0, n, z);
     words::clear(u);
-    true
+    TableAnswer::Done(rank as u32)
 }
 
-// The answer to the system of the table, with all room made here.
+// The same, with room for Dw made here.
 pub fn solve_of(
     p: u32,
     m: usize,
@@ -113,34 +115,6 @@ pub fn solve_of(
     ensures { λ t.
         ⌜ IsSolution p m n (now (a .entry)) (now (w .entry)) (now (z .entry)) (tableTold t) (now (z .exit)) (now (u .exit)) ⌝ }
 {
-    let mut d = words::table_room();
-    let mut columns = words::row_room();
-    let mut rows = words::row_room();
     let mut x = words::row_room();
-    let mut image = words::row_room();
-    let size = n * m;
-    let r = invert_ranked(
-        p,
-        m,
-        n,
-        a,
-        &mut d[..size],
-        &mut columns[..n],
-        &mut rows[..m],
-    );
-    if solve_by(
-        p,
-        m,
-        n,
-        a,
-        &d[..size],
-        w,
-        &mut x[..n],
-        &mut image[..m],
-        z,
-        u,
-    ) {
-        return TableAnswer::Done(r);
-    }
-    TableAnswer::Refused(Refusal::Insoluble)
+    solve_with(p, m, n, a, w, &mut x[..n], z, u)
 }

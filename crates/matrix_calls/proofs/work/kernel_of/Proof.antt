@@ -1,76 +1,79 @@
--- `matrix_calls::work::kernel_of` meets its contract: the room is large enough, and what it is lent for answers.
+-- `matrix_calls::work::kernel_of` meets its contract: the vectors that the reduced form gives are the basis.
 use mathlib.Core.Path.{sym}
-use Prim.Native.Nat.{_*_, _≤_}
 use native.Mathlib.Omega.{arith}
-use lib.Seq.{length-take-le}
-use Rattle.matrix.proofs.Memory.{table-most}
+use Rattle.matrix.proofs.Grids.{cleared-room, plain-readable, pivoting, reduced-rows, basis-reduced}
 use Rattle.matrix_calls.proofs.work.kernel_of.Statement.{statement}
 use Rattle.matrix_calls.proofs.work.kernel_of.Tie as tie
 
--- the entry, from where the room is made
-abbrev start : tie.After-row-room2 → tie.Start
-start c = c .before .before .before .before .before
-
-most : (c : tie.After-row-room2) → start c .args .n * start c .args .m ≤ 4096
-most c = table-most (start c .args .n) (start c .args .m) (start c .pre .0 .n-most) (start c .pre .0 .m-most)
-
-table-room-requires : tie.Need-table-room-requires
-table-room-requires c κs = tt
+-- the entry, from where the room is lent
+abbrev start : tie.After-pivots → tie.Start
+start c = c .before .before .before .before .before .before .before .before
 
 row-room-requires : tie.Need-row-room-requires
 row-room-requires c κs = tt
 
+wide-table-requires : tie.Need-wide-table-requires
+wide-table-requires c κs = tt
+
 row-room-requires-2 : tie.Need-row-room-requires-2
 row-room-requires-2 c κs = tt
 
-mul-size : tie.Need-mul-size
-mul-size c = omega (arith, most c)
+slice-aggregate-reduced : tie.Need-slice-aggregate-reduced
+slice-aggregate-reduced c = sym (c .before .before .before .row-room .ensures .0)
 
-array-borrow-prefix-d : tie.Need-array-borrow-prefix-d
-array-borrow-prefix-d c = omega (arith, most c, c .before .before .table-room .ensures .0)
+slice-aggregate-reduced-2 : tie.Need-slice-aggregate-reduced-2
+slice-aggregate-reduced-2 c = sym (c .before .before .before .wide-table .ensures .0)
 
-slice-aggregate-kernel-with : tie.Need-slice-aggregate-kernel-with
-slice-aggregate-kernel-with c =
-    let b = c .before in
-    sym (length-take-le _ _ (omega (arith, most b, b .before .before .table-room .ensures .0)))
+slice-aggregate-reduced-3 : tie.Need-slice-aggregate-reduced-3
+slice-aggregate-reduced-3 c = sym (c .before .before .before .row-room2 .ensures .0)
 
-array-borrow-prefix-columns : tie.Need-array-borrow-prefix-columns
-array-borrow-prefix-columns c =
-    let r = c .before in
-    omega (arith, r .before .row-room .ensures .0, start r .pre .0 .n-most)
-
-slice-aggregate-kernel-with-2 : tie.Need-slice-aggregate-kernel-with-2
-slice-aggregate-kernel-with-2 c = sym (length-take-le _ _ (array-borrow-prefix-columns (c .before)))
-
-array-borrow-prefix-rows : tie.Need-array-borrow-prefix-rows
-array-borrow-prefix-rows c =
-    let r = c .before .before in
-    omega (arith, r .row-room2 .ensures .0, start r .pre .0 .m-most)
-
-slice-aggregate-kernel-with-3 : tie.Need-slice-aggregate-kernel-with-3
-slice-aggregate-kernel-with-3 c = sym (length-take-le _ _ (array-borrow-prefix-rows (c .before)))
-
-kernel-with-requires : tie.Need-kernel-with-requires
-kernel-with-requires c κs =
-    let s = start (c .before .before .before .before) in (
-      s .pre .0,
-      record {
-        d-long = sym (slice-aggregate-kernel-with (c .before .before .before));
-        columns-long = sym (slice-aggregate-kernel-with-2 (c .before .before));
-        rows-long = sym (slice-aggregate-kernel-with-3 (c .before));
-      },
-      s .pre .1,
+reduced-requires : tie.Need-reduced-requires
+reduced-requires c κs =
+    let r = c .before .before .before in
+    let k = start c .pre .0 in (
+      plain-readable k (omega (arith, r .before .before .row-room .ensures .0, k .m-most)),
+      cleared-room _ (k .is-modulus) (r .before .wide-table .ensures) (r .row-room2 .ensures),
     )
 
+slice-aggregate-rows-by-pivot : tie.Need-slice-aggregate-rows-by-pivot
+slice-aggregate-rows-by-pivot c = sym (c .before .before .before .reduced .ensures .pivots-long)
+
+rows-by-pivot-requires : tie.Need-rows-by-pivot-requires
+rows-by-pivot-requires c κs =
+    let r = c .before .before .before in
+    pivoting _ _ _ _ (r .reduced .ensures) (start (r .before) .pre .0 .n-most)
+
+-- the reduced form, from where its rows are known by their pivots
+abbrev form : tie.After-rows-by-pivot → tie.After-reduced
+form c = c .before .before .before .before
+
+abbrev begun : tie.After-rows-by-pivot → tie.Start
+begun c = start (form c .before)
+
+slice-aggregate-kernel-vectors : tie.Need-slice-aggregate-kernel-vectors
+slice-aggregate-kernel-vectors c = sym (c .before .rows-by-pivot .ensures .long)
+
+slice-aggregate-kernel-vectors-2 : tie.Need-slice-aggregate-kernel-vectors-2
+slice-aggregate-kernel-vectors-2 c = sym (form (c .before .before) .reduced .ensures .long)
+
+kernel-vectors-requires : tie.Need-kernel-vectors-requires
+kernel-vectors-requires c κs =
+    let b = c .before .before .before in
+    let s = begun b in
+    (reduced-rows _ _ _ _ (form b .reduced .ensures) (b .rows-by-pivot .ensures) (s .pre .0 .is-modulus) (s .pre .0 .n-most), s .pre .1)
+
 same-length : tie.Need-same-length
-same-length c = c .before .before .before .before .before .kernel-with .kept .1 .1 .1 .1 .1 .1 .1 .0
+same-length c = c .before .before .kernel-vectors .kept .1 .1 .1 .1 .0
 
 returns : tie.Need-returns
-returns c = c .before .before .before .before .before .kernel-with .ensures
+returns c ok =
+    let b = c .before .before .before .before .before .before in
+    basis-reduced _ _ _ _ (form b .reduced .ensures) (b .rows-by-pivot .ensures) ok (begun b .pre .0 .n-most)
+    (c .before .before .kernel-vectors .ensures)
 
 pub kernel-of-spec : {M : Type 1} → statement M
 kernel-of-spec =
     tie.close
-    (tie.spec table-room-requires row-room-requires row-room-requires-2 mul-size array-borrow-prefix-d slice-aggregate-kernel-with
-    array-borrow-prefix-columns slice-aggregate-kernel-with-2 array-borrow-prefix-rows slice-aggregate-kernel-with-3
-    kernel-with-requires same-length returns)
+    (tie.spec row-room-requires wide-table-requires row-room-requires-2 slice-aggregate-reduced slice-aggregate-reduced-2
+    slice-aggregate-reduced-3 reduced-requires slice-aggregate-rows-by-pivot rows-by-pivot-requires
+    slice-aggregate-kernel-vectors slice-aggregate-kernel-vectors-2 kernel-vectors-requires same-length returns)

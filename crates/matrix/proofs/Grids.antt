@@ -1,0 +1,186 @@
+-- A table that is read in place is the table as it stands, or its transpose where it is read turned. So a pivot inverse of what is
+-- read is 01's D, or D turned; and the worked rows of the reduced form are the rows of D A.
+use mathlib.Core.Path.{_≡_, refl, sym, ap, ap₂, _∙_, fun-ext, subst}
+use mathlib.Core.Bool.{Bool, true, false}
+use mathlib.Core.List.{List}
+use Prim.Native.Nat.{ℕ, zero, suc, _+_, _*_, _≤_}
+use native.Mathlib.Omega.{arith}
+use lib.ListN.{length, getD}
+use lib.Dec.{ltb}
+use Rattle.algebra.specs.Choice.{choose}
+use Rattle.algebra.specs.Matrix.{cut, product, transpose}
+use Rattle.algebra.specs.Quasiinverse.{IsPivotInverse}
+use Rattle.algebra.proofs.Applied.{product-row, zeros-mixed}
+use Rattle.algebra.proofs.Independent.{count-most}
+use Rattle.algebra.proofs.Counts.{true-not-false}
+use Rattle.algebra.proofs.Marks.{by-test, is-false}
+use Rattle.algebra.proofs.Matrices.{entries}
+use Rattle.algebra.proofs.Transpose.{transposed}
+use Rattle.checks.specs.Largest.{largest}
+use Rattle.checks.specs.Prime.{IsModulus}
+use Rattle.words.specs.Lengths.{longestRow, widestTable}
+use Rattle.words.specs.Words.{Zeros}
+use Rattle.field.specs.Residue.{residues, reduce}
+use Rattle.field.specs.View.{table}
+use Rattle.field.proofs.Field.{residues-ring}
+use Rattle.field.proofs.Views.{blank-below}
+use Rattle.matrix_echelon.specs.Grid.{gridOf, Readable}
+use Rattle.matrix_echelon.specs.Forward.{Room, IsRank}
+use Rattle.matrix_echelon.specs.Reduced.{ReducedForm, Pivoting, RowsByPivot}
+use Rattle.matrix.specs.Calls.{tableOf, tableRank, inverseOf}
+use Rattle.matrix.specs.Parts.{Checked, plain, turned, marked, ReducedRows, KernelVectors, StoresBasis}
+use Rattle.matrix.proofs.Memory.{place-inside, marked-no, marked-yes}
+use Rattle.matrix.proofs.Stored.{rank-is, inverse-so}
+use Rattle.matrix.proofs.Basis.{basis-stored}
+
+-- memory that is cleared is room for the worked rows and their pivots
+pub cleared-room : (p : ℕ) {e pivots : List ℕ} → IsModulus p → Zeros widestTable e → Zeros longestRow pivots → Room p e pivots
+cleared-room p {e} ok z zs =
+    record {
+      rows-in = record { long = z .0; below = blank-below p e (omega (arith, ok .prime .two-or-more)) (z .1) };
+      pivots-long = zs .0;
+    }
+
+-- a table that has passed the checks can be read, with a column of numbers beside it
+module _ {p m n : ℕ} {a : List ℕ} (k : Checked p m n a) {w : List ℕ} where
+  pub plain-readable : m ≤ length w → Readable p (plain m n) a w 1
+  plain-readable l =
+      record {
+        table =
+            record {
+              is-modulus = k .is-modulus;
+              rows-most = k .m-most;
+              columns-most = k .n-most;
+              inside = λ i j h b. omega (arith, place-inside i j m n h b, k .a-long);
+            };
+        carried = λ t h. omega arith;
+      }
+
+  pub turned-readable : n ≤ length w → Readable p (turned m n) a w 1
+  turned-readable l =
+      record {
+        table =
+            record {
+              is-modulus = k .is-modulus;
+              rows-most = k .n-most;
+              columns-most = k .m-most;
+              inside = λ i j h b. omega (arith, place-inside j i m n b h, k .a-long);
+            };
+        carried = λ t h. omega arith;
+      }
+
+module _ (p m n : ℕ) (a : List ℕ) where
+  plain-same : gridOf p (plain m n) a ≡ tableOf p m n a
+  unfolding gridOf cut table
+  plain-same =
+      entries (residues p) (gridOf p (plain m n) a) (tableOf p m n a)
+      (λ i j.
+      ap (λ q. choose (ltb i m) (choose (ltb j n) (reduce p (getD a q 0)) (reduce p 0)) (reduce p 0))
+      (let e : 0 + i * n + j * 1 ≡ 0 + i * n + j = omega arith in e))
+
+  turned-same : gridOf p (turned m n) a ≡ transpose (residues p) (tableOf p m n a)
+  unfolding gridOf cut table transpose
+  turned-same =
+      entries (residues p) (gridOf p (turned m n) a) (transpose (residues p) (tableOf p m n a))
+      (λ i j.
+      swapped (ltb i n) (ltb j m) (reduce p (getD a (0 + i * 1 + j * n) 0))
+      ∙ ap (λ q. choose (ltb j m) (choose (ltb i n) (reduce p (getD a q 0)) (reduce p 0)) (reduce p 0))
+      (let e : 0 + i * 1 + j * n ≡ 0 + j * n + i = omega arith in e))
+    where
+      swapped : (b c : Bool) (x : residues p .Carrier)
+          → choose b (choose c x (reduce p 0)) (reduce p 0) ≡ choose c (choose b x (reduce p 0)) (reduce p 0)
+      swapped true c x = refl
+      swapped false true x = refl
+      swapped false false x = refl
+
+  -- ---- a pivot inverse of the table as it stands
+
+  module _ {r : ℕ} (h : IsRank p (plain m n) a r) where
+    pub plain-pivots : IsPivotInverse (residues p) m n (tableOf p m n a) (h .D) (h .I) (h .J)
+    plain-pivots = subst (λ X. IsPivotInverse (residues p) m n X (h .D) (h .I) (h .J)) plain-same (h .inverse)
+
+    -- the rank is at most the number of columns
+    pub rank-within : r ≤ n
+    rank-within = rw (h .rank) (count-most n (h .I))
+
+    module _ (ok : IsModulus p) where
+      pub plain-inverse : h .D ≡ inverseOf p ok m n a
+      plain-inverse = inverse-so p ok m n a plain-pivots
+
+      pub plain-rank : r ≡ tableRank p ok m n a
+      plain-rank = h .rank ∙ rank-is p ok m n a plain-pivots
+
+  -- of the table turned
+  pub turned-inverse : (ok : IsModulus p) {r : ℕ} (h : IsRank p (turned m n) a r) → transpose (residues p) (h .D) ≡ inverseOf p ok m n a
+  unfolding transpose
+  turned-inverse ok h =
+      inverse-so p ok m n a
+      (transposed (residues p) (residues-ring p (omega (arith, ok .prime .two-or-more)))
+      (subst (λ X. IsPivotInverse (residues p) n m X (h .D) (h .I) (h .J)) turned-same (h .inverse)))
+
+  -- ---- the reduced form of the table
+
+  module _ {w : List ℕ} {step r : ℕ} {e pivots : List ℕ} (f : ReducedForm p (plain m n) a w step r e pivots) where
+    -- its pivots lie in the longest row
+    pub pivoting : n ≤ largest → Pivoting r pivots
+    pivoting few =
+        record {
+          long = f .pivots-long;
+          few = omega (arith, rank-within (f .rank));
+          inside = λ t l. omega (arith, f .pivots-below t l);
+          differ = f .differ;
+        }
+
+    module _ {at : List ℕ} (b : RowsByPivot r pivots at) where
+      -- a column has no pivot exactly if it is outside I
+      free-outside : (j : ℕ) → getD at j 0 ≡ 0 → f .rank .I j ≡ false
+      free-outside j z = is-false (f .rank .I j) (λ t. let (s, (l, d)) = f .found j t in b .none j z s l d)
+
+      outside-free : (j : ℕ) → f .rank .I j ≡ false → getD at j 0 ≡ 0
+      outside-free j o = go (getD at j 0) refl
+        where
+          go : (v : ℕ) → getD at j 0 ≡ v → getD at j 0 ≡ 0
+          go zero z = z
+          go (suc t) z =
+              let (l, d) = b .row j t z in
+              absurd (true-not-false (subst (λ q. f .rank .I q ≡ true) d (f .chosen t l)) o)
+
+      -- so the marked columns are those of the pivot inverse
+      marked-columns : marked at ≡ f .rank .I
+      marked-columns =
+          fun-ext
+          (λ j.
+          by-test (f .rank .I j) (λ t. marked-yes at j (λ z. true-not-false t (free-outside j z)) ∙ sym t)
+          (λ o. marked-no at j (outside-free j o) ∙ sym o))
+
+      marked-pivots : IsPivotInverse (residues p) m n (tableOf p m n a) (f .rank .D) (marked at) (f .rank .J)
+      marked-pivots =
+          subst (λ I. IsPivotInverse (residues p) m n (tableOf p m n a) (f .rank .D) I (f .rank .J)) (sym marked-columns) (plain-pivots (f .rank))
+
+      -- and the worked rows are rows of D A
+      pub reduced-rows : IsModulus p → n ≤ largest → ReducedRows p n at e
+      reduced-rows ok few =
+          record {
+            is-modulus = ok;
+            n-most = few;
+            at-long = b .long;
+            at-most = λ j. omega (arith, b .few j, rank-within (f .rank));
+            e-long = f .long;
+            e-below = f .below;
+            m = m;
+            D = f .rank .D;
+            A = tableOf p m n a;
+            zeros = λ j c z.
+                product-row (residues p) m (f .rank .D) (tableOf p m n a) j c
+                ∙ zeros-mixed (residues p) (residues-ring p (omega (arith, ok .prime .two-or-more))) m (f .rank .D j) (tableOf p m n a) c
+                (λ t l. f .rank .inverse .row-outside j t (free-outside j z));
+            row = λ j t c z l.
+                let (s, d) = b .row j t z in
+                f .row t c s l ∙ ap₂ (λ X q. product (residues p) m (f .rank .D) X q c) plain-same d;
+          }
+
+      -- so the vectors that they give are the basis
+      pub basis-reduced : (ok : IsModulus p) → n ≤ largest → {basis : List ℕ} {k : ℕ}
+          → ((h : ReducedRows p n at e) → KernelVectors (h .m) n (h .D) (h .A) at basis k) → StoresBasis p ok m n a basis k
+      unfolding reduced-rows
+      basis-reduced ok few v = basis-stored p ok m n a marked-pivots (v (reduced-rows ok few))
