@@ -2,10 +2,10 @@
 -- found. What `read_frame` answers tells what it found.
 use mathlib.Core.Path.{_≡_, refl, sym, ap, ap₂, _∙_}
 use mathlib.Core.List.{List, [], _∷_, _++_}
-use Prim.Native.Nat.{ℕ, _≤_, _<_}
+use Prim.Native.Nat.{ℕ, _≤_}
 use native.Mathlib.Omega.{arith}
 use lib.IntN.{pos}
-use lib.ListN.{length, getD, take, drop, length-append}
+use lib.ListN.{length, take, drop, length-append}
 use lib.Seq.{take-at}
 use Rattle.checks.specs.declared.Refusal.{Refusal}
 use Rattle.checks.specs.declared.Refusal.the-variants.{Length}
@@ -58,24 +58,25 @@ pub numbers-found : (p n : ℕ) (frame lent written : List ℕ) (r : ReadAnswer)
 numbers-found p n frame lent written r told v e =
     accepted-numbers p n frame written v (found-value lent written r (readFrame p n frame) told v e)
 
--- they stand in the front of the memory lent, and are what `take_row` asks
-module _ (p n : ℕ) (written : List ℕ) (v : ℕ) (x : Numbers p n written v) (room : List ℕ) where
+-- what is written stands in the front of the memory lent
+module _ (n : ℕ) (written : List ℕ) (long : length written ≡ n) (room : List ℕ) where
   row-front : take n (written ++ drop n room) ≡ written
-  row-front = take-at written (drop n room) n (x .long)
+  row-front = take-at written (drop n room) n long
 
   pub row-inside : n ≤ length (written ++ drop n room)
-  row-inside = omega (arith, length-append written (drop n room), x .long)
+  row-inside = omega (arith, length-append written (drop n room), long)
 
   pub row-long : length (take n (written ++ drop n room)) ≡ n
-  row-long = ap length row-front ∙ x .long
+  row-long = ap length row-front ∙ long
 
-  row-below : (j : ℕ) → j < n → getD (take n (written ++ drop n room)) j 0 < p
-  row-below j h = rw row-front (x .below j (omega (arith, x .long)))
-
+-- and the numbers found are what `take_row` asks
 pub row-for : (ws written : List ℕ) (v : ℕ) → Numbers (modulusWord ws) (sizeWord ws) written v → (room : List ℕ)
     → RowFor ws (take (sizeWord ws) (written ++ drop (sizeWord ws) room))
 row-for ws written v x room =
-    record { long = row-long (modulusWord ws) (sizeWord ws) written v x room; below = row-below (modulusWord ws) (sizeWord ws) written v x room }
+    record {
+      long = row-long (sizeWord ws) written (x .long) room;
+      below = λ j h. rw (row-front (sizeWord ws) written (x .long) room) (x .below j (omega (arith, x .long)));
+    }
 
 -- ---- the call
 
@@ -109,5 +110,5 @@ module _ (ws : List ℕ) (b : IsBoard ws) (frame mix : List ℕ) where
     take-read v e room left h =
         let found = found-value lent written r (readFrame (modulusWord ws) (sizeWord ws) frame) told v e in
         let x = accepted-numbers (modulusWord ws) (sizeWord ws) frame written v found in
-        (rw (row-front (modulusWord ws) (sizeWord ws) written v x room) at (h (b .prime)))
+        (rw (row-front (sizeWord ws) written (x .long) room) at (h (b .prime)))
         ∙ by-step _ (take-accepted (modulusWord ws) (b .prime) (sizeWord ws) (entriesOf ws) frame mix written v l found)

@@ -1,5 +1,4 @@
 pub mod CallOpen
-pub mod CallBoard
 pub mod CallWithdraw
 pub mod CallShow
 pub mod CallTake

@@ -5,6 +5,7 @@ ghost use Rattle.board_calls.specs.Told.{openTold, answerTold};
 ghost use Rattle.board_solve.specs.Told.{takeTold};
 ghost use Rattle.ledger.specs.Calls.{openCall, takeCall, withdrawCall, showCall};
 pub use board_solve::TakeAnswer;
+use board_solve::combination;
 use board_solve::records;
 use board_solve::take_row;
 use board_words::change;
@@ -13,7 +14,7 @@ use board_words::test;
 use checks::Refusal;
 use checks::Verdict;
 use words::row_room;
-use words::table_room;
+use words::wide_table;
 
 pub enum OpenAnswer {
     Opened,
@@ -42,23 +43,28 @@ pub fn open(p: u32, n: u32, board: &mut [u32]) -> OpenAnswer
 }
 
 // Takes a frame: new where its multipliers are no combination of the standing rows, and then it stands; otherwise repeat, or
-// conflict (9) where its value is not what the same combination of values gives, with the combination in the mix.
+// conflict (9) where its value is not what the same combination of values gives, with the combination in the mix. The frame is
+// read first, since the elimination that tells whether the rows are independent carries its multipliers along; what reading
+// answers is looked at last.
 pub fn take(board: &mut [u32], frame: &[u8], mix: &mut [u32]) -> TakeAnswer
     ensures { λ r. ⌜ outcome (takeTold r) (now (board .exit), now (mix .exit)) ≡ takeCall (now (board .entry)) (now (frame .entry)) (now (mix .entry)) ⌝ }
 {
-    let mut rows = table_room();
-    let mut d = table_room();
-    if !test::is_board(board, &mut rows, &mut d) {
+    if !test::is_laid_out(board) {
         return TakeAnswer::Refused(Refusal::NotBoard);
     }
     let p = board[layout::MODULUS];
     let n = board[layout::SIZE] as usize;
+    let mut f = row_room();
+    let read = frame::reading::read_frame(p, n, frame, &mut f[..n]);
+    let mut c = row_room();
+    if !combination::candidate(board, &f[..n], &mut c) {
+        return TakeAnswer::Refused(Refusal::NotBoard);
+    }
     if mix.len() != n {
         return TakeAnswer::Refused(Refusal::Length);
     }
-    let mut f = row_room();
-    match frame::reading::read_frame(p, n, frame, &mut f[..n]) {
-        frame::ReadAnswer::Value(v) => take_row(board, &rows, &d, &f[..n], v, mix),
+    match read {
+        frame::ReadAnswer::Value(v) => take_row(board, &f[..n], v, &c, mix),
         frame::ReadAnswer::Refused(kind) => TakeAnswer::Refused(kind),
     }
 }
@@ -67,9 +73,7 @@ pub fn take(board: &mut [u32], frame: &[u8], mix: &mut [u32]) -> TakeAnswer
 pub fn withdraw(board: &mut [u32], t: u32) -> CountAnswer
     ensures { λ r. ⌜ outcome (answerTold r) (now (board .exit)) ≡ withdrawCall (now (board .entry)) t ⌝ }
 {
-    let mut rows = table_room();
-    let mut d = table_room();
-    if !test::is_board(board, &mut rows, &mut d) {
+    if !test::is_board(board) {
         return CountAnswer::Refused(Refusal::NotBoard);
     }
     let k = board[layout::COUNT];
@@ -86,9 +90,12 @@ pub fn withdraw(board: &mut [u32], t: u32) -> CountAnswer
 pub fn show(board: &[u32], marks: &mut [u32], numbers: &mut [i32]) -> CountAnswer
     ensures { λ r. ⌜ outcome (answerTold r) (now (marks .exit), now (numbers .exit)) ≡ showCall (now (board .entry)) (now (marks .entry)) (now (numbers .entry)) ⌝ }
 {
-    let mut rows = table_room();
-    let mut d = table_room();
-    if !test::is_board(board, &mut rows, &mut d) {
+    if !test::is_laid_out(board) {
+        return CountAnswer::Refused(Refusal::NotBoard);
+    }
+    let mut e = wide_table();
+    let mut pivots = row_room();
+    if !records::reduce_board(board, &mut e, &mut pivots) {
         return CountAnswer::Refused(Refusal::NotBoard);
     }
     let n = board[layout::SIZE] as usize;
@@ -98,7 +105,7 @@ pub fn show(board: &[u32], marks: &mut [u32], numbers: &mut [i32]) -> CountAnswe
     if numbers.len() != n {
         return CountAnswer::Refused(Refusal::Length);
     }
-    records::show_records(board, &rows, &d, marks, numbers);
+    records::show_records(board, &e, &pivots, marks, numbers);
     let count = board[layout::COUNT];
     let missing = board[layout::SIZE] - count;
     CountAnswer::Count(missing)

@@ -1,53 +1,89 @@
--- Whether a row f is a combination of the rows of a table R with the quasiinverse D: c = f D is the only one that can be, and it
--- is exactly if c R = f. c and g are what `mix_rows` makes of f and D, and of c and R.
-use mathlib.Core.Path.{_≡_, refl, sym, ap, _∙_}
+-- Whether a row f is a combination of the rows R of a board: the candidate c = f D is the only one that can be, and it is exactly if
+-- c R = f. `combine` adds the rows, which it reads behind the header, with the multipliers c to zeros.
+use mathlib.Core.Path.{_≡_, sym, ap, ap₂, _∙_}
 use mathlib.Core.Bool.{Bool}
-use mathlib.Core.List.{List}
-use Prim.Native.Nat.{ℕ, _*_, _<_}
-use native.Mathlib.Nat.{zero-add, mul-one}
+use mathlib.Core.List.{List, _++_}
+use Prim.Native.Nat.{ℕ, _+_, _*_, _-_, _≤_, _<_}
+use native.Mathlib.Decide.{decLt}
 use native.Mathlib.Omega.{arith}
-use lib.ListN.{length, getD, take}
-use lib.Seq.{length-take-le, getD-take, ext-getD}
+use lib.ListN.{length, getD, take, drop, length-take, length-append}
+use lib.Seq.{length-take-le, getD-take, take-at, ext-getD}
 use Rattle.algebra.specs.Answers.{Tells}
-use Rattle.algebra.specs.Matrix.{Vector, mixed}
+use Rattle.algebra.specs.Matrix.{Vector, sum, mixed}
 use Rattle.algebra.specs.Span.{Combines}
+use Rattle.algebra.proofs.Sums.{sum-same}
+use Rattle.algebra.proofs.Rings.{zero-plus}
+use Rattle.algebra.proofs.Alike.{mixed-alike}
 use Rattle.algebra.proofs.Applied.{mixed-same}
 use Rattle.algebra.proofs.Independent.{combination-found}
-use Rattle.field.specs.Residue.{reduce, residues}
-use Rattle.field.specs.View.{line, table}
+use Rattle.checks.specs.Largest.{largest}
+use Rattle.field.specs.Residue.{Residue, reduce, residues, _⊕_, _⊗_}
+use Rattle.field.specs.View.{line}
 use Rattle.field.proofs.Field.{residues-ring}
 use Rattle.field.proofs.Residues.{reduce-of-value, reduce-injective, below-of-value}
-use Rattle.ledger.specs.Board.{modulusWord, sizeWord, countWord, entriesOf}
+use Rattle.field.proofs.Views.{table-entry}
+use Rattle.words.specs.Words.{Below, Zeros}
+use Rattle.words.proofs.Parts.{part-length, part-at}
+use Rattle.matrix_mul.specs.Rows.{CombinedInto}
+use Rattle.ledger.specs.Board.{IsBoard, headerLength, rowLength, modulusWord, sizeWord, countWord, rowsEnd, multiplierTable, entriesOf}
 use Rattle.ledger.specs.Ledger.{multiplierRows}
-use Rattle.algebra.proofs.Alike.{mixed-alike}
-use Rattle.ledger.proofs.Parse.{words-count}
-use Rattle.board_words.specs.Inverse.{BoardInverse}
-use Rattle.board_solve.specs.Combination.{residuesOf, Mixed, RowFor, Combination}
-use Rattle.board_solve.proofs.Standing.{rows-same, held-sizes}
+use Rattle.ledger.proofs.LayoutPlaces.{row-step, row-ends, row-holds, row-inside}
+use Rattle.ledger.proofs.Parse.{words-count, rows-table}
+use Rattle.board_solve.specs.Combination.{residuesOf, Findable, Combination}
+use Rattle.board_solve.proofs.Standing.{board-sizes}
+use Rattle.board_solve.proofs.Candidates.{line-residues}
 
--- a line with the step 1 is the numbers from the front
-pub line-residues : (p : ℕ) (xs : List ℕ) (t : ℕ) → line p xs 0 1 t ≡ residuesOf p xs t
-unfolding line
-line-residues p xs t = ap (λ q. reduce p (getD xs q 0)) (zero-add (t * 1) ∙ mul-one t)
+-- ---- the words behind the header
 
-module _ (p : ℕ) (by xs : List ℕ) (w : ℕ) (r : List ℕ) (made : Mixed p by xs w r) where
-  -- as residues, what `mix_rows` leaves is the m multipliers times the table
-  mixed-residues : (m : ℕ) (x : Vector (residues p)) → length by ≡ m → ((t : ℕ) → t < m → residuesOf p by t ≡ x t)
-      → (j : ℕ) → j < w → residuesOf p r j ≡ mixed (residues p) m x (table p xs 0 w m w) j
-  mixed-residues m x long same j l =
-      reduce-of-value _ (made .each j l)
-      ∙ ap (λ k. mixed (residues p) k (line p by 0 1) (table p xs 0 w k w) j) long
-      ∙ mixed-same (residues p) m (line p by 0 1) x (table p xs 0 w m w) (λ t h. line-residues p by t ∙ same t h) j
+abbrev behindHeader : List ℕ → List ℕ
+behindHeader ws = take (length ws - headerLength) (drop headerLength ws)
 
-  -- and its numbers are below p
-  mixed-below : 0 < p → (j : ℕ) → j < w → getD r j 0 < p
-  mixed-below positive j l =
-      below-of-value positive (mixed (residues p) (length by) (line p by 0 1) (table p xs 0 w (length by) w) j) (made .each j l)
+module _ (ws : List ℕ) (b : IsBoard ws) where
+  part-long : length (behindHeader ws) ≡ length ws - headerLength
+  part-long = part-length ws headerLength (length ws - headerLength) (omega (arith, b .three))
 
--- c is f D and g is c R, for a board's R and D
-module _ (ws rows d f c g : List ℕ) (H : BoardInverse ws rows d) (row : RowFor ws f)
-    (mixed-c : Mixed (modulusWord ws) f d (countWord ws) c)
-    (mixed-g : Mixed (modulusWord ws) (take (countWord ws) c) rows (sizeWord ws) g) where
+  -- they are below p: the rows, and the zeros behind them
+  pub part-below : Below (modulusWord ws) (behindHeader ws)
+  part-below q l =
+      let inside : q < length ws - headerLength = omega (arith, part-long) in
+      rw (part-at ws headerLength (length ws - headerLength) q inside) (by-place inside (decLt (headerLength + q) (rowsEnd ws)))
+    where
+      by-place : q < length ws - headerLength → Dec (headerLength + q < rowsEnd ws) → getD ws (headerLength + q) 0 < modulusWord ws
+      by-place inside (yes h) = b .below (headerLength + q) (omega arith) h
+      by-place inside (no h) = rw (b .zeros (headerLength + q) (omega arith) (omega arith)) (board-sizes ws b .0)
+
+  -- row t lies in them
+  pub part-inside : (t : ℕ) → t < countWord ws → 0 + t * rowLength (sizeWord ws) + sizeWord ws ≤ length (behindHeader ws)
+  part-inside t h =
+      let n = sizeWord ws in
+      omega
+      (arith, part-long, b .long, row-step n t, row-ends n t (countWord ws) h, row-holds n, row-inside n (countWord ws) (b .count))
+
+  -- and the numbers from j on, in steps of a row's length, are column j of R
+  part-entry : (t j : ℕ) → t < countWord ws → j < sizeWord ws
+      → line (modulusWord ws) (behindHeader ws) (0 + j) (rowLength (sizeWord ws)) t ≡ multiplierTable ws t j
+  unfolding line
+  part-entry t j h l =
+      let n = sizeWord ws in
+      let place : headerLength + (0 + j + t * rowLength n) ≡ headerLength + t * rowLength n + j = omega arith in
+      ap (reduce (modulusWord ws))
+      (part-at ws headerLength (length ws - headerLength) (0 + j + t * rowLength n) (omega (arith, part-inside t h, part-long))
+      ∙ ap (λ q. getD ws q 0) place)
+      ∙ sym (table-entry (modulusWord ws) ws headerLength (rowLength n) (countWord ws) n t j h l)
+
+-- the multipliers are below p
+pub multipliers-below : (ws f c : List ℕ) → Findable ws f c → Below (modulusWord ws) (take (countWord ws) c)
+multipliers-below ws f c H i l =
+    let p = modulusWord ws in
+    let inside : i < countWord ws = omega (arith, length-take (countWord ws) c) in
+    rw (getD-take (countWord ws) c i 0 inside)
+    (below-of-value (board-sizes ws (H .candidate .inverse .board) .0)
+    (mixed (residues p) (sizeWord ws) (residuesOf p f) (H .candidate .D) i) (H .candidate .each i inside))
+
+-- ---- g is c R, where `combine` has made it
+
+module _ (ws f c zs g : List ℕ) (H : Findable ws f c) (z : Zeros largest zs)
+    (made : CombinedInto (modulusWord ws) (take (countWord ws) c) (behindHeader ws) 0 (rowLength (sizeWord ws)) (take (sizeWord ws) zs) g) where
   abbrev p : ℕ
   p = modulusWord ws
 
@@ -57,51 +93,86 @@ module _ (ws rows d f c g : List ℕ) (H : BoardInverse ws rows d) (row : RowFor
   abbrev k : ℕ
   k = countWord ws
 
+  board : IsBoard ws
+  board = H .candidate .inverse .board
+
   positive : 0 < modulusWord ws
-  positive = held-sizes ws rows d H .0
+  positive = board-sizes ws board .0
+
+  multipliers-long : length (take k c) ≡ k
+  multipliers-long = length-take-le k c (omega (arith, H .candidate .long, board-sizes ws board .2))
+
+  zeros-long : length (take n zs) ≡ n
+  zeros-long = length-take-le n zs (omega (arith, z .0, board-sizes ws board .1))
+
+  g-long : length g ≡ n
+  g-long = made .0 ∙ zeros-long
+
+  -- the sum of products that is added at j
+  abbrev added : ℕ → Residue p
+  added j = sum (residues p) (length (take k c)) (λ t. line p (take k c) 0 1 t ⊗ line p (behindHeader ws) (0 + j) (rowLength n) t)
+
+  added-mixed : (j : ℕ) → j < n → added j ≡ mixed (residues p) k (residuesOf p c) (multiplierTable ws) j
+  unfolding mixed
+  added-mixed j l =
+      ap (λ m. sum (residues p) m (λ t. line p (take k c) 0 1 t ⊗ line p (behindHeader ws) (0 + j) (rowLength n) t)) multipliers-long
+      ∙ sum-same (residues p) k _ _
+      (λ t h. ap₂ _⊗_ (line-residues p (take k c) t ∙ ap (reduce p) (getD-take k c t 0 h)) (part-entry ws board t j h l))
+
+  number : (j : ℕ) → j < n → getD g j 0 ≡ (mixed (residues p) k (residuesOf p c) (multiplierTable ws) j) .value
+  number j l =
+      made .1 j (omega (arith, zeros-long))
+      ∙ ap (λ (a : Residue p). a .value)
+      (ap (λ x. reduce p x ⊕ added j) (getD-take n zs j 0 l ∙ z .1 j)
+      ∙ zero-plus (residues p) (residues-ring p positive) (added j)
+      ∙ added-mixed j l)
 
   -- as residues, c is f D and g is c R
-  first-mix : (t : ℕ) → t < k → residuesOf p c t ≡ mixed (residues p) n (residuesOf p f) (table p d 0 k n k) t
-  first-mix = mixed-residues p f d k c mixed-c n (residuesOf p f) (row .long) (λ t h. refl)
+  first-mix : (t : ℕ) → t < k → residuesOf p c t ≡ mixed (residues p) n (residuesOf p f) (H .candidate .D) t
+  first-mix t h = reduce-of-value _ (H .candidate .each t h)
 
-  second-mix : (j : ℕ) → j < n → residuesOf p g j ≡ mixed (residues p) k (residuesOf p c) (table p rows 0 n k n) j
-  second-mix =
-      mixed-residues p (take k c) rows n g mixed-g k (residuesOf p c)
-      (length-take-le k c (omega (arith, mixed-c .long, held-sizes ws rows d H .2))) (λ t h. ap (reduce p) (getD-take k c t 0 h))
+  second-mix : (j : ℕ) → j < n → residuesOf p g j ≡ mixed (residues p) k (residuesOf p c) (multiplierTable ws) j
+  second-mix j l = reduce-of-value _ (number j l)
 
   -- where g is f, c combines the rows to f
-  same-combines : f ≡ take n g → Combines (residues p) k n (table p rows 0 n k n) (residuesOf p c) (residuesOf p f)
-  same-combines e j l = ap (λ xs. reduce p (getD xs j 0)) e ∙ ap (reduce p) (getD-take n g j 0 l) ∙ second-mix j l
+  same-combines : f ≡ g → Combines (residues p) k n (multiplierTable ws) (residuesOf p c) (residuesOf p f)
+  same-combines e j l = ap (λ xs. reduce p (getD xs j 0)) e ∙ second-mix j l
 
   -- and where any combination of the rows is f, g is f
-  combines-same : (u : Vector (residues p)) → Combines (residues p) k n (table p rows 0 n k n) u (residuesOf p f) → f ≡ take n g
-  combines-same u h =
-      ext-getD 0 f (take n g) (row .long ∙ sym (length-take-le n g (omega (arith, mixed-g .long, held-sizes ws rows d H .1))))
-      (λ j b. at j (rw (row .long) at b))
+  combines-same : (u : Vector (residues p)) → Combines (residues p) k n (multiplierTable ws) u (residuesOf p f) → f ≡ g
+  combines-same u h = ext-getD 0 f g (H .row .long ∙ sym g-long) (λ j b. at j (rw (H .row .long) at b))
     where
-      at : (j : ℕ) → j < n → getD f j 0 ≡ getD (take n g) j 0
+      at : (j : ℕ) → j < n → getD f j 0 ≡ getD g j 0
       at j l =
-          reduce-injective p (getD f j 0) (getD g j 0) (row .below j l) (mixed-below p (take k c) rows n g mixed-g positive j l)
-          (combination-found (residues p) (residues-ring p positive) (H .work .inverse .absorbs) (residuesOf p f) u h j l
-          ∙ mixed-same (residues p) k (mixed (residues p) n (residuesOf p f) (table p d 0 k n k)) (residuesOf p c) (table p rows 0 n k n)
+          reduce-injective p (getD f j 0) (getD g j 0) (H .row .below j l)
+          (below-of-value positive (mixed (residues p) k (residuesOf p c) (multiplierTable ws) j) (number j l))
+          (combination-found (residues p) (residues-ring p positive) (H .candidate .inverse .inverse .absorbs) (residuesOf p f) u h j l
+          ∙ mixed-same (residues p) k (mixed (residues p) n (residuesOf p f) (H .candidate .D)) (residuesOf p c) (multiplierTable ws)
           (λ t b. sym (first-mix t b)) j
           ∙ sym (second-mix j l))
-          ∙ sym (getD-take n g j 0 l)
 
   -- the rows are those of the entries
   entry-mixed : (u : Vector (residues p)) (j : ℕ) → j < n
-      → mixed (residues p) (length (entriesOf ws)) u (multiplierRows p (entriesOf ws)) j ≡ mixed (residues p) k u (table p rows 0 n k n) j
+      → mixed (residues p) (length (entriesOf ws)) u (multiplierRows p (entriesOf ws)) j ≡ mixed (residues p) k u (multiplierTable ws) j
   entry-mixed u j l =
       ap (λ m. mixed (residues p) m u (multiplierRows p (entriesOf ws)) j) (words-count ws)
-      ∙ mixed-alike (residues p) k n (multiplierRows p (entriesOf ws)) (table p rows 0 n k n) (rows-same ws rows d H) u j l
+      ∙ mixed-alike (residues p) k n (multiplierRows p (entriesOf ws)) (multiplierTable ws) (rows-table ws p) u j l
 
-  -- so the test whether g is f tells whether f is a combination of them
-  pub found : {t : Bool} → Tells t (f ≡ take n g) → Combination ws f c t
+  -- it stands in front of what is left of the zeros
+  pub front-long : length (take n (g ++ drop n zs)) ≡ n
+  front-long = ap length (take-at g (drop n zs) n g-long) ∙ g-long
+
+  pub front-inside : n ≤ length (g ++ drop n zs)
+  front-inside = omega (arith, length-append g (drop n zs), g-long)
+
+  -- so the test whether that is f tells whether f is a combination of them
+  pub found : {t : Bool} → Tells t (f ≡ take n (g ++ drop n zs)) → Combination ws f c t
   found told =
+      let front = take-at g (drop n zs) n g-long in
       record {
-        long = mixed-c .long;
-        below = mixed-below p f d k c mixed-c positive;
-        zeros = mixed-c .rest;
-        combines = λ e j l. same-combines (told .0 e) j l ∙ sym (entry-mixed (residuesOf p c) j l);
-        differs = λ e (u, h). told .1 e (combines-same u (λ j l. h j l ∙ entry-mixed u j l));
+        long = H .candidate .long;
+        below = λ i h. below-of-value positive (mixed (residues p) n (residuesOf p f) (H .candidate .D) i) (H .candidate .each i h);
+        zeros = H .candidate .zeros;
+        combines = λ e j l. same-combines (told .0 e ∙ front) j l ∙ sym (entry-mixed (residuesOf p c) j l);
+        differs = λ e (u, h). told .1 e (combines-same u (λ j l. h j l ∙ entry-mixed u j l) ∙ sym front);
       }

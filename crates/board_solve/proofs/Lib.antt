@@ -1,10 +1,10 @@
-pub mod RecordTables
-pub mod MixRows
 pub mod Standing
+pub mod Candidates
 pub mod Combinations
 pub mod Take
 pub mod RecordUnits
 pub mod RecordRows
 pub mod RecordSolutions
 pub mod RecordSettled
+pub mod RecordReduced
 pub mod RecordShown

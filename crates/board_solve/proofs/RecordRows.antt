@@ -1,44 +1,38 @@
--- The row that `settled` makes: row j of D times R, so that the test of its numbers tells whether row j of D R is the unit row of j.
-use mathlib.Core.Path.{_≡_, ap, _∙_}
+-- A worked row as the code lends it: it lies in the room for all of them, and the test of its numbers tells whether it is the unit
+-- row of j.
+use mathlib.Core.Path.{_≡_, sym, _∙_}
 use mathlib.Core.Bool.{Bool}
 use mathlib.Core.List.{List}
-use Prim.Native.Nat.{ℕ, _+_, _*_, _≤_, _<_}
+use Prim.Native.Nat.{ℕ, _+_, _*_, _-_, _<_}
+use native.Mathlib.Nat.{mul-le-mul}
 use native.Mathlib.Omega.{arith}
-use lib.ListN.{length, getD, take}
-use lib.Seq.{length-take-le, getD-take}
+use lib.ListN.{length, getD, take, drop}
 use Rattle.algebra.specs.Answers.{Tells}
-use Rattle.algebra.specs.Matrix.{Vector, product}
 use Rattle.algebra.proofs.Answers.{tells-same}
-use Rattle.field.specs.Residue.{Residue, residues}
-use Rattle.field.specs.View.{table}
-use Rattle.board_solve.specs.Combination.{Mixed}
-use Rattle.board_solve.specs.Records.{IsUnitRow, UnitAt, RowOfD}
-use Rattle.board_solve.proofs.RecordUnits.{numbers-to-residues, residues-to-numbers}
-use Rattle.board_solve.proofs.RecordTables.{row-inside, rowPart, row-times-rows}
+use Rattle.words.proofs.Parts.{part-length, part-at}
+use Rattle.board_solve.specs.Records.{IsUnitRow, WorkedRow, workedPlace, UnitAt}
 
-module _ (p n k j : ℕ) (d : List ℕ) (row : RowOfD p n k j d) where
-  -- row j of D lies in d
-  pub row-in-d : j * k + k ≤ 4096
-  row-in-d = row-inside j k (omega (arith, row .inside, row .small)) (omega (arith, row .few, row .small))
+-- the first n numbers of the row
+abbrev workedPart : (n row : ℕ) → List ℕ → List ℕ
+workedPart n row e = take ((row - 1) * (n + 1) + n - (row - 1) * (n + 1)) (drop ((row - 1) * (n + 1)) e)
 
-  pub in-d : j * k + k ≤ length d
-  in-d = omega (arith, row-in-d, row .long)
+module _ {n row : ℕ} {e : List ℕ} (w : WorkedRow n row e) (some : 0 < row) where
+  -- the row and its value lie in the room
+  pub row-inside : workedPlace n row n < 4160
+  row-inside =
+      omega (arith, mul-le-mul {n₁ = row - 1} {m₁ = n + 1} {n₂ = 63} {m₂ = 65} (omega (arith, w .few, some)) (omega (arith, w .small)), w .small)
 
-  module _ (rows e : List ℕ) (m : Mixed p (rowPart k j d) rows n e) where
-    pub front-long : length (take n e) ≡ n
-    front-long = length-take-le n e (omega (arith, m .long, row .small))
+  pub row-in : workedPlace n row n < length e
+  row-in = omega (arith, row-inside, w .long)
 
-    entries : Vector (residues p)
-    entries = product (residues p) k (table p d 0 k n k) (table p rows 0 n k n) j
+  part-long : length (workedPart n row e) ≡ n
+  part-long =
+      part-length e ((row - 1) * (n + 1)) ((row - 1) * (n + 1) + n - (row - 1) * (n + 1)) (omega (arith, row-in)) ∙ omega arith
 
-    same : (c : ℕ) → c < n → getD (take n e) c 0 ≡ entries c .value
-    unfolding entries
-    same c l =
-        getD-take n e c 0 l ∙ m .each c l ∙ ap (λ (a : Residue p). a .value) (row-times-rows k j d in-d p n (row .inside) rows c)
+  part-number : (c : ℕ) → c < n → getD (workedPart n row e) c 0 ≡ getD e (workedPlace n row c) 0
+  part-number c l = part-at e ((row - 1) * (n + 1)) ((row - 1) * (n + 1) + n - (row - 1) * (n + 1)) c (omega arith)
 
-    -- so the test tells of row j of D R
-    pub row-tells : {b : Bool} → Tells b (IsUnitRow (take n e) j) → Tells b (UnitAt p n k j rows d)
-    unfolding entries
-    row-tells told =
-        tells-same (numbers-to-residues p n j (take n e) entries (row .proper) front-long same)
-        (residues-to-numbers p n j (take n e) entries (row .proper) front-long same) told
+  pub row-tells : (j : ℕ) {b : Bool} → Tells b (IsUnitRow (workedPart n row e) j) → Tells b (UnitAt n row j e)
+  row-tells j told =
+      tells-same (λ u. (some, λ c l. sym (part-number c l) ∙ u c (omega (arith, part-long))))
+      (λ u c l. let inside : c < n = omega (arith, part-long) in part-number c inside ∙ u .1 c inside) told

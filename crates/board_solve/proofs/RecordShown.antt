@@ -1,6 +1,6 @@
 -- The loop of `show_records` writes a mark and a number a turn: what stands there after j turns, and that after the last turn the
 -- marks and the numbers are those of the ledger.
-use mathlib.Core.Path.{_≡_, sym, _∙_}
+use mathlib.Core.Path.{_≡_, sym, ap, _∙_}
 use mathlib.Core.List.{List}
 use Prim.Native.Nat.{ℕ, _+_, _<_}
 use native.Mathlib.Omega.{arith}
@@ -15,12 +15,14 @@ use Rattle.checks.specs.Prime.{IsModulus}
 use Rattle.field.specs.Written.{tabulate}
 use Rattle.field.proofs.Written.{is-tabulate}
 use Rattle.signed.specs.Reading.{reading}
-use Rattle.ledger.specs.Board.{modulusWord, sizeWord, entriesOf}
+use Rattle.ledger.specs.Board.{modulusWord, sizeWord, countWord, entriesOf}
 use Rattle.ledger.specs.Ledger.{Entry}
 use Rattle.ledger.specs.Steps.{shownMark, shownNumber, tabulateℤ}
 use Rattle.ledger.proofs.LedgerLaws.{is-tabulateℤ}
-use Rattle.board_words.specs.Inverse.{BoardInverse}
-use Rattle.board_solve.proofs.RecordSettled.{UnitIn, valueIn, shown-at, hidden-at}
+use Rattle.matrix_echelon.specs.Reduced.{RowsByPivot}
+use Rattle.board_solve.specs.Records.{BoardReduced, UnitAt, workedPlace}
+use Rattle.board_solve.proofs.RecordReduced.{row-unit, unit-row, value-number}
+use Rattle.board_solve.proofs.RecordSettled.{shown-at, hidden-at}
 
 -- ---- one place more of a list
 
@@ -76,23 +78,29 @@ abbrev ShownIn : (ws : List ℕ) (j : ℕ) (marks : List ℕ) (numbers : List �
 ShownIn ws = ShownBelow (modulusWord ws) (sizeWord ws) (entriesOf ws)
 
 module _
-    (ws rows d : List ℕ)
-    (held : BoardInverse ws rows d)
+    (ws e pivots at : List ℕ)
+    (reduced : BoardReduced ws e pivots)
+    (by-pivot : RowsByPivot (countWord ws) pivots at)
     (j : ℕ)
     (marks : List ℕ)
     (numbers : List ℤ)
     (inside : j < sizeWord ws)
     (below : ShownIn ws j marks numbers)
   where
-    -- row j of D R is the unit row of j: 1, and the reading z of row j of D v, which is kept in 32 bits
-    pub turn-shown : (z : ℤ) → SFits w32 z → UnitIn ws rows d j → z ≡ reading (modulusWord ws) (valueIn ws d j .value)
+    -- the worked row of j is the unit row of j: 1, and the reading z of the value behind it, which is kept in 32 bits
+    pub turn-shown : (z : ℤ) → SFits w32 z → UnitAt (sizeWord ws) (getD at j 0) j e
+        → z ≡ reading (modulusWord ws) (getD e (workedPlace (sizeWord ws) (getD at j 0) (sizeWord ws)) 0)
         → ShownIn ws (j + 1) (set marks j 1) (set numbers j (toZ w32 (ofZ w32 z)))
-    turn-shown z fits row e =
+    turn-shown z fits row e′ =
+        let same = e′ ∙ ap (reading (modulusWord ws)) (value-number ws e pivots at reduced by-pivot j (row .0)) in
         shown-more (modulusWord ws) (sizeWord ws) (entriesOf ws) j marks numbers 1 (toZ w32 (ofZ w32 z)) inside below
-        (λ ok. let shown = shown-at ws rows d held ok j inside row in (shown .0, shown .1 ∙ sym e ∙ sym (toZ-ofZ w32 z fits)))
+        (λ ok.
+        let shown = shown-at ws (reduced .D) (reduced .inverse) ok j inside (row-unit ws e pivots at reduced by-pivot j row) in
+        (shown .0, shown .1 ∙ sym same ∙ sym (toZ-ofZ w32 z fits)))
 
     -- it is not: 0 and 0
-    pub turn-hidden : (UnitIn ws rows d j → ⊥) → ShownIn ws (j + 1) (set marks j 0) (set numbers j (pos 0))
+    pub turn-hidden : (UnitAt (sizeWord ws) (getD at j 0) j e → ⊥) → ShownIn ws (j + 1) (set marks j 0) (set numbers j (pos 0))
     turn-hidden no-row =
         shown-more (modulusWord ws) (sizeWord ws) (entriesOf ws) j marks numbers 0 (pos 0) inside below
-        (λ ok. hidden-at ws rows d held ok j no-row)
+        (λ ok.
+        hidden-at ws (reduced .D) (reduced .inverse) ok j (λ unit. no-row (unit-row ws e pivots at reduced by-pivot j inside unit)))

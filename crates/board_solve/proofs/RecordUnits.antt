@@ -1,17 +1,15 @@
 -- The numbers of a unit row, and that a row of numbers is the unit row exactly if their residues are.
 use mathlib.Core.Path.{_≡_, refl, sym, ap, _∙_}
 use mathlib.Core.Bool.{Bool, true, false}
-use mathlib.Core.List.{List}
 use Prim.Native.Nat.{ℕ, _<_}
 use native.Mathlib.Omega.{arith}
 use lib.Dec.{eqb}
-use lib.ListN.{length, getD}
 use borrow.Author.Tests.{eq-eqb, ne-eqb}
 use Rattle.algebra.specs.Choice.{choose}
 use Rattle.algebra.specs.Matrix.{Vector, unit}
 use Rattle.field.specs.Residue.{reduce, residues}
 use Rattle.field.proofs.Residues.{residue-path, reduce-small}
-use Rattle.board_solve.specs.Records.{unitNumber, IsUnitRow}
+use Rattle.board_solve.specs.Records.{unitNumber}
 
 -- the unit row of j has 1 at j, and 0 at another place
 pub unit-here : (j t : ℕ) → t ≡ j → unitNumber j t ≡ 1
@@ -36,18 +34,16 @@ unit-not-zero p j h e =
     sym (reduce-small p 0 (omega arith)) ∙ ap (λ a. a .value) e ∙ unit-value p j j h ∙ unit-here j j refl in
     absurd (omega arith)
 
--- e has the values of the first n residues of x
+-- y are the values of the first n residues of x
 module _
     (p n j : ℕ)
-    (e : List ℕ)
+    (y : ℕ → ℕ)
     (x : Vector (residues p))
     (proper : 1 < p)
-    (long : length e ≡ n)
-    (same : (c : ℕ) → c < n → getD e c 0 ≡ x c .value)
+    (same : (c : ℕ) → c < n → y c ≡ x c .value)
   where
-    pub numbers-to-residues : IsUnitRow e j → (c : ℕ) → c < n → x c ≡ unit (residues p) j c
-    numbers-to-residues row c h = residue-path (sym (same c h) ∙ row c (omega arith) ∙ sym (unit-value p j c proper))
+    pub numbers-to-residues : ((c : ℕ) → c < n → y c ≡ unitNumber j c) → (c : ℕ) → c < n → x c ≡ unit (residues p) j c
+    numbers-to-residues row c h = residue-path (sym (same c h) ∙ row c h ∙ sym (unit-value p j c proper))
 
-    pub residues-to-numbers : ((c : ℕ) → c < n → x c ≡ unit (residues p) j c) → IsUnitRow e j
-    residues-to-numbers row c h =
-        let l : c < n = omega arith in same c l ∙ ap (λ a. a .value) (row c l) ∙ unit-value p j c proper
+    pub residues-to-numbers : ((c : ℕ) → c < n → x c ≡ unit (residues p) j c) → (c : ℕ) → c < n → y c ≡ unitNumber j c
+    residues-to-numbers row c h = same c h ∙ ap (λ a. a .value) (row c h) ∙ unit-value p j c proper

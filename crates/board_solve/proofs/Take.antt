@@ -19,7 +19,7 @@ use Rattle.field.specs.Written.{numbers}
 use Rattle.field.proofs.Residues.{reduce-of-value, reduce-small}
 use Rattle.field.proofs.Written.{is-tabulate}
 use Rattle.ledger.specs.Ledger.{InSpan, valueColumn, entry}
-use Rattle.ledger.specs.Board.{rowLength, rowStart, valueStart, modulusWord, sizeWord, countWord, entriesOf, layout}
+use Rattle.ledger.specs.Board.{IsBoard, rowLength, rowStart, valueStart, modulusWord, sizeWord, countWord, entriesOf, layout}
 use Rattle.ledger.specs.Changes.{Appended}
 use Rattle.ledger.specs.Calls.{laidOut}
 use Rattle.ledger.specs.Steps.{newTold, repeatTold, mixWords}
@@ -29,11 +29,11 @@ use Rattle.ledger.proofs.EntryMore.{length-more}
 use Rattle.ledger.proofs.Proper.{append-proper}
 use Rattle.ledger.proofs.LayoutChanges.{appended-layout}
 use Rattle.ledger.proofs.LedgerLaws.{take-new, take-repeat, take-conflict}
-use Rattle.board_words.specs.Inverse.{BoardInverse}
 use Rattle.board_solve.specs.Combination.{residuesOf, RowFor, Combination}
+use Rattle.board_solve.specs.Records.{valuesOf}
 use Rattle.board_solve.specs.Taking.{TakesRow}
-use Rattle.board_solve.proofs.Standing.{heldValues, values-same, held-sizes}
-use Rattle.board_solve.proofs.Combinations.{line-residues}
+use Rattle.board_solve.proofs.Standing.{values-same, board-sizes}
+use Rattle.board_solve.proofs.Candidates.{line-residues}
 
 -- the first n numbers of a list: k of them below p, the others 0
 front-numbers : (p n k : ℕ) (c : List ℕ) → k ≤ n → n ≤ length c → ((t : ℕ) → t < k → getD c t 0 < p)
@@ -59,12 +59,12 @@ front-numbers p n k c h l below zero-at =
         ∙ sym (getD-replicate (n - k) t 0 0 inside))
 
 -- the values of the standing rows lie in the board
-pub values-reach : (ws rows d : List ℕ) → BoardInverse ws rows d → (t : ℕ) → t < countWord ws
+pub values-reach : (ws : List ℕ) → IsBoard ws → (t : ℕ) → t < countWord ws
     → valueStart (sizeWord ws) 0 + t * rowLength (sizeWord ws) < length ws
-values-reach ws rows d H t h =
-    rw (← value-step (sizeWord ws) t, H .board .long) (value-inside (sizeWord ws) t (omega (arith, H .board .count)))
+values-reach ws b t h =
+    rw (← value-step (sizeWord ws) t, b .long) (value-inside (sizeWord ws) t (omega (arith, b .count)))
 
-module _ (ws rows d f : List ℕ) (H : BoardInverse ws rows d) (row : RowFor ws f) where
+module _ (ws f : List ℕ) (b : IsBoard ws) (row : RowFor ws f) where
   -- ---- f is no combination of the rows
 
   module _ (c : List ℕ) (C : Combination ws f c false) where
@@ -75,12 +75,12 @@ module _ (ws rows d f : List ℕ) (H : BoardInverse ws rows d) (row : RowFor ws 
     pub new-room : countWord ws < sizeWord ws
     new-room =
         let more =
-        append-proper (modulusWord ws) (sizeWord ws) (entriesOf ws) (board-proper ws (H .board)) (H .board .prime) f 0
-        (record { long = row .long; below = λ i h. row .below i (rw (row .long) at h); value-below = held-sizes ws rows d H .0 }) free in
+        append-proper (modulusWord ws) (sizeWord ws) (entriesOf ws) (board-proper ws b) (b .prime) f 0
+        (record { long = row .long; below = λ i h. row .below i (rw (row .long) at h); value-below = board-sizes ws b .0 }) free in
         omega (arith, more .fits, length-more (entriesOf ws) (entry f 0), words-count ws)
 
     pub row-fits : rowStart (length f) (suc (countWord ws)) ≤ length ws
-    row-fits = rw (row .long, H .board .long) (row-inside (sizeWord ws) (suc (countWord ws)) new-room)
+    row-fits = rw (row .long, b .long) (row-inside (sizeWord ws) (suc (countWord ws)) new-room)
 
     -- and the board with the row appended is what the ledger's step leaves
     pub new-outcome : (v : ℕ) (mix after : List ℕ) → Appended (length f) (countWord ws) f v ws after
@@ -91,9 +91,9 @@ module _ (ws rows d f : List ℕ) (H : BoardInverse ws rows d) (row : RowFor ws 
       where
         appended : after ≡ layout (modulusWord ws) (sizeWord ws) (entriesOf ws ++ (entry f v ∷ []))
         appended =
-            appended-layout (modulusWord ws) (sizeWord ws) (entriesOf ws) f v after (board-wide ws (H .board))
+            appended-layout (modulusWord ws) (sizeWord ws) (entriesOf ws) f v after (board-wide ws b)
             (rw (words-count ws) new-room) (row .long)
-            (rw (words-count ws, board-layout ws (H .board)) (rw (row .long) at a))
+            (rw (words-count ws, board-layout ws b) (rw (row .long) at a))
 
   -- ---- f is a combination of the rows
 
@@ -106,29 +106,29 @@ module _ (ws rows d f : List ℕ) (H : BoardInverse ws rows d) (row : RowFor ws 
     unfolding mixWords
     mix-words =
         rw (words-count ws)
-        (front-numbers (modulusWord ws) (sizeWord ws) (countWord ws) c (H .board .count)
-        (omega (arith, C .long, held-sizes ws rows d H .1)) (C .below) (C .zeros))
+        (front-numbers (modulusWord ws) (sizeWord ws) (countWord ws) c (b .count)
+        (omega (arith, C .long, board-sizes ws b .1)) (C .below) (C .zeros))
 
     -- the same combination of the values is what `dot` adds up
     abbrev added : Residue (modulusWord ws)
     added =
         sum (residues (modulusWord ws)) (length (take (countWord ws) c))
-        (λ t. line (modulusWord ws) (take (countWord ws) c) 0 1 t ⊗ heldValues ws t)
+        (λ t. line (modulusWord ws) (take (countWord ws) c) 0 1 t ⊗ valuesOf ws t)
 
     added-values : added
         ≡ sum (residues (modulusWord ws)) (length (entriesOf ws))
         (λ t. residuesOf (modulusWord ws) c t ⊗ valueColumn (modulusWord ws) (entriesOf ws) t)
     added-values =
-        ap (λ m. sum (residues (modulusWord ws)) m (λ t. line (modulusWord ws) (take (countWord ws) c) 0 1 t ⊗ heldValues ws t)) long
+        ap (λ m. sum (residues (modulusWord ws)) m (λ t. line (modulusWord ws) (take (countWord ws) c) 0 1 t ⊗ valuesOf ws t)) long
         ∙ sum-same (residues (modulusWord ws)) (length (entriesOf ws)) _ _
         (λ t h.
         let inside : t < countWord ws = omega (arith, words-count ws) in
         ap₂ _⊗_
         (line-residues (modulusWord ws) (take (countWord ws) c) t ∙ ap (reduce (modulusWord ws)) (getD-take (countWord ws) c t 0 inside))
-        (sym (values-same ws rows d H t inside)))
+        (sym (values-same ws t inside)))
       where
         long : length (take (countWord ws) c) ≡ length (entriesOf ws)
-        long = length-take-le (countWord ws) c (omega (arith, C .long, held-sizes ws rows d H .2)) ∙ sym (words-count ws)
+        long = length-take-le (countWord ws) c (omega (arith, C .long, board-sizes ws b .2)) ∙ sym (words-count ws)
 
     module _ (v r : ℕ) (mix after : List ℕ) (written : after ≡ take (sizeWord ws) c) (total : r ≡ added .value) where
       -- the board stays, and the mix is written
@@ -136,7 +136,7 @@ module _ (ws rows d f : List ℕ) (H : BoardInverse ws rows d) (row : RowFor ws 
           → outcome {M = List ℕ × List ℕ} told (ws, after)
           ≡ outcome told
           (layout (modulusWord ws) (sizeWord ws) (entriesOf ws), mixWords (modulusWord ws) (sizeWord ws) (entriesOf ws) (residuesOf (modulusWord ws) c))
-      left-as told = ap₂ (λ xs ys. outcome {M = List ℕ × List ℕ} told (xs, ys)) (sym (board-layout ws (H .board))) (written ∙ mix-words)
+      left-as told = ap₂ (λ xs ys. outcome {M = List ℕ × List ℕ} told (xs, ys)) (sym (board-layout ws b)) (written ∙ mix-words)
 
       -- where the values give v too, the ledger's step is a repeat
       pub repeat-outcome : r ≡ v → TakesRow ws f v mix (outcome (repeatTold (countWord ws)) (ws, after))
@@ -146,7 +146,7 @@ module _ (ws rows d f : List ℕ) (H : BoardInverse ws rows d) (row : RowFor ws 
           ∙ left-as (repeatTold (length (entriesOf ws)))
           ∙ sym
           (ap (laidOut (modulusWord ws) (sizeWord ws))
-          (take-repeat (modulusWord ws) ok (sizeWord ws) (entriesOf ws) (board-proper ws (H .board)) f v mix combination
+          (take-repeat (modulusWord ws) ok (sizeWord ws) (entriesOf ws) (board-proper ws b) f v mix combination
           (sym added-values ∙ sym (reduce-of-value added total) ∙ ap (reduce (modulusWord ws)) same)))
 
       -- otherwise it is refused with 9
@@ -156,5 +156,5 @@ module _ (ws rows d f : List ℕ) (H : BoardInverse ws rows d) (row : RowFor ws 
           left-as (refused Conflict)
           ∙ sym
           (ap (laidOut (modulusWord ws) (sizeWord ws))
-          (take-conflict (modulusWord ws) ok (sizeWord ws) (entriesOf ws) (board-proper ws (H .board)) f v mix combination
+          (take-conflict (modulusWord ws) ok (sizeWord ws) (entriesOf ws) (board-proper ws b) f v mix combination
           (λ q. other (total ∙ ap (λ (a : Residue (modulusWord ws)). a .value) (added-values ∙ q) ∙ reduce-small (modulusWord ws) v small))))

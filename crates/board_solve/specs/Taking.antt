@@ -8,12 +8,10 @@ use Rattle.checks.specs.Prime.{IsModulus}
 use Rattle.ledger.specs.Board.{modulusWord, sizeWord, ledgerOf}
 use Rattle.ledger.specs.Steps.{takeAccepted}
 use Rattle.ledger.specs.Calls.{laidOut}
-use Rattle.board_words.specs.Inverse.{BoardInverse}
-use Rattle.board_solve.specs.Combination.{RowFor}
+use Rattle.board_solve.specs.Combination.{Findable}
 
-pub record Takeable (ws rows d f : List ℕ) (v : ℕ) (mix : List ℕ) : Type 0 where
-  pub inverse : BoardInverse ws rows d
-  pub row : RowFor ws f
+pub record Takeable (ws f : List ℕ) (v : ℕ) (c mix : List ℕ) : Type 0 where
+  pub findable : Findable ws f c
   pub value-below : v < modulusWord ws
   pub mix-long : length mix ≡ sizeWord ws
 

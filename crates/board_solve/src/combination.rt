@@ -1,25 +1,35 @@
-// Whether a row is a combination of the standing rows of a board, and which. R is the table of these rows, and D a quasiinverse of it.
-ghost use Rattle.board_solve.specs.Combination.{Mixable, Mixed, Findable, Combination};
+// Whether a row is a combination of the standing rows of a board, and which. R is the table of these rows, and D a pivot inverse of
+// it, which is never made: f D comes of an elimination of the turned board.
+ghost use Rattle.board_solve.specs.Combination.{CandidateRoom, CandidateTold, Findable, Combination};
 use board_words::layout;
+use board_words::layout::COUNT;
+use board_words::layout::HEADER;
+use board_words::layout::MODULUS;
+use board_words::layout::SIZE;
 
-// Writes the row `by` times the table, whose rows have `width` numbers, to the front of zeros.
-pub fn mix_rows(p: u32, by: &[u32], table: &[u32], width: usize, out: &mut [u32])
-    requires { ⌜ Mixable p (now by) (now table) width (now out) ⌝ }
-    ensures { λ _. ⌜ Mixed p (now (by .entry)) (now (table .entry)) width (now (out .exit)) ⌝ }
+// Whether the k multiplier rows are independent; then the zeros c become f D, the only combination of the rows that can be f: the
+// solution of the system of the turned board with the right side f.
+pub fn candidate(board: &[u32], f: &[u32], c: &mut [u32]) -> bool
+    requires { ⌜ CandidateRoom (now board) (now f) (now c) ⌝ }
+    ensures { λ r. ⌜ CandidateTold (now (board .entry)) (now (f .entry)) (now (c .exit)) r ⌝ }
 {
-    matrix_mul::rows::combine(p, by, table, 0, width, &mut out[..width]);
+    let n = board[SIZE] as usize;
+    let k = board[COUNT] as usize;
+    let grid = layout::turned_grid(n, k);
+    matrix_echelon::reduced::solution(board[MODULUS], grid, board, f, 1, &mut c[..k]) == k
 }
 
-// Whether the row f is a combination of the standing rows: c = f D is the only one that can be, and it is exactly if c R = f.
-pub fn find(board: &[u32], rows: &[u32], d: &[u32], f: &[u32], c: &mut [u32]) -> bool
-    requires { ⌜ Findable (now board) (now rows) (now d) (now f) (now c) ⌝ }
-    ensures { λ r. ⌜ Combination (now (board .entry)) (now (f .entry)) (now (c .exit)) r ⌝ }
+// Whether the row f is a combination of the standing rows: c = f D is the only one that can be, and it is exactly if c R = f. (The
+// header's words are no residues, so the rows are lent without it.)
+pub fn find(board: &[u32], f: &[u32], c: &[u32]) -> bool
+    requires { ⌜ Findable (now board) (now f) (now c) ⌝ }
+    ensures { λ r. ⌜ Combination (now (board .entry)) (now (f .entry)) (now (c .entry)) r ⌝ }
 {
-    let p = board[layout::MODULUS];
-    let n = board[layout::SIZE] as usize;
-    let k = board[layout::COUNT] as usize;
-    mix_rows(p, f, d, k, c);
+    let p = board[MODULUS];
+    let n = board[SIZE] as usize;
+    let k = board[COUNT] as usize;
+    let width = layout::row_length(n);
     let mut g = words::row_room();
-    mix_rows(p, &c[..k], rows, n, &mut g);
+    matrix_mul::rows::combine(p, &c[..k], &board[HEADER..], 0, width, &mut g[..n]);
     words::same(f, &g[..n])
 }

@@ -18,21 +18,13 @@ pub enum TakeAnswer {
 }
 
 // Takes the row f, n multipliers, with the value v: appends it where it is no combination of the standing rows, and else writes
-// the combination to the mix and compares the same combination of the values with v.
-pub fn take_row(
-    board: &mut [u32],
-    rows: &[u32],
-    d: &[u32],
-    f: &[u32],
-    v: u32,
-    mix: &mut [u32],
-) -> TakeAnswer
-    requires { ⌜ Takeable (now board) (now rows) (now d) (now f) v (now mix) ⌝ }
+// the combination, the candidate c, to the mix and compares the same combination of the values with v.
+pub fn take_row(board: &mut [u32], f: &[u32], v: u32, c: &[u32], mix: &mut [u32]) -> TakeAnswer
+    requires { ⌜ Takeable (now board) (now f) v (now c) (now mix) ⌝ }
     ensures { λ r. ⌜ TakesRow (now (board .entry)) (now (f .entry)) v (now (mix .entry)) (outcome (takeTold r) (now (board .exit), now (mix .exit))) ⌝ }
 {
     let count = board[layout::COUNT];
-    let mut c = words::row_room();
-    if !combination::find(board, rows, d, f, &mut c) {
+    if !combination::find(board, f, c) {
         change::append(board, count, f, v);
         return TakeAnswer::New(count + 1);
     }

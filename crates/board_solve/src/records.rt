@@ -1,15 +1,32 @@
-// Showing the records of a board: record j is settled exactly if row j of D R is the unit row of j, and then it is row j of D
-// times the values.
+// Showing the records of a board. R is the table of the standing rows, and D a pivot inverse of it: record j is settled exactly if
+// row j of D R is the unit row of j, and then it is row j of D times the values. Both stand in the reduced form of the rows, with
+// the values carried along.
 ghost use mathlib.Core.Path.{_≡_};
-ghost use lib.ListN.{length};
-ghost use Rattle.words.specs.Lengths.{largestTable};
+ghost use Prim.Native.Nat.{_<_, _≤_};
+ghost use lib.ListN.{getD};
 ghost use Rattle.algebra.specs.Answers.{Tells};
+ghost use Rattle.checks.specs.Prime.{largestModulus};
 ghost use Rattle.words.specs.Words.{Below};
 ghost use Rattle.signed.specs.Reading.{reading};
-ghost use Rattle.ledger.specs.Board.{boardLength};
-ghost use Rattle.board_solve.specs.Records.{IsUnitRow, UnitAt, valueAt, RowOfD, Showable, ShowsRecords};
-use super::combination;
+ghost use Rattle.board_solve.specs.Records.{ReducedRoom, ReducedTold, IsUnitRow, WorkedRow, workedPlace, UnitAt, Showable, ShowsRecords};
 use board_words::layout;
+use board_words::layout::COUNT;
+use board_words::layout::MODULUS;
+use board_words::layout::SIZE;
+
+// Whether the k multiplier rows are independent; then e becomes the reduced form of the rows with the values carried along.
+pub fn reduce_board(board: &[u32], e: &mut [u32], pivots: &mut [u32]) -> bool
+    requires { ⌜ ReducedRoom (now board) (now e) (now pivots) ⌝ }
+    ensures { λ r. ⌜ ReducedTold (now (board .entry)) (now (e .exit)) (now (pivots .exit)) r ⌝ }
+{
+    let n = board[SIZE] as usize;
+    let k = board[COUNT] as usize;
+    let grid = layout::rows_grid(n, k);
+    let first = layout::value_start(n, 0);
+    let step = layout::row_length(n);
+    let p = board[MODULUS];
+    matrix_echelon::reduced::reduced(p, grid, board, &board[first..], step, e, pivots) == k
+}
 
 // Whether e is the unit row of j.
 fn is_unit(e: &[u32], j: usize) -> bool
@@ -29,52 +46,49 @@ fn is_unit(e: &[u32], j: usize) -> bool
     true
 }
 
-// Whether row j of D R is the unit row of j; it is zeros where row j of D is.
-fn settled(p: u32, n: usize, k: usize, j: usize, rows: &[u32], d: &[u32]) -> bool
-    requires { ⌜ RowOfD p n k j (now d) × (length (now rows) ≡ largestTable) × Below p (now rows) ⌝ }
-    ensures { λ r. ⌜ Tells r (UnitAt p n k j (now (rows .entry)) (now (d .entry))) ⌝ }
+// Whether the worked row of record j is the unit row of j. The row is counted from 1; 0 says that there is none.
+fn settled(n: usize, row: usize, e: &[u32], j: usize) -> bool
+    requires { ⌜ WorkedRow n row (now e) ⌝ }
+    ensures { λ r. ⌜ Tells r (UnitAt n row j (now (e .entry))) ⌝ }
 {
-    let at = j * k;
-    let end = at + k;
-    let row = &d[at..end];
-    if words::all_zero(row) {
+    if row == 0 {
         return false;
     }
-    let mut e = words::row_room();
-    combination::mix_rows(p, row, rows, n, &mut e);
-    is_unit(&e[..n], j)
+    let at = (row - 1) * (n + 1);
+    let end = at + n;
+    is_unit(&e[at..end], j)
 }
 
-// The signed reading of row j of D times the values, which are read in place.
-fn record_at(p: u32, n: usize, k: usize, j: usize, board: &[u32], d: &[u32]) -> i32
-    requires { ⌜ RowOfD p n k j (now d) × (length (now board) ≡ boardLength n) ⌝ }
-    ensures { λ r. ⌜ r ≡ reading p (valueAt p n k j (now (board .entry)) (now (d .entry)) .value) ⌝ }
+// The signed reading of the value behind a worked row.
+fn record_at(p: u32, n: usize, row: usize, e: &[u32]) -> i32
+    requires { ⌜ WorkedRow n row (now e) × (0 < row) × (0 < p) × (p ≤ largestModulus) × Below p (now e) ⌝ }
+    ensures { λ r. ⌜ r ≡ reading p (getD (now (e .entry)) (workedPlace n row n) 0) ⌝ }
 {
-    let at = j * k;
-    let end = at + k;
-    let v = field::sums::dot(
-        p,
-        &d[at..end],
-        board,
-        layout::value_start(n, 0),
-        layout::row_length(n),
-    );
-    signed::read_from(p, signed::low_end(p), v)
+    let at = (row - 1) * (n + 1) + n;
+    signed::read_from(p, signed::low_end(p), e[at])
 }
 
 // Marks each settled record and gives its signed reading; 0 and 0 for the others.
-pub fn show_records(board: &[u32], rows: &[u32], d: &[u32], marks: &mut [u32], numbers: &mut [i32])
-    requires { ⌜ Showable (now board) (now rows) (now d) (now marks) (now numbers) ⌝ }
+pub fn show_records(
+    board: &[u32],
+    e: &[u32],
+    pivots: &[u32],
+    marks: &mut [u32],
+    numbers: &mut [i32],
+)
+    requires { ⌜ Showable (now board) (now e) (now pivots) (now marks) (now numbers) ⌝ }
     ensures { λ _. ⌜ ShowsRecords (now (board .entry)) (now (marks .exit)) (now (numbers .exit)) ⌝ }
 {
-    let p = board[layout::MODULUS];
-    let n = board[layout::SIZE] as usize;
-    let k = board[layout::COUNT] as usize;
+    let p = board[MODULUS];
+    let n = board[SIZE] as usize;
+    let k = board[COUNT] as usize;
+    let at = matrix_echelon::reduced::rows_by_pivot(k, pivots);
     let mut j = 0;
     while j < n {
-        if settled(p, n, k, j, rows, d) {
+        let row = at[j] as usize;
+        if settled(n, row, e, j) {
             marks[j] = 1;
-            numbers[j] = record_at(p, n, k, j, board, d);
+            numbers[j] = record_at(p, n, row, e);
         } else {
             marks[j] = 0;
             numbers[j] = 0;

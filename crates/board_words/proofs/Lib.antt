@@ -2,5 +2,4 @@ pub mod ChangeRows
 pub mod TestSizes
 pub mod TestFilled
 pub mod TestRows
-pub mod TestIndependent
 pub mod TestBoard

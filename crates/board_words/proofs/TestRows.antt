@@ -1,76 +1,121 @@
--- The multiplier rows put one behind the other: one row more, and that they are then the table of the board's rows.
-use mathlib.Core.Path.{_≡_, refl, _∙_}
-use mathlib.Core.Logic.{⊎-elim}
+-- The multiplier rows read in place, plain and turned: they lie in the words, and are the table of the board's rows and its
+-- transpose, so that a rank of either is the rank of the rows.
+use mathlib.Core.Path.{_≡_, sym, ap, _∙_, subst}
 use mathlib.Core.List.{List}
-use Prim.Native.Nat.{ℕ, _+_, _*_, _-_, _≤_, _<_}
-use native.Mathlib.Nat.{add-mul, mul-le-mul-right, le-of-suc-le-suc, eq-or-lt-of-le}
-use native.Mathlib.Numerals.{add-one}
+use Prim.Native.Nat.{ℕ, _+_, _*_, _<_}
 use native.Mathlib.Omega.{arith}
-use lib.ListN.{length, getD, take, drop}
-use Rattle.words.specs.Words.{Copied}
-use Rattle.words.proofs.Parts.{replaced, replaced-length, replaced-inside, replaced-elsewhere, part-length, part-at}
-use Rattle.ledger.specs.Board.{rowStart}
-use Rattle.ledger.proofs.LayoutPlaces.{row-ends, row-holds}
-use Rattle.board_words.specs.Tested.{Rows, Laid}
-use Rattle.board_words.proofs.TestSizes.{table-most}
+use lib.ListN.{length, getD}
+use Rattle.algebra.specs.Matrix.{Matrix, Sized, transpose}
+use Rattle.algebra.specs.Quasiinverse.{Marks, count, IsPivotInverse}
+use Rattle.algebra.proofs.Decide.{cut-inside, cut-sized}
+use Rattle.algebra.proofs.Transpose.{transposed}
+use Rattle.field.specs.Residue.{reduce, residues}
+use Rattle.field.proofs.Field.{residues-field}
+use Rattle.field.proofs.Views.{table-entry, table-sized}
+use Rattle.matrix_mul.proofs.Places.{tables-equal}
+use Rattle.matrix_echelon.specs.Grid.{gridPlace, entryOf, gridOf, TableReadable}
+use Rattle.matrix_echelon.specs.Forward.{IsRank}
+use Rattle.ledger.specs.Board.{headerLength, rowLength, modulusWord, sizeWord, countWord, multiplierTable}
+use Rattle.ledger.proofs.LayoutPlaces.{row-first, row-step, row-ends, row-holds}
+use Rattle.board_words.specs.Rows.{rowsGrid, turnedGrid}
+use Rattle.board_words.specs.Tested.{Header}
+use Rattle.board_words.proofs.TestSizes.{count-most, rows-inside}
 
--- row i lies in the words, and there is room for it
-pub row-inside : {k n : ℕ} {ws rows : List ℕ} → Rows k n ws rows → (i : ℕ) → i < k → rowStart n i + n ≤ length ws
-row-inside {k} {n} r i h = omega (arith, r .inside, row-ends n i k h, row-holds n)
+-- D is a pivot inverse of the multiplier rows, with r of them in J
+pub record RowsRank (ws : List ℕ) (D : Matrix (residues (modulusWord ws))) (r : ℕ) : Type 0 where
+  pub I : Marks
+  pub J : Marks
+  pub inverse : IsPivotInverse (residues (modulusWord ws)) (countWord ws) (sizeWord ws) (multiplierTable ws) D I J
+  pub rank : r ≡ count (countWord ws) J
 
-pub row-room : {k n : ℕ} {ws rows : List ℕ} → Rows k n ws rows → (i : ℕ) → i < k → i * n + n ≤ 4096
-row-room {k} {n} r i h = omega (arith, mul-le-mul-right n h, table-most (r .k-most) (r .n-most))
+module _ (ws : List ℕ) where
+  -- where entry (i, j) of the rows stands
+  plain-place : (i j : ℕ) → gridPlace (rowsGrid (sizeWord ws) (countWord ws)) i j ≡ headerLength + i * rowLength (sizeWord ws) + j
+  plain-place i j = omega (arith, row-first (sizeWord ws))
 
--- so is the place that it goes to
-pub row-fits : {i k n : ℕ} {ws rows₀ rows : List ℕ} → Rows k n ws rows₀ → Laid i n ws rows₀ rows → i < k → i * n + n ≤ length rows
-row-fits {i} r laid h = omega (arith, row-room r i h, laid .same-length, r .room)
+  turned-place : (i j : ℕ) → gridPlace (turnedGrid (sizeWord ws) (countWord ws)) j i ≡ headerLength + i * rowLength (sizeWord ws) + j
+  turned-place i j = omega (arith, row-first (sizeWord ws))
 
-pub part-room : (a n : ℕ) (rows : List ℕ) → a + n ≤ length rows → n ≤ length (take (length rows - a) (drop a rows))
-part-room a n rows h = rw (part-length rows a (length rows - a) (omega arith)) (omega arith)
+  -- the tables that are read are that of the board's rows and its transpose
+  pub grid-rows : gridOf (modulusWord ws) (rowsGrid (sizeWord ws) (countWord ws)) ws ≡ multiplierTable ws
+  unfolding gridOf
+  grid-rows =
+      let p = modulusWord ws in
+      let n = sizeWord ws in
+      let k = countWord ws in
+      tables-equal p k n _ _ (cut-sized (residues p) k n (entryOf p (rowsGrid n k) ws)) (table-sized p ws headerLength (rowLength n) k n)
+      (λ i j h l.
+      cut-inside (residues p) k n (entryOf p (rowsGrid n k) ws) i j h l
+      ∙ ap (λ q. reduce p (getD ws q 0)) (plain-place i j)
+      ∙ sym (table-entry p ws headerLength (rowLength n) k n i j h l))
 
-pub laid-none : (n : ℕ) (ws rows : List ℕ) → Laid 0 n ws rows rows
-laid-none n ws rows =
-    record { same-length = refl; each = λ i j h l. absurd (omega arith); rest = λ q h l. refl }
+  turned-sized : Sized (residues (modulusWord ws)) (sizeWord ws) (countWord ws) (transpose (residues (modulusWord ws)) (multiplierTable ws))
+  unfolding transpose
+  turned-sized =
+      let sized = table-sized (modulusWord ws) ws headerLength (rowLength (sizeWord ws)) (countWord ws) (sizeWord ws) in
+      record { rows-end = λ i j h. sized .columns-end j i h; columns-end = λ i j h. sized .rows-end j i h }
 
--- the rows up to i, then row i copied to the part behind them
-module _ (i n : ℕ) (ws rows₀ rows ys : List ℕ) (laid : Laid i n ws rows₀ rows) (room : i * n + n ≤ length rows)
-    (copied : Copied ws (rowStart n i) n (take (length rows - i * n) (drop (i * n) rows)) ys) where
-  part-long : length ys ≡ length rows - i * n
-  part-long = copied .same-length ∙ part-length rows (i * n) (length rows - i * n) (omega arith)
+  grid-turned :
+      gridOf (modulusWord ws) (turnedGrid (sizeWord ws) (countWord ws)) ws
+      ≡ transpose (residues (modulusWord ws)) (multiplierTable ws)
+  unfolding gridOf transpose
+  grid-turned =
+      let p = modulusWord ws in
+      let n = sizeWord ws in
+      let k = countWord ws in
+      tables-equal p n k _ _ (cut-sized (residues p) n k (entryOf p (turnedGrid n k) ws)) turned-sized
+      (λ j i l h.
+      cut-inside (residues p) n k (entryOf p (turnedGrid n k) ws) j i l h
+      ∙ ap (λ q. reduce p (getD ws q 0)) (turned-place i j)
+      ∙ sym (table-entry p ws headerLength (rowLength n) k n i j h l))
 
-  after : List ℕ
-  after = replaced rows (i * n) (length rows - i * n) ys
-
-  old : (t j : ℕ) → t < i → j < n → getD after (t * n + j) 0 ≡ getD ws (rowStart n t + j) 0
-  unfolding after
-  old t j h l =
-      replaced-elsewhere rows (i * n) (length rows - i * n) ys (omega arith) part-long (t * n + j)
-      (λ q g e. omega (arith, mul-le-mul-right n h))
-      ∙ laid .each t j h l
-
-  new : (j : ℕ) → j < n → getD after (i * n + j) 0 ≡ getD ws (rowStart n i + j) 0
-  unfolding after
-  new j l =
-      replaced-inside rows (i * n) (length rows - i * n) ys (omega arith) part-long j (omega arith) ∙ copied .front j l
-
-  behind : (q : ℕ) → (i + 1) * n ≤ q → q < length rows₀ → getD after q 0 ≡ getD rows₀ q 0
-  unfolding after
-  behind q h l =
-      let wide : i * n + n ≤ q = omega (arith, add-mul i 1 n) in
-      let place : i * n + (q - i * n) ≡ q = omega arith in
-      let inside : q - i * n < length rows - i * n = omega (arith, laid .same-length) in
-      rw (← place)
-      (replaced-inside rows (i * n) (length rows - i * n) ys (omega arith) part-long (q - i * n) inside
-      ∙ copied .rest (q - i * n) (omega arith)
-      ∙ part-at rows (i * n) (length rows - i * n) (q - i * n) inside
-      ∙ rw place (laid .rest q (omega arith) l))
-
-  pub laid-more : Laid (i + 1) n ws rows₀ (replaced rows (i * n) (length rows - i * n) ys)
-  unfolding after
-  laid-more =
+  -- a rank of the rows read in place
+  pub rows-rank : (r : ℕ) (R : IsRank (modulusWord ws) (rowsGrid (sizeWord ws) (countWord ws)) ws r) → RowsRank ws (R .D) r
+  rows-rank r R =
       record {
-        same-length = replaced-length rows (i * n) (length rows - i * n) ys (omega arith) part-long ∙ laid .same-length;
-        each = λ t j h l.
-            ⊎-elim (λ e. rw e (new j l)) (λ g. old t j g l) (eq-or-lt-of-le (le-of-suc-le-suc (rw add-one at h)));
-        rest = behind;
+        I = R .I;
+        J = R .J;
+        inverse =
+            subst (λ A. IsPivotInverse (residues (modulusWord ws)) (countWord ws) (sizeWord ws) A (R .D) (R .I) (R .J)) grid-rows (R .inverse);
+        rank = R .rank ∙ R .inverse .equally-many;
       }
+
+  module _ (h : Header ws) where
+    -- the rows lie in the words
+    entry-inside : (i j : ℕ) → i < countWord ws → j < sizeWord ws → headerLength + i * rowLength (sizeWord ws) + j < length ws
+    entry-inside i j l b =
+        let n = sizeWord ws in
+        omega (arith, row-step n i, row-ends n i (countWord ws) l, row-holds n, rows-inside ws h)
+
+    pub rows-readable : TableReadable (modulusWord ws) (rowsGrid (sizeWord ws) (countWord ws)) ws
+    rows-readable =
+        record {
+          is-modulus = h .prime;
+          rows-most = count-most ws h;
+          columns-most = h .size .1;
+          inside = λ i j l b. rw (plain-place i j) (entry-inside i j l b);
+        }
+
+    pub turned-readable : TableReadable (modulusWord ws) (turnedGrid (sizeWord ws) (countWord ws)) ws
+    turned-readable =
+        record {
+          is-modulus = h .prime;
+          rows-most = h .size .1;
+          columns-most = count-most ws h;
+          inside = λ j i l b. rw (turned-place i j) (entry-inside i j b l);
+        }
+
+    -- a rank of the turned rows: what is an inverse of them is one of the rows, turned
+    pub turned-rank : (r : ℕ) (R : IsRank (modulusWord ws) (turnedGrid (sizeWord ws) (countWord ws)) ws r)
+        → RowsRank ws (transpose (residues (modulusWord ws)) (R .D)) r
+    unfolding transpose
+    turned-rank r R =
+        let p = modulusWord ws in
+        let turned =
+        subst (λ A. IsPivotInverse (residues p) (sizeWord ws) (countWord ws) A (R .D) (R .I) (R .J)) grid-turned (R .inverse) in
+        record {
+          I = R .J;
+          J = R .I;
+          inverse = transposed (residues p) (residues-field p (h .prime .prime) .ring) turned;
+          rank = R .rank;
+        }

@@ -3,6 +3,8 @@ ghost use mathlib.Core.Path.{_≡_};
 ghost use Prim.Native.Nat.{_≤_};
 ghost use Rattle.checks.specs.Largest.{largest};
 ghost use Rattle.ledger.specs.Board.{rowLength, rowStart, valueStart, boardLength};
+ghost use Rattle.board_words.specs.Rows.{rowsGrid, turnedGrid};
+use matrix_echelon::Grid;
 
 // The words of the header, and of the largest board.
 pub const HEADER: usize = 3;
@@ -46,4 +48,32 @@ pub fn board_length(n: usize) -> usize
     ensures { λ r. ⌜ r ≡ boardLength n ⌝ }
 {
     row_start(n, n)
+}
+
+// The multipliers of k rows, as a table that is read in place.
+pub fn rows_grid(n: usize, k: usize) -> Grid
+    requires { ⌜ n ≤ largest ⌝ }
+    ensures { λ r. ⌜ r ≡ rowsGrid n k ⌝ }
+{
+    Grid {
+        start: row_start(n, 0),
+        down: row_length(n),
+        along: 1,
+        rows: k,
+        columns: n,
+    }
+}
+
+// The same turned: each row is a column.
+pub fn turned_grid(n: usize, k: usize) -> Grid
+    requires { ⌜ n ≤ largest ⌝ }
+    ensures { λ r. ⌜ r ≡ turnedGrid n k ⌝ }
+{
+    Grid {
+        start: row_start(n, 0),
+        down: 1,
+        along: row_length(n),
+        rows: n,
+        columns: k,
+    }
 }

@@ -1,9 +1,8 @@
-// The board test: whether words are a board, by document 01's clauses in their order. What it makes on the way, the rows and
-// a quasiinverse of them, serves the calls.
-ghost use Rattle.words.specs.Lengths.{largestTable};
-ghost use Rattle.words.specs.Words.{Zeros};
+// The board test: whether words are a board, by document 01's clauses in their order. The rows are independent exactly if their
+// rank is their number.
 ghost use Rattle.algebra.specs.Answers.{Tells};
-ghost use Rattle.board_words.specs.Tested.{Header, Filled, Rows, Laid, Inverted, BoardTold};
+ghost use Rattle.ledger.specs.Board.{IsBoard};
+ghost use Rattle.board_words.specs.Tested.{Header, Filled, LaidOut};
 use super::layout;
 use super::layout::COUNT;
 use super::layout::HEADER;
@@ -42,55 +41,25 @@ fn is_filled(board: &[u32]) -> bool
     words::all_zero(&board[end..])
 }
 
-// Puts the multipliers of the k rows one behind the other.
-fn copy_rows(board: &[u32], k: usize, n: usize, rows: &mut [u32])
-    requires { ⌜ Rows k n (now board) (now rows) ⌝ }
-    ensures { λ _. ⌜ Laid k n (now (board .entry)) (now (rows .entry)) (now (rows .exit)) ⌝ }
-{
-    let mut i = 0;
-    while i < k {
-        let from = layout::row_start(n, i);
-        let to = i * n;
-        words::copy(board, from, n, &mut rows[to..]);
-        i += 1;
-    }
-}
-
-// Whether the k multiplier rows are independent: whether a quasiinverse of them has every row in its set J.
-fn independent(board: &[u32], rows: &mut [u32], d: &mut [u32]) -> bool
-    requires { ⌜ Header (now board) × Filled (now board) × Zeros largestTable (now rows) × Zeros largestTable (now d) ⌝ }
-    ensures { λ r. ⌜ Inverted (now (board .entry)) (now (rows .exit)) (now (d .exit)) r ⌝ }
-{
-    let n = board[SIZE] as usize;
-    let k = board[COUNT] as usize;
-    copy_rows(board, k, n, rows);
-    let size = k * n;
-    let mut columns = words::row_room();
-    let mut chosen = words::row_room();
-    matrix_inverse::eliminate::eliminate(
-        board[MODULUS],
-        k,
-        n,
-        &rows[..size],
-        &mut d[..size],
-        0,
-        k,
-        &mut columns[..n],
-        &mut chosen[..k],
-    );
-    words::all_marked(&chosen[..k])
-}
-
-// Whether the words are a board; then `rows` holds its multiplier rows one behind the other, and `d` a quasiinverse of them.
-pub fn is_board(board: &[u32], rows: &mut [u32], d: &mut [u32]) -> bool
-    requires { ⌜ Zeros largestTable (now rows) × Zeros largestTable (now d) ⌝ }
-    ensures { λ r. ⌜ BoardTold (now (board .entry)) (now (rows .exit)) (now (d .exit)) r ⌝ }
+// Whether the words are laid out as a board's: all clauses but that the k multiplier rows are independent.
+pub fn is_laid_out(board: &[u32]) -> bool
+    ensures { λ r. ⌜ Tells r (LaidOut (now (board .entry))) ⌝ }
 {
     if !has_header(board) {
         return false;
     }
-    if !is_filled(board) {
+    is_filled(board)
+}
+
+// Whether the words are a board.
+pub fn is_board(board: &[u32]) -> bool
+    ensures { λ r. ⌜ Tells r (IsBoard (now (board .entry))) ⌝ }
+{
+    if !is_laid_out(board) {
         return false;
     }
-    independent(board, rows, d)
+    let n = board[SIZE] as usize;
+    let k = board[COUNT] as usize;
+    let grid = layout::rows_grid(n, k);
+    matrix_echelon::forward::rank(board[MODULUS], grid, board) == k
 }

@@ -3,49 +3,72 @@
 use mathlib.Core.Path.{sym}
 use native.Mathlib.Omega.{arith}
 use borrow.Author.Needs.{needs}
+use borrow.Author.Tests.{not-false}
+use Rattle.algebra.proofs.Answers.{guard-left, guard-taken}
+use Rattle.ledger.specs.Board.{IsBoard}
 use Rattle.ledger.proofs.WordsCalls.{show-off-board}
-use Rattle.board_words.specs.Inverse.{BoardInverse}
-use Rattle.board_calls.proofs.CallBoard.{is-held, no-board}
+use Rattle.board_words.specs.Tested.{LaidOut}
+use Rattle.board_words.proofs.TestBoard.{board-laid}
+use Rattle.board_solve.specs.Records.{BoardReduced}
 use Rattle.board_calls.proofs.CallShow.{show-no-marks, show-no-numbers, show-done}
 use Rattle.board_calls.proofs.show.Statement.{statement}
 use Rattle.board_calls.proofs.show.Tie as tie
 
--- past the test the words are a board, and its rows and their quasiinverse are held
+-- past the first test the words are laid out as a board's
+laid : (c : tie.Else1) → LaidOut (c .before .before .before .before .args .board .now)
+laid c = guard-left (c .before .is-laid-out .ensures) (c .if1 .left)
+
+-- the entry, from the place where the rows are reduced
+abbrev start-of : tie.After-reduce-board → tie.Start
+start-of c = c .before .before .before .before .before .before .before .before .before
+
+-- past the second they are a board, and its rows are reduced
 held :
-    (c : tie.Else1) →
-    let t = c .before .before .before in
-    BoardInverse (t .before .before .before .before .before .before .before .args .board .now) (t .is-board .last .1 .0) (t .is-board .last .1 .1 .0)
-held c = is-held (c .before .before .before .is-board .ensures) (c .if1 .left)
+    (c : tie.Else2) →
+    let r = c .before .before .before in
+    BoardReduced (start-of r .args .board .now) (r .reduce-board .last .1 .0) (r .reduce-board .last .1 .1 .0)
+held c = c .before .before .before .reduce-board .ensures .reduced (not-false _ (c .if2 .left))
 
-table-room-requires : tie.Need-table-room-requires
-table-room-requires c κs = search needs
+board : (c : tie.Else2) → IsBoard (start-of (c .before .before .before) .args .board .now)
+board c = held c .inverse .board
 
-table-room-requires-2 : tie.Need-table-room-requires-2
-table-room-requires-2 c κs = search needs
-
-slice-aggregate-is-board : tie.Need-slice-aggregate-is-board
-slice-aggregate-is-board c = search needs
-
-slice-aggregate-is-board-2 : tie.Need-slice-aggregate-is-board-2
-slice-aggregate-is-board-2 c = search needs
-
-is-board-requires : tie.Need-is-board-requires
-is-board-requires c κs = search needs
+is-laid-out-requires : tie.Need-is-laid-out-requires
+is-laid-out-requires c κs = search needs
 
 returns : tie.Need-returns
-returns c = sym (show-off-board _ (no-board (c .before .before .before .is-board .ensures) (c .if1 .taken)) _ _)
+returns c = sym (show-off-board _ (λ b. guard-taken (c .before .is-laid-out .ensures) (c .if1 .taken) (board-laid b)) _ _)
 
-shared-slice-read-n : tie.Need-shared-slice-read-n
-shared-slice-read-n c = omega (arith, held (c .before) .board .three)
+wide-table-requires : tie.Need-wide-table-requires
+wide-table-requires c κs = search needs
 
-cast-n : tie.Need-cast-n
-cast-n c = omega (arith, held (c .before) .board .size .1)
+row-room-requires : tie.Need-row-room-requires
+row-room-requires c κs = search needs
+
+slice-aggregate-reduce-board : tie.Need-slice-aggregate-reduce-board
+slice-aggregate-reduce-board c = search needs
+
+slice-aggregate-reduce-board-2 : tie.Need-slice-aggregate-reduce-board-2
+slice-aggregate-reduce-board-2 c = search needs
+
+reduce-board-requires : tie.Need-reduce-board-requires
+reduce-board-requires c κs =
+    let p = c .before .before in
+    record { laid = laid (p .before .before); rows-room = p .before .wide-table .ensures; pivots-room = p .row-room .ensures }
 
 returns-2 : tie.Need-returns-2
-returns-2 c = show-no-marks _ (held (c .before .before) .board) _ _ (c .if2 .taken)
+returns-2 c = sym (show-off-board _ (guard-taken (c .before .before .before .reduce-board .ensures .tells) (c .if2 .taken)) _ _)
+
+shared-slice-read-n : tie.Need-shared-slice-read-n
+shared-slice-read-n c = omega (arith, board (c .before) .three)
+
+cast-n : tie.Need-cast-n
+cast-n c = omega (arith, board (c .before) .size .1)
 
 returns-3 : tie.Need-returns-3
-returns-3 c = show-no-numbers _ (held (c .before .before .before) .board) _ _ (c .before .if2 .left) (c .if3 .taken)
+returns-3 c = show-no-marks _ (board (c .before .before)) _ _ (c .if3 .taken)
+
+returns-4 : tie.Need-returns-4
+returns-4 c = show-no-numbers _ (board (c .before .before .before)) _ _ (c .before .if3 .left) (c .if4 .taken)
 
 slice-aggregate-show-records : tie.Need-slice-aggregate-show-records
 slice-aggregate-show-records c = search needs
@@ -56,16 +79,20 @@ slice-aggregate-show-records-2 c = search needs
 show-records-requires : tie.Need-show-records-requires
 show-records-requires c κs =
     let e = c .before .before .before .before in
-    record { inverse = held (e .before .before .before); marks-long = e .before .if2 .left; numbers-long = e .if3 .left }
+    record { reduced = held (e .before .before .before); marks-long = e .before .if3 .left; numbers-long = e .if4 .left }
+
+-- the same, from the place where the records are shown
+shown-on : (c : tie.After-show-records) → IsBoard (start-of (c .before .before .before .before .before .before .before .before .before .before .before) .args .board .now)
+shown-on c = board (c .before .before .before .before .before .before .before .before)
 
 shared-slice-read-count : tie.Need-shared-slice-read-count
-shared-slice-read-count c = omega (arith, held (c .before .before .before .before .before .before .before .before .before .before .before .before) .board .three)
+shared-slice-read-count c = omega (arith, shown-on (c .before .before .before .before) .three)
 
 shared-slice-read-missing : tie.Need-shared-slice-read-missing
-shared-slice-read-missing c = omega (arith, held (c .before .before .before .before .before .before .before .before .before .before .before .before .before) .board .three)
+shared-slice-read-missing c = omega (arith, shown-on (c .before .before .before .before .before) .three)
 
 sub-missing : tie.Need-sub-missing
-sub-missing c = held (c .before .before .before .before .before .before .before .before .before .before .before .before .before) .board .count
+sub-missing c = shown-on (c .before .before .before .before .before) .count
 
 same-length : tie.Need-same-length
 same-length c = search needs
@@ -73,17 +100,17 @@ same-length c = search needs
 same-length-2 : tie.Need-same-length-2
 same-length-2 c = search needs
 
-returns-4 : tie.Need-returns-4
-returns-4 c =
-    let e = c .before .before .before .before .before .before .before .before .before .before in
-    let board = held (e .before .before .before) .board in
-    let written = c .before .before .before .before .before .show-records .ensures (board .prime) in
-    show-done _ board _ _ (e .before .if2 .left) (e .if3 .left) _ _ (written .0) (written .1)
+returns-5 : tie.Need-returns-5
+returns-5 c =
+    let w = c .before .before .before .before .before in
+    let e = w .before .before .before .before .before in
+    let written = w .show-records .ensures (shown-on w .prime) in
+    show-done _ (shown-on w) _ _ (e .before .if3 .left) (e .if4 .left) _ _ (written .0) (written .1)
 
 pub show-spec : {M : Type 1} → statement M
 show-spec =
     tie.close
-    (tie.spec table-room-requires table-room-requires-2 slice-aggregate-is-board slice-aggregate-is-board-2 is-board-requires
-    returns shared-slice-read-n cast-n returns-2 returns-3 slice-aggregate-show-records slice-aggregate-show-records-2
-    show-records-requires shared-slice-read-count shared-slice-read-missing sub-missing same-length same-length-2
-    returns-4)
+    (tie.spec is-laid-out-requires returns wide-table-requires row-room-requires slice-aggregate-reduce-board
+    slice-aggregate-reduce-board-2 reduce-board-requires returns-2 shared-slice-read-n cast-n returns-3 returns-4
+    slice-aggregate-show-records slice-aggregate-show-records-2 show-records-requires shared-slice-read-count
+    shared-slice-read-missing sub-missing same-length same-length-2 returns-5)

@@ -4,30 +4,18 @@ use mathlib.Core.Path.{sym}
 use native.Mathlib.Nat.{sub-le}
 use native.Mathlib.Omega.{arith}
 use borrow.Author.Needs.{needs}
+use Rattle.algebra.proofs.Answers.{guard-left, guard-taken}
 use Rattle.ledger.specs.Board.{IsBoard}
 use Rattle.ledger.proofs.WordsCalls.{withdraw-off-board}
 use Rattle.board_words.proofs.TestSizes.{count-most, rows-inside}
 use Rattle.board_words.proofs.TestBoard.{board-header}
-use Rattle.board_calls.proofs.CallBoard.{is-held, no-board}
 use Rattle.board_calls.proofs.CallWithdraw.{withdraw-too-many, withdraw-done}
 use Rattle.board_calls.proofs.withdraw.Statement.{statement}
 use Rattle.board_calls.proofs.withdraw.Tie as tie
 
 -- past the test the words are a board
-board : (c : tie.Else1) → IsBoard (c .before .before .before .before .before .before .before .before .before .before .args .board .now)
-board c = is-held (c .before .before .before .is-board .ensures) (c .if1 .left) .board
-
-table-room-requires : tie.Need-table-room-requires
-table-room-requires c κs = search needs
-
-table-room-requires-2 : tie.Need-table-room-requires-2
-table-room-requires-2 c κs = search needs
-
-slice-aggregate-is-board : tie.Need-slice-aggregate-is-board
-slice-aggregate-is-board c = search needs
-
-slice-aggregate-is-board-2 : tie.Need-slice-aggregate-is-board-2
-slice-aggregate-is-board-2 c = search needs
+board : (c : tie.Else1) → IsBoard (c .before .before .before .before .args .board .now)
+board c = guard-left (c .before .is-board .ensures) (c .if1 .left)
 
 is-board-requires : tie.Need-is-board-requires
 is-board-requires c κs = search needs
@@ -36,7 +24,7 @@ same-length : tie.Need-same-length
 same-length c = search needs
 
 returns : tie.Need-returns
-returns c = sym (withdraw-off-board _ (no-board (c .before .before .before .is-board .ensures) (c .if1 .taken)) _)
+returns c = sym (withdraw-off-board _ (guard-taken (c .before .is-board .ensures) (c .if1 .taken)) _)
 
 slice-read-k : tie.Need-slice-read-k
 slice-read-k c = omega (arith, board (c .before) .three)
@@ -71,6 +59,5 @@ returns-3 c =
 pub withdraw-spec : {M : Type 1} → statement M
 withdraw-spec =
     tie.close
-    (tie.spec table-room-requires table-room-requires-2 slice-aggregate-is-board slice-aggregate-is-board-2 is-board-requires
-    same-length returns slice-read-k same-length-2 returns-2 slice-read-n cast-n drop-rows-requires same-length-3
-    returns-3)
+    (tie.spec is-board-requires same-length returns slice-read-k same-length-2 returns-2 slice-read-n cast-n drop-rows-requires
+    same-length-3 returns-3)

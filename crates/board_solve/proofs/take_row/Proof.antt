@@ -8,25 +8,23 @@ use mathlib.Core.Bool.{true, false}
 use borrow.Author.Needs.{needs}
 use borrow.Author.Tests.{not-true, not-false}
 use Rattle.words.proofs.Writes.{put-whole}
-use Rattle.ledger.specs.Board.{sizeWord}
+use Rattle.ledger.specs.Board.{IsBoard, sizeWord}
 use Rattle.board_solve.specs.Combination.{Combination}
-use Rattle.board_solve.proofs.Standing.{held-sizes}
+use Rattle.board_solve.proofs.Standing.{board-sizes}
 use Rattle.board_solve.proofs.Take.{values-reach, row-fits, new-outcome, repeat-outcome, conflict-outcome}
 use Rattle.board_solve.proofs.take_row.Statement.{statement}
 use Rattle.board_solve.proofs.take_row.Tie as tie
 
 -- the entry, from the place where c is found
 abbrev start-of : tie.After-find → tie.Start
-start-of c = c .before .before .before .before .before .before .before .before .before .before
+start-of c = c .before .before .before .before .before .before .before
+
+-- the words of a call are a board
+board : (s : tie.Start) → IsBoard (s .args .board .now)
+board s = s .pre .findable .candidate .inverse .board
 
 slice-read-count : tie.Need-slice-read-count
 slice-read-count c = search needs
-
-row-room-requires : tie.Need-row-room-requires
-row-room-requires c κs = search needs
-
-slice-aggregate-find : tie.Need-slice-aggregate-find
-slice-aggregate-find c = search needs
 
 find-requires : tie.Need-find-requires
 find-requires c κs = search needs
@@ -34,20 +32,19 @@ find-requires c κs = search needs
 -- ---- no combination: the row is new
 
 none : (c : tie.Then1) →
-    let f = c .before .before in
-    let a = start-of f .args in
-    Combination (a .board .now) (a .f .now) (f .find .last .1 .1 .1 .1 .0) false
-none c = subst (Combination _ _ _) (not-true _ (c .if1 .taken)) (c .before .before .find .ensures)
+    let a = start-of (c .before) .args in
+    Combination (a .board .now) (a .f .now) (a .c .now) false
+none c = subst (Combination _ _ _) (not-true _ (c .if1 .taken)) (c .before .find .ensures)
 
 append-requires : tie.Need-append-requires
 append-requires c κs =
     let t = c .before in
-    let s = start-of (t .before .before) in
-    let (positive, small, few) = held-sizes _ _ _ (s .pre .inverse) in
-    (omega (arith, s .pre .row .long), few, row-fits _ _ _ _ (s .pre .inverse) (s .pre .row) _ (none t))
+    let s = start-of (t .before) in
+    let (positive, small, few) = board-sizes _ (board s) in
+    (omega (arith, s .pre .findable .row .long), few, row-fits _ _ (board s) (s .pre .findable .row) _ (none t))
 
-add-t24 : tie.Need-add-t24
-add-t24 c = search needs
+add-t19 : tie.Need-add-t19
+add-t19 c = search needs
 
 same-length : tie.Need-same-length
 same-length c = search needs
@@ -56,16 +53,15 @@ returns : tie.Need-returns
 returns c =
     let w = c .before .before in
     let t = w .before .before in
-    let s = start-of (t .before .before) in
-    new-outcome _ _ _ _ (s .pre .inverse) (s .pre .row) _ (none t) (s .args .v) (s .args .mix .now) _ (w .append .ensures)
+    let s = start-of (t .before) in
+    new-outcome _ _ (board s) (s .pre .findable .row) _ (none t) (s .args .v) (s .args .mix .now) _ (w .append .ensures)
 
 -- ---- a combination: the mix is written, and the values decide
 
 some : (c : tie.Else1) →
-    let f = c .before .before in
-    let a = start-of f .args in
-    Combination (a .board .now) (a .f .now) (f .find .last .1 .1 .1 .1 .0) true
-some c = subst (Combination _ _ _) (not-false _ (c .if1 .left)) (c .before .before .find .ensures)
+    let a = start-of (c .before) .args in
+    Combination (a .board .now) (a .f .now) (a .c .now) true
+some c = subst (Combination _ _ _) (not-false _ (c .if1 .left)) (c .before .find .ensures)
 
 slice-read-p : tie.Need-slice-read-p
 slice-read-p c = search needs
@@ -79,28 +75,22 @@ cast-n c = search needs
 cast-k : tie.Need-cast-k
 cast-k c = search needs
 
-array-share-prefix-c : tie.Need-array-share-prefix-c
-array-share-prefix-c c = search needs
-
 slice-aggregate-put : tie.Need-slice-aggregate-put
 slice-aggregate-put c =
     let e = c .before .before .before in
-    let s = start-of (e .before .before) in
-    sym (length-take-le _ _ (omega (arith, some e .long, held-sizes _ _ _ (s .pre .inverse) .1)))
+    let s = start-of (e .before) in
+    sym (length-take-le _ _ (omega (arith, some e .long, board-sizes _ (board s) .1)))
 
 put-requires : tie.Need-put-requires
 put-requires c κs =
-    let s = start-of (c .before .before .before .before .before .before) in
+    let s = start-of (c .before .before .before .before .before) in
     omega (arith, slice-aggregate-put (c .before), s .pre .mix-long)
-
-array-share-prefix-c-2 : tie.Need-array-share-prefix-c-2
-array-share-prefix-c-2 c = search needs
 
 slice-aggregate-dot : tie.Need-slice-aggregate-dot
 slice-aggregate-dot c =
     let e = c .before .before .before .before .before .before .before .before in
-    let s = start-of (e .before .before) in
-    sym (length-take-le _ _ (omega (arith, some e .long, held-sizes _ _ _ (s .pre .inverse) .2)))
+    let s = start-of (e .before) in
+    sym (length-take-le _ _ (omega (arith, some e .long, board-sizes _ (board s) .2)))
 
 value-start-requires : tie.Need-value-start-requires
 value-start-requires c κs = search needs
@@ -113,20 +103,20 @@ dot-requires c κs =
     let v = c .before in
     let d = v .before .before in
     let e = d .before .before .before .before .before .before .before .before in
-    let s = start-of (e .before .before) in
+    let s = start-of (e .before) in
     let long = slice-aggregate-dot d in
-    let (positive, small, few) = held-sizes _ _ _ (s .pre .inverse) in (
+    let (positive, small, few) = board-sizes _ (board s) in (
       positive,
       omega (arith, long),
-      λ t h. rw (v .value-start .ensures, c .row-length .ensures) (values-reach _ _ _ (s .pre .inverse) t (omega (arith, long))),
+      λ t h. rw (v .value-start .ensures, c .row-length .ensures) (values-reach _ (board s) t (omega (arith, long))),
     )
 
 -- `put` has filled the mix with c's numbers
 mix-written : (c : tie.After-put) →
-    let f = c .before .before .before .before .before .before .before in
-    c .put .last .1 .0 ≡ take (sizeWord (start-of f .args .board .now)) (f .find .last .1 .1 .1 .1 .0)
+    let a = start-of (c .before .before .before .before .before .before) .args in
+    c .put .last .1 .0 ≡ take (sizeWord (a .board .now)) (a .c .now)
 mix-written c =
-    let s = start-of (c .before .before .before .before .before .before .before) in
+    let s = start-of (c .before .before .before .before .before .before) in
     let e = c .put .ensures in
     put-whole _ (s .args .mix .now) _ (e .0) (s .pre .mix-long ∙ slice-aggregate-put (c .before .before)) (e .1)
 
@@ -143,9 +133,9 @@ returns-2 c =
     let value = row .before in
     let w = value .before .before .before .before .before in
     let e = w .before .before .before .before .before in
-    let s = start-of (e .before .before) in
+    let s = start-of (e .before) in
     let total = rw (value .value-start .ensures, row .row-length .ensures) at (dot .dot .ensures) in
-    conflict-outcome _ _ _ _ (s .pre .inverse) (s .pre .row) _ (some e) (s .args .v) _ (s .args .mix .now) _ (mix-written w) total
+    conflict-outcome _ _ (board s) (s .pre .findable .row) _ (some e) (s .args .v) _ (s .args .mix .now) _ (mix-written w) total
     (s .pre .value-below) (c .if2 .taken)
 
 same-length-4 : tie.Need-same-length-4
@@ -161,15 +151,14 @@ returns-3 c =
     let value = row .before in
     let w = value .before .before .before .before .before in
     let e = w .before .before .before .before .before in
-    let s = start-of (e .before .before) in
+    let s = start-of (e .before) in
     let total = rw (value .value-start .ensures, row .row-length .ensures) at (dot .dot .ensures) in
-    repeat-outcome _ _ _ _ (s .pre .inverse) (s .pre .row) _ (some e) (s .args .v) _ (s .args .mix .now) _ (mix-written w) total
+    repeat-outcome _ _ (board s) (s .pre .findable .row) _ (some e) (s .args .v) _ (s .args .mix .now) _ (mix-written w) total
     (c .if2 .left)
 
 pub take-row-spec : {M : Type 1} → statement M
 take-row-spec =
     tie.close
-    (tie.spec slice-read-count row-room-requires slice-aggregate-find find-requires append-requires add-t24 same-length returns
-    slice-read-p slice-read-n cast-n cast-k array-share-prefix-c slice-aggregate-put put-requires array-share-prefix-c-2
-    slice-aggregate-dot value-start-requires row-length-requires dot-requires same-length-2 same-length-3 returns-2
-    same-length-4 same-length-5 returns-3)
+    (tie.spec slice-read-count find-requires append-requires add-t19 same-length returns slice-read-p slice-read-n cast-n cast-k
+    slice-aggregate-put put-requires slice-aggregate-dot value-start-requires row-length-requires dot-requires
+    same-length-2 same-length-3 returns-2 same-length-4 same-length-5 returns-3)

@@ -1,51 +1,54 @@
--- `board_words::test::is_board` meets its contract: where a part of the test fails a clause is refuted, and past the others the
--- independence of the rows decides.
+-- `board_words::test::is_board` meets its contract: past the other clauses the rank of the rows decides.
+use native.Mathlib.Omega.{arith}
 use borrow.Author.Needs.{needs}
-use Rattle.board_words.specs.Tested.{Header, Filled}
-use Rattle.algebra.proofs.Answers.{guard-left, guard-taken}
-use Rattle.board_words.proofs.TestBoard.{board-header, board-filled, told-no-board, told-board}
+use Rattle.algebra.proofs.Answers.{tells-no, guard-left, guard-taken}
+use Rattle.board_words.specs.Tested.{LaidOut}
+use Rattle.board_words.proofs.TestSizes.{count-most}
+use Rattle.board_words.proofs.TestRows.{rows-readable, rows-rank}
+use Rattle.board_words.proofs.TestBoard.{board-laid, rank-tells}
 use Rattle.board_words.proofs.test.is_board.Statement.{statement}
 use Rattle.board_words.proofs.test.is_board.Tie as tie
 
--- past the first part of the test
-header : (c : tie.Else1) → Header (c .before .before .before .before .before .args .board .now)
-header c = guard-left (c .before .has-header .ensures) (c .if1 .left)
+-- past the other clauses
+laid : (c : tie.Else1) → LaidOut (c .before .before .before .args .board .now)
+laid c = guard-left (c .before .is-laid-out .ensures) (c .if1 .left)
 
--- and past the second
-filled : (c : tie.Else2) → Filled (c .before .before .before .before .before .before .before .args .board .now)
-filled c = guard-left (c .before .is-filled .ensures) (c .if2 .left)
-
-has-header-requires : tie.Need-has-header-requires
-has-header-requires c κs = search needs
+is-laid-out-requires : tie.Need-is-laid-out-requires
+is-laid-out-requires c κs = search needs
 
 returns : tie.Need-returns
-returns c = told-no-board _ _ _ (λ b. guard-taken (c .before .has-header .ensures) (c .if1 .taken) (board-header b))
+returns c = tells-no (λ b. guard-taken (c .before .is-laid-out .ensures) (c .if1 .taken) (board-laid b))
 
-is-filled-requires : tie.Need-is-filled-requires
-is-filled-requires c κs = header c
+shared-slice-read-n : tie.Need-shared-slice-read-n
+shared-slice-read-n c = omega (arith, laid (c .before) .header .three)
+
+cast-n : tie.Need-cast-n
+cast-n c = omega (arith, laid (c .before) .header .size .1)
+
+shared-slice-read-k : tie.Need-shared-slice-read-k
+shared-slice-read-k c = omega (arith, laid (c .before .before) .header .three)
+
+cast-k : tie.Need-cast-k
+cast-k c = omega (arith, count-most _ (laid (c .before .before) .header))
+
+rows-grid-requires : tie.Need-rows-grid-requires
+rows-grid-requires c κs = laid (c .before .before) .header .size .1
+
+shared-slice-read-rank : tie.Need-shared-slice-read-rank
+shared-slice-read-rank c = omega (arith, laid (c .before .before .before .before) .header .three)
+
+rank-requires : tie.Need-rank-requires
+rank-requires c κs =
+    rw (c .before .rows-grid .ensures) (rows-readable _ (laid (c .before .before .before .before) .header))
 
 returns-2 : tie.Need-returns-2
-returns-2 c = told-no-board _ _ _ (λ b. guard-taken (c .before .is-filled .ensures) (c .if2 .taken) (board-filled b))
-
-independent-requires : tie.Need-independent-requires
-independent-requires c κs =
-    let e = c .before .before in
-    let s = c .before .before .before .before .before .before .before .before .before in
-    (header (e .before .before), filled e, s .pre .0, s .pre .1)
-
-same-length : tie.Need-same-length
-same-length c = search needs
-
-same-length-2 : tie.Need-same-length-2
-same-length-2 c = search needs
-
-returns-3 : tie.Need-returns-3
-returns-3 c =
-    let i = c .before .before .before .before in
-    let e = i .before .before .before in
-    told-board _ _ _ (header (e .before .before)) (filled e) _ (i .independent .ensures)
+returns-2 c =
+    let g = c .before .before in
+    let e = g .before .before .before in
+    rank-tells (laid e) (rows-rank _ _ (rw (g .rows-grid .ensures) at (c .rank .ensures)))
 
 pub is-board-spec : {M : Type 1} → statement M
 is-board-spec =
     tie.close
-    (tie.spec has-header-requires returns is-filled-requires returns-2 independent-requires same-length same-length-2 returns-3)
+    (tie.spec is-laid-out-requires returns shared-slice-read-n cast-n shared-slice-read-k cast-k rows-grid-requires
+    shared-slice-read-rank rank-requires returns-2)
