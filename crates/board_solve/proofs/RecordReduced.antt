@@ -16,11 +16,11 @@ use Rattle.field.specs.Residue.{reduce, residues}
 use Rattle.field.specs.View.{line}
 use Rattle.field.proofs.Field.{residues-ring}
 use Rattle.field.proofs.Residues.{value-unique}
-use Rattle.field.proofs.Views.{blank-below}
 use Rattle.words.proofs.Parts.{part-length, part-at}
 use Rattle.matrix_echelon.specs.Grid.{Readable}
 use Rattle.matrix_echelon.specs.Forward.{Room}
 use Rattle.matrix_echelon.specs.Reduced.{ReducedForm, RowsByPivot}
+use Rattle.matrix_echelon.proofs.Grids.{room-fresh}
 use Rattle.ledger.specs.Board.{rowLength, valueStart, modulusWord, sizeWord, countWord, multiplierTable}
 use Rattle.ledger.proofs.LayoutPlaces.{value-step, value-inside}
 use Rattle.board_words.specs.Rows.{rowsGrid}
@@ -59,16 +59,7 @@ module _ (ws e₀ pivots₀ : List ℕ) (asked : ReducedRoom ws e₀ pivots₀) 
       record { table = rows-readable ws (asked .laid .header); carried = λ t h. omega (arith, value-reach t h, part-long) }
 
   pub rows-room : Room (modulusWord ws) e₀ pivots₀
-  rows-room =
-      record {
-        rows-in =
-            record {
-              long = asked .rows-room .0;
-              below =
-                  blank-below (modulusWord ws) e₀ (omega (arith, asked .laid .header .prime .prime .two-or-more)) (asked .rows-room .1);
-            };
-        pivots-long = asked .pivots-room .0;
-      }
+  rows-room = room-fresh e₀ pivots₀ (asked .laid .header .prime) (asked .rows-room) (asked .pivots-room)
 
   module _ (e pivots : List ℕ) (r : ℕ)
       (F : ReducedForm (modulusWord ws) (rowsGrid (sizeWord ws) (countWord ws)) ws (valuePart ws) (rowLength (sizeWord ws)) r e pivots) where
