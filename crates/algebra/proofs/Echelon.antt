@@ -12,7 +12,7 @@ use borrow.Author.Tests.{eq-eqb, eqb-true, ne-eqb}
 use Rattle.algebra.specs.Ring.{Ring, IsCommutativeRing}
 use Rattle.algebra.specs.Matrix.{Vector, Matrix, unit, zeros, mixed, cut}
 use Rattle.algebra.specs.Quasiinverse.{count, either, follow, none, only, IsPivotInverse}
-use Rattle.algebra.specs.Echelon.{Within, Worked, Cleared, Grown}
+use Rattle.algebra.specs.Echelon.{Within, Worked, Cleared, Grown, Leading}
 use Rattle.algebra.proofs.Rings as rings
 use Rattle.algebra.proofs.Sums as sums
 use Rattle.algebra.proofs.Blocks.{Part, upper, lower, part}
@@ -255,3 +255,40 @@ module _ (R : Ring) (L : IsCommutativeRing R) (one-not-zero : R .one ≡ R .zero
             combined = below-next (λ t. Within R (suc i) (suc n) M (follow i (w .J) (only 0)) (E′ t)) r new-within grown-within;
             cleared = grown-cleared;
           }
+
+  -- one row more, and the rows are still 0 in front of their pivots: where the new row would change one there, it is added 0 times
+  pub grown-leading : {n r v : ℕ} {s : Carrier} {x : Vector R} {E : Matrix R} {pivot : ℕ → ℕ} {E′ : Matrix R} {pivot′ : ℕ → ℕ}
+      → ((t : ℕ) → t < r → pivot t < n) → v < n → ((j : ℕ) → j < v → x j ≡ 𝟘) → Leading R r E pivot
+      → Grown R n r v s x E pivot E′ pivot′ → Leading R (suc r) E′ pivot′
+  grown-leading {n} {r} {v} {s} {x} {E} {pivot} {E′} {pivot′} below in-row zero leading g = λ t j l h. below-next Front r new old t l j h
+    where
+      Front : ℕ → Type 0
+      Front t = (j : ℕ) → j < pivot′ t → E′ t j ≡ 𝟘
+
+      new-front : (j : ℕ) → j < v → E′ r j ≡ 𝟘
+      new-front j h = g .new j (omega arith) ∙ ap (λ a. s ⊗ a) (zero j h) ∙ rings.times-zero R L s
+
+      new : Front r
+      new j h = new-front j (omega (arith, g .new-pivot))
+
+      old : (t : ℕ) → t < r → Front t
+      old t l j h = at (decLe (r / 4 * 4) t)
+        where
+          before : j < pivot t
+          before = omega (arith, g .pivots t l)
+
+          in-width : j < suc n
+          in-width = omega (arith, before, below t l)
+
+          -- E t v is 0 unless v is at the row's pivot or behind it, and then the new row is 0 at j
+          nothing : Dec (v ≤ j) → minus (E t v) ⊗ E′ r j ≡ 𝟘
+          nothing (yes k) =
+              ap (λ a. minus a ⊗ E′ r j) (leading t v l (omega (arith, before))) ∙ ap (λ a. a ⊗ E′ r j) (rings.minus-zero R L)
+              ∙ rings.zero-times R L (E′ r j)
+          nothing (no k) = ap (λ a. minus (E t v) ⊗ a) (new-front j (omega arith)) ∙ rings.times-zero R L (minus (E t v))
+
+          at : Dec (r / 4 * 4 ≤ t) → E′ t j ≡ 𝟘
+          at (yes k) =
+              g .group t j l k in-width ∙ ap (λ a. a ⊕ minus (E t v) ⊗ E′ r j) (leading t j l before)
+              ∙ ap (λ a. 𝟘 ⊕ a) (nothing (decLe v j)) ∙ L .plus-zero 𝟘
+          at (no k) = g .earlier t j (omega arith) in-width ∙ leading t j l before

@@ -59,6 +59,10 @@ module _ (R : Ring) where
     pub new-pivot : pivot′ r ≡ v
     pub pivots : (t : ℕ) → t < r → pivot′ t ≡ pivot t
 
+  -- each of r rows is 0 in front of its pivot
+  abbrev pub Leading : (r : ℕ) (E : Matrix R) (pivot : ℕ → ℕ) → Type 0
+  Leading r E pivot = (t j : ℕ) → t < r → j < pivot t → E t j ≡ R .zero
+
   -- the worked rows from t on are 0 at all pivots but their own
   abbrev pub ReducedFrom : (t r : ℕ) (E : Matrix R) (pivot : ℕ → ℕ) → Type 0
   ReducedFrom from r E pivot = (s t : ℕ) → s < r → from ≤ t → t < r → E t (pivot s) ≡ unit R s t

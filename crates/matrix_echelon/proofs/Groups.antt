@@ -3,6 +3,7 @@
 use mathlib.Core.Path.{_≡_, sym, ap, ap₂, _∙_, subst}
 use mathlib.Core.List.{List}
 use Prim.Native.Nat.{ℕ, zero, suc, _+_, _*_, _≤_, _<_}
+use native.Mathlib.Nat.{mul-zero, zero-mul}
 use native.Mathlib.Decide.{decLt}
 use native.Mathlib.Omega.{arith}
 use lib.ListN.{length, getD}
@@ -10,7 +11,7 @@ use mir.Val.{Fits}
 use mir.Syntax.{w64}
 use Rattle.algebra.specs.Ring.{IsCommutativeRing}
 use Rattle.algebra.specs.Matrix.{Vector, mixed, sum}
-use Rattle.algebra.specs.Echelon.{ClearedTo, GroupAdded}
+use Rattle.algebra.specs.Echelon.{ClearedTo, GroupAdded, Leading}
 use Rattle.algebra.proofs.Cleared as cleared
 use Rattle.algebra.proofs.Rings as rings
 use Rattle.algebra.proofs.Sums as sums
@@ -18,15 +19,15 @@ use Rattle.checks.specs.Prime.{largestModulus}
 use Rattle.words.specs.Lengths.{longestRow, widestRow, largestTable}
 use Rattle.field.specs.Residue.{Residue, reduce, residues, _⊕_, _⊗_}
 use Rattle.field.specs.Limbs.{limbBase, low, high}
-use Rattle.field.proofs.Residues.{reduce-plus, reduce-times, nonzero-of-positive}
+use Rattle.field.proofs.Residues.{reduce-plus, reduce-times, reduce-zero, nonzero-of-positive}
 use Rattle.field.proofs.Field.{residues-ring}
 use Rattle.field.proofs.Limbs.{Within, within-zero, within-one, within-more, within-low, within-high, within-fits, whole-add, number-fits}
 use Rattle.matrix_mul.specs.declared.rows.Row.{Row}
 use Rattle.matrix_mul.specs.declared.rows.Four.{Four}
-use Rattle.matrix_mul.specs.Rows.{Short, Inside, FourInside, Ready, Added, productAt, fourAt, wholeAt}
+use Rattle.matrix_mul.specs.Rows.{Short, Inside, FourInside, NothingBefore, Ready, Added, productAt, fourAt, wholeAt}
 use Rattle.matrix_mul.proofs.RowsTaken.{below-shorts, quarter-product, four-fit}
 use Rattle.matrix_echelon.specs.Group.{Pivots, WorkedRoom, IsPivotRow, GroupTaken, GroupsCleared, Clearable, rowIn, workedRows}
-use Rattle.matrix_echelon.specs.Group.{pivotsOf}
+use Rattle.matrix_echelon.specs.Group.{pivotsOf, LeastPivot}
 use Rattle.matrix_echelon.proofs.WorkedClear.{row-inside}
 
 -- 1 is not 0 modulo p
@@ -89,6 +90,37 @@ module _ (p n r : ℕ) (e pivots : List ℕ) (positive : 0 < p) (in-range : p �
         number-fits _
         (four-fit _ _ _ _ (quarter-product _ _ (i .first .short) (i .table-short _)) (quarter-product _ _ (i .second .short) (i .table-short _))
         (quarter-product _ _ (i .third .short) (i .table-short _)) (quarter-product _ _ (i .fourth .short) (i .table-short _)))
+
+    -- in front of the least pivot of the group its rows are 0
+    pub nothing-before : {v : ℕ} → LeastPivot (n + 1) r g pivots v → Leading (residues p) r (workedRows p e (n + 1)) (pivotsOf pivots)
+        → NothingBefore (n + 1) v e four
+    unfolding fourAt productAt
+    nothing-before {v} l leading =
+        record {
+          within = l .within;
+          nothing = λ j h.
+              omega (
+                arith,
+                product-none (taken .row-a) (omega arith) (omega arith) j h,
+                product-none (taken .row-b) (omega arith) (omega arith) j h,
+                product-none (taken .row-c) (omega arith) (omega arith) j h,
+                product-none (taken .row-d) (omega arith) (omega arith) j h,
+              );
+        }
+      where
+        product-none : {t : ℕ} {row : Row} → IsPivotRow p (n + 1) r t pivots lo hi row → g ≤ t → t < g + 4 → (j : ℕ) → j < v
+            → productAt e row j ≡ 0
+        product-none {t} {row} i a b j h = at (decLt t r)
+          where
+            at : Dec (t < r) → row .times * getD e (row .at + j) 0 ≡ 0
+            at (yes k) =
+                let room-for = row-inside t (n + 1) (omega (arith, ps .few)) (ps .narrow) in
+                let in-row : j < pivotsOf pivots t = omega (arith, l .least t a b k) in
+                let none : getD e (t * (n + 1) + j) 0 ≡ 0 =
+                reduce-zero p _ (room .below _ (omega (arith, room .long, room-for, ps .inside t k))) (leading t j k in-row)
+                in
+                ap (λ q. row .times * getD e (q + j) 0) (i .place k) ∙ ap (λ m. row .times * m) none ∙ mul-zero (row .times)
+            at (no k) = ap (λ m. m * getD e (row .at + j) 0) (i .no-multiplier (omega arith)) ∙ zero-mul (getD e (row .at + j) 0)
 
     -- the limbs with the group added
     pub limbs-more : {k : ℕ} {los his : List ℕ} → Limbs k n lo hi → Added (n + 1) (fourAt e four) lo hi los his → Limbs (k + 1) n los his

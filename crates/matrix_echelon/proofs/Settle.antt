@@ -10,7 +10,7 @@ use lib.Seq.{length-take-le, getD-take}
 use Rattle.algebra.specs.Ring.{IsCommutativeRing}
 use Rattle.algebra.specs.Matrix.{Vector, Matrix}
 use Rattle.algebra.specs.Echelon.{Worked, Cleared}
-use Rattle.algebra.proofs.Echelon.{row-skipped, row-added, pivot-below}
+use Rattle.algebra.proofs.Echelon.{row-skipped, row-added, pivot-below, grown-leading}
 use Rattle.checks.specs.Prime.{IsModulus, largestModulus}
 use Rattle.words.specs.Lengths.{longestRow}
 use Rattle.words.specs.Words.{Below, LeastNonzero}
@@ -69,6 +69,7 @@ module _ (p n r : ℕ) (lo hi x e pivots x′ : List ℕ) (s : Settleable p n r 
     settled-none is-n =
         record {
           room = s .room;
+          leading = λ b l. l;
           worked = λ i M w c.
               row-skipped (residues p) (residues-ring p (omega (arith, proper))) (one-not-zero p proper) w c
               (λ j h. sym (residue-at j (omega arith)) ∙ ap (reduce p) (zero-before j (omega arith)));
@@ -107,6 +108,9 @@ module _ (p n r : ℕ) (lo hi x e pivots x′ : List ℕ) (s : Settleable p n r 
       settled-row {e′} {pivots′} g =
           record {
             room = record { rows-in = g .room; pivots-long = g .pivots-long };
+            leading = λ b l.
+                rw (add-one r)
+                (grown-leading (residues p) L (one-not-zero p proper) b in-front (λ j h. ap (reduce p) (zero-before j h)) l (g .grown n row-long));
             worked = λ i M w c.
                 rw (add-one r)
                 (row-added (residues p) L (one-not-zero p proper) w

@@ -45,6 +45,7 @@ held-none {p} {g} {a} {w} {step} {e} {pivots} s r =
     let proper = modulus-proper (s .table .is-modulus) in
     record {
       room = r;
+      leading = λ t j h. absurd (omega arith);
       worked =
           worked-none (residues p) (residues-ring p (omega (arith, proper))) (one-not-zero p proper) (g .columns) (wide p g a w step)
           (workedRows p e (g .columns + 1)) (pivotsOf pivots);
@@ -56,6 +57,7 @@ pub held-follows : {p : ℕ} {g : Grid} {i : ℕ} {a w : List ℕ} {step r : ℕ
 held-follows {p} {g} {i} {a} {w} {step} {r} {e} {pivots} s full h =
     record {
       room = h .room;
+      leading = h .leading;
       worked = subst (Rows (suc i)) (sym is-n) (row-follows (residues p) L (one-not-zero p proper) (subst (Rows i) is-n (h .worked)));
     }
   where
@@ -105,6 +107,7 @@ module _ (p : ℕ) (g : Grid) (i : ℕ) (a w : List ℕ) (step r : ℕ) (e pivot
                 inside = λ t h. omega (arith, pivot-below (residues p) L (one-not-zero p proper) worked t h);
               };
           cleared = worked .cleared;
+          leading = s .held .leading;
           long-lo = l .long;
           long-hi = z .0;
           small = l .small;
@@ -162,4 +165,9 @@ module _ (p : ℕ) (g : Grid) (i : ℕ) (a w : List ℕ) (step r : ℕ) (e pivot
 
       pub row-worked : {r′ : ℕ} {e′ pivots′ : List ℕ} → RowSettled p (g .columns) r los his e pivots r′ e′ pivots′
           → Held p g (suc i) a w step r′ e′ pivots′
-      row-worked t = record { room = t .room; worked = t .worked i (wide p g a w step) worked row-cleared }
+      row-worked t =
+          record {
+            room = t .room;
+            worked = t .worked i (wide p g a w step) worked row-cleared;
+            leading = t .leading (pivot-below (residues p) L (one-not-zero p proper) worked) (s .held .leading);
+          }

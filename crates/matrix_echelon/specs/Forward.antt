@@ -5,7 +5,7 @@ use Prim.Native.Nat.{ℕ, suc, _+_, _≤_, _<_}
 use lib.ListN.{length}
 use Rattle.algebra.specs.Quasiinverse.{Marks, count, IsPivotInverse}
 use Rattle.algebra.specs.Matrix.{Matrix}
-use Rattle.algebra.specs.Echelon.{Worked, Cleared}
+use Rattle.algebra.specs.Echelon.{Worked, Cleared, Leading}
 use Rattle.checks.specs.Prime.{IsModulus}
 use Rattle.words.specs.Lengths.{longestRow}
 use Rattle.words.specs.Words.{Blank}
@@ -37,11 +37,15 @@ pub record RowSettled (p n r : ℕ) (lo hi e pivots : List ℕ) (r′ : ℕ) (e�
       (i : ℕ) (M : Matrix (residues p)) → Worked (residues p) i n M r (workedRows p e (n + 1)) (pivotsOf pivots)
       → Cleared (residues p) i n M r (workedRows p e (n + 1)) (pivotsOf pivots) (rowIn p lo hi)
       → Worked (residues p) (suc i) n M r′ (workedRows p e′ (n + 1)) (pivotsOf pivots′)
+  pub leading :
+      ((t : ℕ) → t < r → pivotsOf pivots t < n) → Leading (residues p) r (workedRows p e (n + 1)) (pivotsOf pivots)
+      → Leading (residues p) r′ (workedRows p e′ (n + 1)) (pivotsOf pivots′)
 
 -- r worked rows have come of the first i rows of the table
 pub record Held (p : ℕ) (g : Grid) (i : ℕ) (a w : List ℕ) (step r : ℕ) (e pivots : List ℕ) : Type 0 where
   pub room : Room p e pivots
   pub worked : Worked (residues p) i (g .columns) (wide p g a w step) r (workedRows p e (g .columns + 1)) (pivotsOf pivots)
+  pub leading : Leading (residues p) r (workedRows p e (g .columns + 1)) (pivotsOf pivots)
 
 -- row i can be worked off: some column has no pivot yet
 pub record Workable (p : ℕ) (g : Grid) (i : ℕ) (a w : List ℕ) (step r : ℕ) (e pivots : List ℕ) : Type 0 where

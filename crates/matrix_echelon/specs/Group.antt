@@ -4,7 +4,7 @@ use mathlib.Core.List.{List}
 use Prim.Native.Nat.{ℕ, _+_, _*_, _/_, _≤_, _<_}
 use lib.ListN.{length, getD}
 use Rattle.algebra.specs.Matrix.{Vector, Matrix, unit}
-use Rattle.algebra.specs.Echelon.{Cleared}
+use Rattle.algebra.specs.Echelon.{Cleared, Leading}
 use Rattle.checks.specs.Prime.{largestModulus}
 use Rattle.words.specs.Lengths.{longestRow, widestRow, widestTable}
 use Rattle.words.specs.Words.{Below}
@@ -94,6 +94,11 @@ pub record GroupTaken (p width r g : ℕ) (pivots lo hi : List ℕ) (four : Four
   pub row-c : IsPivotRow p width r (g + 2) pivots lo hi (four .c)
   pub row-d : IsPivotRow p width r (g + 3) pivots lo hi (four .d)
 
+-- a place of a row, in front of which no row of the group from g on has its pivot
+pub record LeastPivot (width r g : ℕ) (pivots : List ℕ) (v : ℕ) : Type 0 where
+  pub within : v ≤ width
+  pub least : (t : ℕ) → g ≤ t → t < g + 4 → t < r → v ≤ getD pivots t 0
+
 -- worked rows with room for all, below p
 pub record WorkedRoom (p : ℕ) (e : List ℕ) : Type 0 where
   pub long : length e ≡ widestTable
@@ -112,6 +117,7 @@ pub record Clearable (p n r : ℕ) (e pivots lo hi : List ℕ) : Type 0 where
   pub room : WorkedRoom p e
   pub pivots-in : Pivots (n + 1) r pivots
   pub cleared : GroupsCleared p n r e pivots
+  pub leading : Leading (residues p) r (workedRows p e (n + 1)) (pivotsOf pivots)
   pub long-lo : length lo ≡ widestRow
   pub long-hi : length hi ≡ widestRow
   pub small : (j : ℕ) → j ≤ n → getD lo j 0 < limbBase

@@ -3,6 +3,8 @@
 // with its carried number; row t begins at t times that length.
 ghost use Prim.Native.Nat.{_+_, _≤_};
 ghost use Rattle.matrix_echelon.specs.Group.{RowReadable, RowRead, PivotReadable, IsMultiplier, PivotRoom, IsPivotRow, GroupRoom, GroupTaken, Clearable, PivotsCleared};
+ghost use Rattle.matrix_echelon.specs.Group.{Pivots, LeastPivot};
+ghost use Rattle.words.specs.Lengths.{longestRow};
 use super::Grid;
 use field::sums::BASE;
 use matrix_mul::rows;
@@ -98,6 +100,25 @@ fn group_rows(
     Four { a, b, c, d }
 }
 
+// The least pivot of the rows of the group that begins with row g: in front of it they are 0.
+fn least_pivot(width: usize, rank: usize, g: usize, pivots: &[u32]) -> usize
+    requires { ⌜ Pivots width rank (now pivots) × (g ≤ longestRow) ⌝ }
+    ensures { λ r. ⌜ LeastPivot width rank g (now (pivots .entry)) r ⌝ }
+{
+    let mut least = width;
+    let mut t = g;
+    while t < g + 4 {
+        if t < rank {
+            let v = pivots[t] as usize;
+            if v < least {
+                least = v;
+            }
+        }
+        t += 1;
+    }
+    least
+}
+
 // Adds the combination of the worked rows that makes the sums 0 at all pivots.
 pub fn clear_pivots(
     p: u32,
@@ -117,7 +138,8 @@ pub fn clear_pivots(
     let mut g = 0;
     while g < rank {
         let four = group_rows(p, once, twice, width, rank, g, pivots, lo, hi);
-        rows::add_rows(width, e, four, lo, hi);
+        let from = least_pivot(width, rank, g, pivots);
+        rows::add_rows(width, from, e, four, lo, hi);
         g += 4;
     }
 }

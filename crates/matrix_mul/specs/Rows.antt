@@ -58,6 +58,11 @@ pub record FourInside (width : ℕ) (table : List ℕ) (f : Four) : Type 0 where
   pub third : Inside width table (f .c)
   pub fourth : Inside width table (f .d)
 
+-- four rows add nothing in front of a place of their width
+pub record NothingBefore (width from : ℕ) (table : List ℕ) (f : Four) : Type 0 where
+  pub within : from ≤ width
+  pub nothing : (j : ℕ) → j < from → fourAt table f j ≡ 0
+
 -- a list that leads from each of k rows to a later one, or to the end: next[t] is the next row to visit after t
 pub record Leads (k : ℕ) (next : List ℕ) : Type 0 where
   pub long : k ≤ length next

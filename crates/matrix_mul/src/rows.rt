@@ -9,7 +9,7 @@ ghost use Rattle.field.specs.Limbs.{whole, LimbFits};
 ghost use Rattle.words.specs.Lengths.{widestRow};
 ghost use Rattle.words.specs.Words.{Zeros};
 ghost use Rattle.matrix_mul.specs.Places.{place};
-ghost use Rattle.matrix_mul.specs.Rows.{Shorts, Inside, FourInside, Quarter, productAt, fourAt, Powers, Ready, Added, wholeAt};
+ghost use Rattle.matrix_mul.specs.Rows.{Shorts, Inside, FourInside, Quarter, productAt, fourAt, NothingBefore, Powers, Ready, Added, wholeAt};
 ghost use Rattle.matrix_mul.specs.Rows.{Each, Passes, Walkable, RowTaken, FourTaken, Summed, sumAt, Combinable, CombinedInto};
 use super::Place;
 use field::sums::BASE;
@@ -124,12 +124,20 @@ fn add_four(p: u32, table: &[u32], four: Four, out: &mut [u32])
     }
 }
 
-// Adds the limbs of the sums of products of four rows to the sums of limbs, at the first `width` places.
-pub fn add_rows(width: usize, table: &[u32], four: Four, lo: &mut [u64; WIDE], hi: &mut [u64; WIDE])
-    requires { ⌜ Ready width (now lo) (now hi) × FourInside width (now table) four ⌝ }
+// Adds the limbs of the sums of products of four rows to the sums of limbs, at the first `width` places; in front of `from` the
+// rows add nothing.
+pub fn add_rows(
+    width: usize,
+    from: usize,
+    table: &[u32],
+    four: Four,
+    lo: &mut [u64; WIDE],
+    hi: &mut [u64; WIDE],
+)
+    requires { ⌜ Ready width (now lo) (now hi) × FourInside width (now table) four × NothingBefore width from (now table) four ⌝ }
     ensures { λ _. ⌜ Added width (fourAt (now (table .entry)) four) (now (lo .entry)) (now (hi .entry)) (now (lo .exit)) (now (hi .exit)) ⌝ }
 {
-    let mut j = 0;
+    let mut j = from;
     while j < width {
         let x = four_at(table, four, j);
         lo[j] += x % BASE;
@@ -173,7 +181,7 @@ fn add_all(p: u32, by: &[u32], next: &[u32], table: &[u32], rows: Place, out: &m
     let mut t = 0;
     while t < by.len() {
         let four = next_four(by, next, rows, t);
-        add_rows(width, table, four, &mut lo, &mut hi);
+        add_rows(width, 0, table, four, &mut lo, &mut hi);
         t = four.d.next;
     }
     fold_into(p, &lo, &hi, out);

@@ -17,6 +17,10 @@ pub record Walked (n : ℕ) (g : ℕ → ℕ) (before after : List ℕ) : Type 0
 pub walked-none : (g : ℕ → ℕ) (xs : List ℕ) → Walked 0 g xs xs
 walked-none g xs = record { long = refl; passed = λ j h. omega arith; left = λ j h. refl }
 
+-- places that have g's numbers already
+pub walked-front : (n : ℕ) (g : ℕ → ℕ) (xs : List ℕ) → ((j : ℕ) → j < n → getD xs j 0 ≡ g j) → Walked n g xs xs
+walked-front n g xs e = record { long = refl; passed = e; left = λ j h. refl }
+
 -- one place more
 pub walked-more : (n : ℕ) (g : ℕ → ℕ) (xs ys : List ℕ) (v : ℕ) → Walked n g xs ys → n < length xs → v ≡ g n → Walked (n + 1) g xs (set ys n v)
 walked-more n g xs ys v w h e =

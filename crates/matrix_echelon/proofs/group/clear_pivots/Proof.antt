@@ -12,7 +12,7 @@ use Rattle.field.proofs.Field.{residues-ring}
 use Rattle.matrix_mul.specs.Rows.{Powers}
 use Rattle.matrix_mul.proofs.RowsTaken.{mod-short, quarter-product, one-fits}
 use Rattle.matrix_echelon.specs.Group.{Clearable, rowIn, workedRows, pivotsOf}
-use Rattle.matrix_echelon.proofs.Groups.{Limbs, limbs-fresh, limbs-ready, limbs-more, four-inside, group-cleared}
+use Rattle.matrix_echelon.proofs.Groups.{Limbs, limbs-fresh, limbs-ready, limbs-more, four-inside, nothing-before, group-cleared}
 use Rattle.matrix_echelon.proofs.Groups.{one-not-zero}
 use Rattle.matrix_echelon.proofs.group.clear_pivots.Statement.{statement}
 use Rattle.matrix_echelon.proofs.group.clear_pivots.Tie as tie
@@ -78,25 +78,35 @@ group-rows-requires c κs =
           limbs-ready (omega (arith, i .loop-test .taken, s .pre .pivots-in .few)) (s .pre .pivots-in .narrow) (i .before .loop .inv .2);
     }
 
+least-pivot-requires : tie.Need-least-pivot-requires Inv-loop μ-loop
+least-pivot-requires c κs =
+    let i = c .before .before .before in
+    let s = entry i in
+    (s .pre .pivots-in, omega (arith, i .loop-test .taken, s .pre .pivots-in .few))
+
 add-rows-requires : tie.Need-add-rows-requires Inv-loop μ-loop
 add-rows-requires c κs =
-    let f = c .before .before in
+    let v = c .before .before in
+    let f = v .before in
     let i = f .before .before .before in
-    let s = entry i in (
+    let s = entry i in
+    let positive : 0 < s .args .p = omega (arith, s .pre .proper) in (
       limbs-ready (omega (arith, i .loop-test .taken, s .pre .pivots-in .few)) (s .pre .pivots-in .narrow) (i .before .loop .inv .2),
-      four-inside (s .args .p) (s .args .n) (s .args .rank) (s .args .e .now) (s .args .pivots .now) (omega (arith, s .pre .proper))
-          (s .pre .in-range) (s .pre .room) (s .pre .pivots-in) (f .group-rows .ensures),
+      four-inside (s .args .p) (s .args .n) (s .args .rank) (s .args .e .now) (s .args .pivots .now) positive (s .pre .in-range) (s .pre .room)
+          (s .pre .pivots-in) (f .group-rows .ensures),
+      nothing-before (s .args .p) (s .args .n) (s .args .rank) (s .args .e .now) (s .args .pivots .now) positive (s .pre .in-range) (s .pre .room)
+          (s .pre .pivots-in) (f .group-rows .ensures) (v .least-pivot .ensures) (s .pre .leading),
     )
 
 add-g : tie.Need-add-g Inv-loop μ-loop
-add-g c = omega (arith, entry (c .before .before .before .before .before .before) .pre .pivots-in .few)
+add-g c = omega (arith, entry (c .before .before .before .before .before .before .before) .pre .pivots-in .few)
 
 loop-less : tie.Need-loop-less Inv-loop μ-loop
 loop-less c = omega arith
 
 loop-again : tie.Need-loop-again Inv-loop μ-loop
 loop-again c =
-    let f = c .before .before .before in
+    let f = c .before .before .before .before in
     let i = f .before .before .before in
     let l = i .before .loop in
     let s = entry i in
@@ -126,5 +136,6 @@ returns c =
 pub clear-pivots-spec : {M : Type 1} → statement M
 clear-pivots-spec =
     tie.close
-    (tie.spec Inv-loop μ-loop add-width rem-once mul-twice rem-twice loop-holds group-rows-requires add-rows-requires add-g
+    (tie.spec Inv-loop μ-loop add-width rem-once mul-twice rem-twice loop-holds group-rows-requires least-pivot-requires
+    add-rows-requires add-g
     loop-less loop-again returns)

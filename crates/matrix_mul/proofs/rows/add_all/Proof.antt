@@ -38,6 +38,7 @@ add-rows-requires c κs =
     let pre = entry (f .before) .pre .0 in (
       held-ready (omega (arith, l .inv .0, pre .few)) (pre .narrow) (l .inv .1),
       four-inside pre (omega (arith, f .before .loop-test .taken)) (f .next-four .ensures),
+      record { within = omega arith; nothing = λ j h. absurd (omega arith) },
     )
 
 loop-less : tie.Need-loop-less Inv-loop μ-loop

@@ -1,5 +1,6 @@
 -- `matrix_mul::rows::add_rows` meets its contract. The loop's invariant: both lists have the limbs added at the first j places, and
 -- are at the others as they were.
+use mathlib.Core.Path.{_≡_}
 use mathlib.Core.List.{List}
 use Prim.Native.Nat.{ℕ, _+_, _-_, _≤_}
 use native.Mathlib.Omega.{arith}
@@ -8,7 +9,7 @@ use Rattle.field.specs.Limbs.{low, high}
 use Rattle.matrix_mul.specs.Rows.{fourAt}
 use Rattle.field.proofs.Limbs.{low-fits, high-fits}
 use Rattle.matrix_mul.proofs.RowsTaken.{inside-at}
-use Rattle.words.proofs.Walk.{Walked, walked-none, walked-more}
+use Rattle.words.proofs.Walk.{Walked, walked-front, walked-more}
 use Rattle.matrix_mul.proofs.rows.add_rows.Statement.{statement}
 use Rattle.matrix_mul.proofs.rows.add_rows.Tie as tie
 
@@ -19,15 +20,30 @@ with-low x lo j = getD lo j 0 + low (x j)
 with-high : (ℕ → ℕ) → List ℕ → ℕ → ℕ
 with-high x hi j = getD hi j 0 + high (x j)
 
+-- where nothing is added the limbs are as they were
+nothing-low : (x : ℕ → ℕ) (lo : List ℕ) (j : ℕ) → x j ≡ 0 → getD lo j 0 ≡ with-low x lo j
+unfolding with-low low
+nothing-low x lo j e = omega (arith, e)
+
+nothing-high : (x : ℕ → ℕ) (hi : List ℕ) (j : ℕ) → x j ≡ 0 → getD hi j 0 ≡ with-high x hi j
+unfolding with-high high
+nothing-high x hi j e = omega (arith, e)
+
 abbrev Inv-loop : tie.InvT-loop
-Inv-loop width table four lo₀ hi₀ j₀ lo hi j =
+Inv-loop width from table four lo₀ hi₀ j₀ lo hi j =
     (j ≤ width) × Walked j (with-low (fourAt table four) lo₀) lo₀ lo × Walked j (with-high (fourAt table four) hi₀) hi₀ hi
 
 abbrev μ-loop : tie.MeasureT-loop
-μ-loop width table four lo₀ hi₀ j₀ lo hi j = width - j
+μ-loop width from table four lo₀ hi₀ j₀ lo hi j = width - j
 
 loop-holds : tie.Need-loop-holds Inv-loop μ-loop
-loop-holds c = (omega arith, walked-none _ _, walked-none _ _)
+loop-holds c =
+    let s = c .before in
+    let none = s .pre .2 .nothing in (
+      s .pre .2 .within,
+      walked-front (s .args .from) _ _ (λ j h. nothing-low _ _ j (none j h)),
+      walked-front (s .args .from) _ _ (λ j h. nothing-high _ _ j (none j h)),
+    )
 
 four-at-requires : tie.Need-four-at-requires Inv-loop μ-loop
 four-at-requires c κs = inside-at (c .loop-test .taken) (c .before .before .before .pre .1)
