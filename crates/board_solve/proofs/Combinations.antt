@@ -1,6 +1,6 @@
 -- Whether a row f is a combination of the rows R of a board: the candidate c = f D is the only one that can be, and it is exactly if
 -- c R = f. `combine` adds the rows, which it reads behind the header, with the multipliers c to zeros.
-use mathlib.Core.Path.{_≡_, sym, ap, ap₂, _∙_}
+use mathlib.Core.Path.{_≡_, refl, sym, ap, ap₂, _∙_}
 use mathlib.Core.Bool.{Bool}
 use mathlib.Core.List.{List, _++_}
 use Prim.Native.Nat.{ℕ, _+_, _*_, _-_, _≤_, _<_}
@@ -52,12 +52,13 @@ module _ (ws : List ℕ) (b : IsBoard ws) where
       by-place inside (yes h) = b .below (headerLength + q) (omega arith) h
       by-place inside (no h) = rw (b .zeros (headerLength + q) (omega arith) (omega arith)) (board-sizes ws b .0)
 
-  -- row t lies in them
-  pub part-inside : (t : ℕ) → t < countWord ws → 0 + t * rowLength (sizeWord ws) + sizeWord ws ≤ length (behindHeader ws)
-  part-inside t h =
+  -- row t lies in them, where rows are w words apart
+  pub part-inside : (w : ℕ) → w ≡ rowLength (sizeWord ws) → (t : ℕ) → t < countWord ws → 0 + t * w + sizeWord ws ≤ length (behindHeader ws)
+  part-inside w wide t h =
       let n = sizeWord ws in
-      omega
-      (arith, part-long, b .long, row-step n t, row-ends n t (countWord ws) h, row-holds n, row-inside n (countWord ws) (b .count))
+      rw wide
+      (omega
+      (arith, part-long, b .long, row-step n t, row-ends n t (countWord ws) h, row-holds n, row-inside n (countWord ws) (b .count)))
 
   -- and the numbers from j on, in steps of a row's length, are column j of R
   part-entry : (t j : ℕ) → t < countWord ws → j < sizeWord ws
@@ -67,7 +68,7 @@ module _ (ws : List ℕ) (b : IsBoard ws) where
       let n = sizeWord ws in
       let place : headerLength + (0 + j + t * rowLength n) ≡ headerLength + t * rowLength n + j = omega arith in
       ap (reduce (modulusWord ws))
-      (part-at ws headerLength (length ws - headerLength) (0 + j + t * rowLength n) (omega (arith, part-inside t h, part-long))
+      (part-at ws headerLength (length ws - headerLength) (0 + j + t * rowLength n) (omega (arith, part-inside (rowLength n) refl t h, part-long))
       ∙ ap (λ q. getD ws q 0) place)
       ∙ sym (table-entry (modulusWord ws) ws headerLength (rowLength n) (countWord ws) n t j h l)
 
@@ -82,8 +83,8 @@ multipliers-below ws f c H i l =
 
 -- ---- g is c R, where `combine` has made it
 
-module _ (ws f c zs g : List ℕ) (H : Findable ws f c) (z : Zeros largest zs)
-    (made : CombinedInto (modulusWord ws) (take (countWord ws) c) (behindHeader ws) 0 (rowLength (sizeWord ws)) (take (sizeWord ws) zs) g) where
+module _ (ws f c zs g : List ℕ) (H : Findable ws f c) (z : Zeros largest zs) (w : ℕ) (wide : w ≡ rowLength (sizeWord ws))
+    (made : CombinedInto (modulusWord ws) (take (countWord ws) c) (behindHeader ws) 0 w (take (sizeWord ws) zs) g) where
   abbrev p : ℕ
   p = modulusWord ws
 
@@ -110,14 +111,14 @@ module _ (ws f c zs g : List ℕ) (H : Findable ws f c) (z : Zeros largest zs)
 
   -- the sum of products that is added at j
   abbrev added : ℕ → Residue p
-  added j = sum (residues p) (length (take k c)) (λ t. line p (take k c) 0 1 t ⊗ line p (behindHeader ws) (0 + j) (rowLength n) t)
+  added j = sum (residues p) (length (take k c)) (λ t. line p (take k c) 0 1 t ⊗ line p (behindHeader ws) (0 + j) w t)
 
   added-mixed : (j : ℕ) → j < n → added j ≡ mixed (residues p) k (residuesOf p c) (multiplierTable ws) j
   unfolding mixed
   added-mixed j l =
-      ap (λ m. sum (residues p) m (λ t. line p (take k c) 0 1 t ⊗ line p (behindHeader ws) (0 + j) (rowLength n) t)) multipliers-long
+      ap (λ m. sum (residues p) m (λ t. line p (take k c) 0 1 t ⊗ line p (behindHeader ws) (0 + j) w t)) multipliers-long
       ∙ sum-same (residues p) k _ _
-      (λ t h. ap₂ _⊗_ (line-residues p (take k c) t ∙ ap (reduce p) (getD-take k c t 0 h)) (part-entry ws board t j h l))
+      (λ t h. ap₂ _⊗_ (line-residues p (take k c) t ∙ ap (reduce p) (getD-take k c t 0 h)) (ap (λ s. line p (behindHeader ws) (0 + j) s t) wide ∙ part-entry ws board t j h l))
 
   number : (j : ℕ) → j < n → getD g j 0 ≡ (mixed (residues p) k (residuesOf p c) (multiplierTable ws) j) .value
   number j l =

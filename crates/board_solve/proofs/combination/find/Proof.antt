@@ -78,7 +78,8 @@ combine-requires c κs =
       by-below = multipliers-below _ _ _ (s .pre);
       table-below = part-below _ (board s);
       inside = λ t h.
-          rw (r .before .row-length .ensures, room-long r) (part-inside _ (board s) t (omega (arith, multipliers-long s)));
+          let w = r .before .row-length in
+          omega (arith, room-long r, part-inside _ (board s) (w .result) (w .ensures) t (omega (arith, multipliers-long s)));
     }
 
 -- g, as it is lent
@@ -89,14 +90,16 @@ g-long : (c : tie.After-combine) →
 g-long c =
     let r = c .before .before .before .before in
     let s = start-of r in
-    front-long _ _ _ _ (c .combine .last .1 .1 .1 .1 .1 .0) (s .pre) (r .row-room .ensures) (rw (r .before .row-length .ensures) at (c .combine .ensures))
+    let w = r .before .row-length in
+    front-long _ _ _ _ (c .combine .last .1 .1 .1 .1 .1 .0) (s .pre) (r .row-room .ensures) (w .result) (w .ensures) (c .combine .ensures)
 
 array-share-prefix-g : tie.Need-array-share-prefix-g
 array-share-prefix-g c =
     let m = c .before in
     let r = m .before .before .before .before in
-    front-inside _ _ _ _ (m .combine .last .1 .1 .1 .1 .1 .0) (start-of r .pre) (r .row-room .ensures)
-    (rw (r .before .row-length .ensures) at (m .combine .ensures))
+    let w = r .before .row-length in
+    front-inside _ _ _ _ (m .combine .last .1 .1 .1 .1 .1 .0) (start-of r .pre) (r .row-room .ensures) (w .result) (w .ensures)
+    (m .combine .ensures)
 
 slice-aggregate-same : tie.Need-slice-aggregate-same
 slice-aggregate-same c = sym (g-long (c .before .before))
@@ -109,9 +112,9 @@ returns : tie.Need-returns
 returns c =
     let m = c .before .before .before in
     let r = m .before .before .before .before in
-    let s = start-of r in
-    found _ _ _ _ (m .combine .last .1 .1 .1 .1 .1 .0) (s .pre) (r .row-room .ensures)
-    (rw (r .before .row-length .ensures) at (m .combine .ensures)) (c .same .ensures)
+    let w = r .before .row-length in
+    found _ _ _ _ (m .combine .last .1 .1 .1 .1 .1 .0) (start-of r .pre) (r .row-room .ensures)
+    (w .result) (w .ensures) (m .combine .ensures) (c .same .ensures)
 
 pub find-spec : {M : Type 1} → statement M
 find-spec =
