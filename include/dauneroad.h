@@ -14,8 +14,9 @@
  *
  * A slice is a pointer and a length in elements. The pointer is aligned for its element and valid for that many elements;
  * where the length is 0 any non-null aligned pointer does. Two slices of one call do not overlap where one of them is written.
- * No function keeps a pointer or allocates; of the C library only memcpy and memset are called; at most 128 KiB of stack are
- * used. A board may be moved or copied between calls. Calls on different boards may run at the same time.
+ * No function keeps a pointer or allocates; of the C library only memcpy and memset are called. At most 48 KiB (49,152 bytes)
+ * of stack are used, by quasiinverse at most 72 KiB (73,728). A board may be moved or copied between calls. Calls on different
+ * boards may run at the same time.
  */
 #ifndef DAUNEROAD_H
 #define DAUNEROAD_H
