@@ -144,8 +144,8 @@ module _ (R : Ring) (L : IsCommutativeRing R) (one-not-zero : R .one ≡ R .zero
     reduced-carried reduced t l = reduced-mixed reduced t l n (le-refl (suc n))
 
   -- row t is reduced by the rows after it
-  module _ {m n : ℕ} {M : Matrix R} {r : ℕ} {E : Matrix R} {pivot : ℕ → ℕ} {E′ : Matrix R} {t : ℕ} (w : Worked R m n M r E pivot) (l : t < r)
-      (after : ReducedFrom R (suc t) r E pivot) (h : RowReduced R n r t E pivot E′)
+  module _ {m n : ℕ} {M : Matrix R} {r : ℕ} {E : Matrix R} {pivot : ℕ → ℕ} {t : ℕ} (w : Worked R m n M r E pivot) (l : t < r)
+      (after : ReducedFrom R (suc t) r E pivot)
     where
       others-own : others R t E pivot t ≡ 𝟘
       unfolding others
@@ -181,17 +181,21 @@ module _ (R : Ring) (L : IsCommutativeRing R) (one-not-zero : R .one ≡ R .zero
               ∙ rings.zero-times R L (E q (pivot s))
               ∙ sym (ap (λ a. unit R s q ⊗ a) e ∙ rings.times-zero R L (unit R s q))
 
-      row-at-pivot : (s : ℕ) → s < r → E′ t (pivot s) ≡ unit R s t
-      row-at-pivot s b =
-          h .row (pivot s) (le-step (pivot-below R L one-not-zero w s b))
-          ∙ ap (λ a. E t (pivot s) ⊕ a) (pick-row s b)
-          ∙ go (ℕ-discrete s t)
+      -- with them the row is 0 at the pivots of the others, and 1 at its own
+      pub others-at-pivot : (s : ℕ) → s < r → E t (pivot s) ⊕ mixed R r (others R t E pivot) E (pivot s) ≡ unit R s t
+      others-at-pivot s b = ap (λ a. E t (pivot s) ⊕ a) (pick-row s b) ∙ go (ℕ-discrete s t)
         where
           go : Dec (s ≡ t) → E t (pivot s) ⊕ others R t E pivot s ≡ unit R s t
           go (yes e) =
               ap₂ (λ a c. a ⊕ c) (w .cleared s t b l (omega arith)) (ap (others R t E pivot) e ∙ others-own) ∙ L .plus-zero (unit R s t)
           go (no d) =
               ap (λ a. E t (pivot s) ⊕ a) (others-other s d) ∙ L .plus-minus (E t (pivot s)) ∙ sym (sums.unit-other R s t d)
+
+  module _ {m n : ℕ} {M : Matrix R} {r : ℕ} {E : Matrix R} {pivot : ℕ → ℕ} {E′ : Matrix R} {t : ℕ} (w : Worked R m n M r E pivot) (l : t < r)
+      (after : ReducedFrom R (suc t) r E pivot) (h : RowReduced R n r t E pivot E′)
+    where
+      row-at-pivot : (s : ℕ) → s < r → E′ t (pivot s) ≡ unit R s t
+      row-at-pivot s b = h .row (pivot s) (le-step (pivot-below R L one-not-zero w s b)) ∙ others-at-pivot w l after s b
 
       -- the other rows stay at the pivots
       rest-at-pivot : (s q : ℕ) → s < r → q < r → (q ≡ t → ⊥) → E′ q (pivot s) ≡ E q (pivot s)

@@ -128,7 +128,6 @@ module _ (p m n : ℕ) (a : List ℕ) where
           long = f .pivots-long;
           few = omega (arith, rank-within (f .rank));
           inside = λ t l. omega (arith, f .pivots-below t l);
-          differ = f .differ;
         }
 
     module _ {at : List ℕ} (b : RowsByPivot r pivots at) where

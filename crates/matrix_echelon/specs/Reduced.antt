@@ -4,12 +4,14 @@ use mathlib.Core.Bool.{true}
 use mathlib.Core.List.{List}
 use Prim.Native.Nat.{ℕ, suc, _+_, _*_, _≤_, _<_}
 use lib.ListN.{length, getD}
-use Rattle.algebra.specs.Matrix.{product, apply}
-use Rattle.algebra.specs.Echelon.{others, RowReduced}
+use lib.Dec.{eqb}
+use Rattle.algebra.specs.Choice.{choose}
+use Rattle.algebra.specs.Matrix.{product, apply, mixed}
+use Rattle.algebra.specs.Echelon.{others}
 use Rattle.checks.specs.Prime.{largestModulus}
 use Rattle.words.specs.Lengths.{longestRow, widestTable}
 use Rattle.words.specs.Words.{Below}
-use Rattle.field.specs.Residue.{reduce, residues}
+use Rattle.field.specs.Residue.{reduce, residues, _⊕_}
 use Rattle.field.specs.View.{line}
 use Rattle.field.specs.Written.{numbers}
 use Rattle.matrix_mul.specs.Rows.{Each}
@@ -32,14 +34,34 @@ pub record Multipliers (p width r t : ℕ) (e pivots by : List ℕ) : Type 0 whe
   pub below : Below p by
   pub each : (s : ℕ) → s < r → reduce p (getD by s 0) ≡ others (residues p) t (workedRows p e width) (pivotsOf pivots) s
 
-pub record Reducible (p width r t : ℕ) (next e pivots : List ℕ) : Type 0 where
+-- e has become e′: from `at` on a unit row's `len` numbers, 1 at v, and the others as they were
+pub record UnitWritten (v len at : ℕ) (e e′ : List ℕ) : Type 0 where
+  pub same-length : length e′ ≡ length e
+  pub each : (j : ℕ) → j < len → getD e′ (at + j) 0 ≡ choose (eqb j v) 1 0
+  pub before : (q : ℕ) → q < at → getD e′ q 0 ≡ getD e q 0
+  pub behind : (q : ℕ) → at + len ≤ q → getD e′ q 0 ≡ getD e q 0
+
+-- no number in front of the place v is 0
+pub record FirstFree (at : List ℕ) (v : ℕ) : Type 0 where
+  pub within : v ≤ length at
+  pub taken : (j : ℕ) → j < v → getD at j 0 ≡ 0 → ⊥
+
+pub record Reducible (p width from r t : ℕ) (next e pivots : List ℕ) : Type 0 where
   pub lookable : Lookable p width r t e pivots
+  pub proper : 1 < p
+  pub within : from ≤ width
   pub through : Each next
 
--- they have been used on row t
-pub record RowLessened (p width r t : ℕ) (pivots e e′ : List ℕ) : Type 0 where
+-- they have been used on row t from the place `from` on; in front of it the row has a 1 at its own pivot, and 0 elsewhere
+pub record RowLessened (p width from r t : ℕ) (pivots e e′ : List ℕ) : Type 0 where
   pub room : WorkedRoom p e′
-  pub reduced : (n : ℕ) → width ≡ n + 1 → RowReduced (residues p) n r t (workedRows p e width) (pivotsOf pivots) (workedRows p e′ width)
+  pub row :
+      (j : ℕ) → from ≤ j → j < width
+      → workedRows p e′ width t j
+      ≡ workedRows p e width t j
+      ⊕ mixed (residues p) r (others (residues p) t (workedRows p e width) (pivotsOf pivots)) (workedRows p e width) j
+  pub front : (j : ℕ) → j < from → getD e′ (t * width + j) 0 ≡ choose (eqb j (getD pivots t 0)) 1 0
+  pub rest : (s j : ℕ) → (s ≡ t → ⊥) → j < width → workedRows p e′ width s j ≡ workedRows p e width s j
 
 -- the reduced form: for some pivot inverse D of the table, the row of pivot c is row c of D A, with row c of D w behind it
 pub record ReducedForm (p : ℕ) (g : Grid) (a w : List ℕ) (step r : ℕ) (e pivots : List ℕ) : Type 0 where
@@ -54,18 +76,16 @@ pub record ReducedForm (p : ℕ) (g : Grid) (a w : List ℕ) (step r : ℕ) (e p
       (t j : ℕ) → t < r → j < g .columns
       → reduce p (getD e (t * (g .columns + 1) + j) 0)
       ≡ product (residues p) (g .rows) (rank .D) (gridOf p g a) (getD pivots t 0) j
-  pub differ : (s t : ℕ) → s < r → t < r → getD pivots s 0 ≡ getD pivots t 0 → s ≡ t
   pub carried :
       (t : ℕ) → t < r
       → reduce p (getD e (t * (g .columns + 1) + g .columns) 0)
       ≡ apply (residues p) (g .rows) (rank .D) (line p w 0 step) (getD pivots t 0)
 
--- r pivots that lie in rows of the longest length, no two of them the same
+-- r pivots that lie in rows of the longest length
 pub record Pivoting (r : ℕ) (pivots : List ℕ) : Type 0 where
   pub long : length pivots ≡ longestRow
   pub few : r ≤ longestRow
   pub inside : (t : ℕ) → t < r → getD pivots t 0 < longestRow
-  pub differ : (s t : ℕ) → s < r → t < r → getD pivots s 0 ≡ getD pivots t 0 → s ≡ t
 
 -- at each pivot the number of its row, plus 1, and 0 elsewhere
 pub record RowsByPivot (r : ℕ) (pivots at : List ℕ) : Type 0 where

@@ -1,9 +1,10 @@
 // What the worked rows give: the reduced form of the table, row after row from the last one, and a solution by substituting back.
 ghost use mathlib.Core.Path.{_≡_};
+ghost use Prim.Native.Nat.{_+_, _≤_};
 ghost use lib.ListN.{length};
 ghost use Rattle.matrix_echelon.specs.Grid.{Readable};
 ghost use Rattle.matrix_echelon.specs.Forward.{Room};
-ghost use Rattle.matrix_echelon.specs.Reduced.{Lookable, Multipliers, Reducible, RowLessened, ReducedForm, Pivoting, RowsByPivot, SolutionFound};
+ghost use Rattle.matrix_echelon.specs.Reduced.{UnitWritten, FirstFree, Lookable, Multipliers, Reducible, RowLessened, ReducedForm, Pivoting, RowsByPivot, SolutionFound};
 use super::Grid;
 use super::forward::forward;
 use matrix_mul::Place;
@@ -26,29 +27,60 @@ fn multipliers(p: u32, width: usize, rank: usize, t: usize, e: &[u32], pivots: &
     by
 }
 
-// Makes the worked row t 0 at the pivots of the other rows. `next` leads through all rows.
+// Makes the `len` numbers of e from the place `at` on those of a unit row: 1 at v, where v is one of its places, and 0 elsewhere.
+fn write_unit(v: usize, len: usize, e: &mut [u32], at: usize)
+    requires { ⌜ at + len ≤ length (now e) ⌝ }
+    ensures { λ _. ⌜ UnitWritten v len at (now (e .entry)) (now (e .exit)) ⌝ }
+{
+    let mut j = 0;
+    while j < len {
+        e[at + j] = if j == v { 1 } else { 0 };
+        j += 1;
+    }
+}
+
+// The first column without a pivot, where `at` tells of each column whether it has one; or their number.
+fn first_free(at: &[u32]) -> usize
+    ensures { λ r. ⌜ FirstFree (now (at .entry)) r ⌝ }
+{
+    let mut j = 0;
+    while j < at.len() {
+        if at[j] == 0 {
+            return j;
+        }
+        j += 1;
+    }
+    j
+}
+
+// Makes the worked row t 0 at the pivots of the other rows. `next` leads through all rows. In front of `from` every column has a
+// pivot, so that nothing is to be worked out there.
 fn reduce_row(
     p: u32,
     width: usize,
+    from: usize,
     rank: usize,
     t: usize,
     next: &[u32; ROW],
     e: &mut [u32],
     pivots: &[u32],
 )
-    requires { ⌜ Reducible p width rank t (now next) (now e) (now pivots) ⌝ }
-    ensures { λ _. ⌜ RowLessened p width rank t (now (pivots .entry)) (now (e .entry)) (now (e .exit)) ⌝ }
+    requires { ⌜ Reducible p width from rank t (now next) (now e) (now pivots) ⌝ }
+    ensures { λ _. ⌜ RowLessened p width from rank t (now (pivots .entry)) (now (e .entry)) (now (e .exit)) ⌝ }
 {
     let by = multipliers(p, width, rank, t, e, pivots);
     let at = t * width;
+    let start = at + from;
+    let len = width - from;
     let mut x = words::wide_room();
-    words::copy(e, at, width, &mut x);
+    words::copy(e, start, len, &mut x);
     let place = Place {
-        start: 0,
+        start: from,
         stride: width,
     };
-    rows::combine_listed(p, &by[..rank], next, e, place, &mut x[..width]);
-    words::put(&x[..width], e, at);
+    rows::combine_listed(p, &by[..rank], next, e, place, &mut x[..len]);
+    words::put(&x[..len], e, start);
+    write_unit(pivots[t] as usize, from, e, at);
 }
 
 // The reduced form of the table with its carried column: worked row t is 1 at its pivot and 0 at the others. Answers the rank.
@@ -65,12 +97,15 @@ pub fn reduced(
     ensures { λ r. ⌜ ReducedForm p grid (now (a .entry)) (now (w .entry)) step r (now (e .exit)) (now (pivots .exit)) ⌝ }
 {
     let rank = forward(p, grid, a, w, step, e, pivots);
-    let width = grid.columns + 1;
+    let n = grid.columns;
+    let width = n + 1;
+    let at = rows_by_pivot(rank, pivots);
+    let from = first_free(&at[..n]);
     let next = rows::each_row();
     let mut t = rank;
     while 0 < t {
         t -= 1;
-        reduce_row(p, width, rank, t, &next, e, pivots);
+        reduce_row(p, width, from, rank, t, &next, e, pivots);
     }
     rank
 }
