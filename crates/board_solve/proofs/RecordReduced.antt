@@ -88,7 +88,6 @@ module _ (ws e₀ pivots₀ : List ℕ) (asked : ReducedRoom ws e₀ pivots₀) 
                 long = F .pivots-long;
                 few = count-most ws h;
                 inside = λ t l. omega (arith, F .pivots-below t (inside t l), h .size .1);
-                differ = λ s t k l. F .differ s t (inside s k) (inside t l);
               };
           no-pivot = λ c none i.
               by-test (F .rank .I c)

@@ -7,7 +7,7 @@ use native.Mathlib.Omega.{arith}
 use Rattle.algebra.specs.Ring.{IsCommutativeRing}
 use Rattle.algebra.specs.Matrix.{Matrix, product, apply}
 use Rattle.algebra.specs.Echelon.{Worked, ReducedFrom}
-use Rattle.algebra.proofs.Echelon.{pivot-below, pivots-differ}
+use Rattle.algebra.proofs.Echelon.{pivot-below}
 use Rattle.algebra.proofs.EchelonReduced.{reduced-row, reduced-carried, row-reduced}
 use Rattle.field.specs.Residue.{residues}
 use Rattle.field.proofs.Field.{residues-ring}
@@ -66,7 +66,6 @@ module _ {p : ℕ} {g : Grid} {a w : List ℕ} {step r : ℕ} {e e′ pivots : L
         row = λ t j l b.
             reduced-row (residues p) L (one-not-zero p proper) worked all-reduced t l j b
             ∙ ap (λ X. product (residues p) (g .rows) (worked .D) X (pivotsOf pivots t) j) (wide-cut p g a w step);
-        differ = pivots-differ (residues p) L (one-not-zero p proper) worked;
         carried = λ t l.
             reduced-carried (residues p) L (one-not-zero p proper) worked all-reduced t l
             ∙ ap (λ v. apply (residues p) (g .rows) (worked .D) v (pivotsOf pivots t)) (wide-last p g a w step);

@@ -54,18 +54,16 @@ pub record ReducedForm (p : ℕ) (g : Grid) (a w : List ℕ) (step r : ℕ) (e p
       (t j : ℕ) → t < r → j < g .columns
       → reduce p (getD e (t * (g .columns + 1) + j) 0)
       ≡ product (residues p) (g .rows) (rank .D) (gridOf p g a) (getD pivots t 0) j
-  pub differ : (s t : ℕ) → s < r → t < r → getD pivots s 0 ≡ getD pivots t 0 → s ≡ t
   pub carried :
       (t : ℕ) → t < r
       → reduce p (getD e (t * (g .columns + 1) + g .columns) 0)
       ≡ apply (residues p) (g .rows) (rank .D) (line p w 0 step) (getD pivots t 0)
 
--- r pivots that lie in rows of the longest length, no two of them the same
+-- r pivots that lie in rows of the longest length
 pub record Pivoting (r : ℕ) (pivots : List ℕ) : Type 0 where
   pub long : length pivots ≡ longestRow
   pub few : r ≤ longestRow
   pub inside : (t : ℕ) → t < r → getD pivots t 0 < longestRow
-  pub differ : (s t : ℕ) → s < r → t < r → getD pivots s 0 ≡ getD pivots t 0 → s ≡ t
 
 -- at each pivot the number of its row, plus 1, and 0 elsewhere
 pub record RowsByPivot (r : ℕ) (pivots at : List ℕ) : Type 0 where
