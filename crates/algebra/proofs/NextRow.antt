@@ -25,7 +25,7 @@ use Rattle.algebra.proofs.Decide.{cut-inside, cut-sized, mixed-cut}
 use Rattle.algebra.proofs.Within.{multipliers-back, zero-at-columns}
 
 -- nothing joins a set
-pub either-none : (I : Marks) → either I none ≡ I
+either-none : (I : Marks) → either I none ≡ I
 unfolding either none
 either-none I = fun-ext (λ c. go (I c))
   where
@@ -34,7 +34,7 @@ either-none I = fun-ext (λ c. go (I c))
     go false = refl
 
 -- nothing behind the first m positions
-pub follow-none : (m : ℕ) (J : Marks) → ((y : ℕ) → m ≤ y → J y ≡ false) → follow m J none ≡ J
+follow-none : (m : ℕ) (J : Marks) → ((y : ℕ) → m ≤ y → J y ≡ false) → follow m J none ≡ J
 unfolding none
 follow-none m J ends = fun-ext (λ y. go (part m y))
   where

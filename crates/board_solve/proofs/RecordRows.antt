@@ -4,12 +4,13 @@ use mathlib.Core.Path.{_≡_, sym, _∙_}
 use mathlib.Core.Bool.{Bool}
 use mathlib.Core.List.{List}
 use Prim.Native.Nat.{ℕ, _+_, _*_, _-_, _<_}
-use native.Mathlib.Nat.{mul-le-mul}
 use native.Mathlib.Omega.{arith}
 use lib.ListN.{length, getD, take, drop}
 use Rattle.algebra.specs.Answers.{Tells}
 use Rattle.algebra.proofs.Answers.{tells-same}
+use Rattle.words.specs.Lengths.{widestTable}
 use Rattle.words.proofs.Parts.{part-length, part-at}
+use Rattle.matrix_echelon.proofs.WorkedClear.{row-inside}
 use Rattle.board_solve.specs.Records.{IsUnitRow, WorkedRow, workedPlace, UnitAt}
 
 -- the first n numbers of the row
@@ -18,12 +19,11 @@ workedPart n row e = take ((row - 1) * (n + 1) + n - (row - 1) * (n + 1)) (drop 
 
 module _ {n row : ℕ} {e : List ℕ} (w : WorkedRow n row e) (some : 0 < row) where
   -- the row and its value lie in the room
-  pub row-inside : workedPlace n row n < 4160
-  row-inside =
-      omega (arith, mul-le-mul {n₁ = row - 1} {m₁ = n + 1} {n₂ = 63} {m₂ = 65} (omega (arith, w .few, some)) (omega (arith, w .small)), w .small)
+  pub row-in-room : workedPlace n row n < widestTable
+  row-in-room = omega (arith, row-inside (row - 1) (n + 1) (omega (arith, w .few, some)) (omega (arith, w .small)))
 
   pub row-in : workedPlace n row n < length e
-  row-in = omega (arith, row-inside, w .long)
+  row-in = omega (arith, row-in-room, w .long)
 
   part-long : length (workedPart n row e) ≡ n
   part-long =

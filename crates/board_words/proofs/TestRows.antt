@@ -1,20 +1,18 @@
 -- The multiplier rows read in place, plain and turned: they lie in the words, and are the table of the board's rows and its
 -- transpose, so that a rank of either is the rank of the rows.
-use mathlib.Core.Path.{_≡_, sym, ap, _∙_, subst}
+use mathlib.Core.Path.{_≡_, _∙_, subst}
 use mathlib.Core.List.{List}
 use Prim.Native.Nat.{ℕ, _+_, _*_, _<_}
 use native.Mathlib.Omega.{arith}
-use lib.ListN.{length, getD}
-use Rattle.algebra.specs.Matrix.{Matrix, Sized, transpose}
+use lib.ListN.{length}
+use Rattle.algebra.specs.Matrix.{Matrix, transpose}
 use Rattle.algebra.specs.Quasiinverse.{Marks, count, IsPivotInverse}
-use Rattle.algebra.proofs.Decide.{cut-inside, cut-sized}
 use Rattle.algebra.proofs.Transpose.{transposed}
-use Rattle.field.specs.Residue.{reduce, residues}
+use Rattle.field.specs.Residue.{residues}
 use Rattle.field.proofs.Field.{residues-field}
-use Rattle.field.proofs.Views.{table-entry, table-sized}
-use Rattle.matrix_mul.proofs.Places.{tables-equal}
-use Rattle.matrix_echelon.specs.Grid.{gridPlace, entryOf, gridOf, TableReadable}
+use Rattle.matrix_echelon.specs.Grid.{gridPlace, gridOf, TableReadable}
 use Rattle.matrix_echelon.specs.Forward.{IsRank}
+use Rattle.matrix_echelon.proofs.Grids.{grid-table, grid-turned}
 use Rattle.ledger.specs.Board.{headerLength, rowLength, modulusWord, sizeWord, countWord, multiplierTable}
 use Rattle.ledger.proofs.LayoutPlaces.{row-first, row-step, row-ends, row-holds}
 use Rattle.board_words.specs.Rows.{rowsGrid, turnedGrid}
@@ -38,36 +36,14 @@ module _ (ws : List ℕ) where
 
   -- the tables that are read are that of the board's rows and its transpose
   pub grid-rows : gridOf (modulusWord ws) (rowsGrid (sizeWord ws) (countWord ws)) ws ≡ multiplierTable ws
-  unfolding gridOf
   grid-rows =
-      let p = modulusWord ws in
-      let n = sizeWord ws in
-      let k = countWord ws in
-      tables-equal p k n _ _ (cut-sized (residues p) k n (entryOf p (rowsGrid n k) ws)) (table-sized p ws headerLength (rowLength n) k n)
-      (λ i j h l.
-      cut-inside (residues p) k n (entryOf p (rowsGrid n k) ws) i j h l
-      ∙ ap (λ q. reduce p (getD ws q 0)) (plain-place i j)
-      ∙ sym (table-entry p ws headerLength (rowLength n) k n i j h l))
+      grid-table (modulusWord ws) (rowsGrid (sizeWord ws) (countWord ws)) ws headerLength (rowLength (sizeWord ws)) plain-place
 
-  turned-sized : Sized (residues (modulusWord ws)) (sizeWord ws) (countWord ws) (transpose (residues (modulusWord ws)) (multiplierTable ws))
-  unfolding transpose
-  turned-sized =
-      let sized = table-sized (modulusWord ws) ws headerLength (rowLength (sizeWord ws)) (countWord ws) (sizeWord ws) in
-      record { rows-end = λ i j h. sized .columns-end j i h; columns-end = λ i j h. sized .rows-end j i h }
-
-  grid-turned :
+  turned-rows :
       gridOf (modulusWord ws) (turnedGrid (sizeWord ws) (countWord ws)) ws
       ≡ transpose (residues (modulusWord ws)) (multiplierTable ws)
-  unfolding gridOf transpose
-  grid-turned =
-      let p = modulusWord ws in
-      let n = sizeWord ws in
-      let k = countWord ws in
-      tables-equal p n k _ _ (cut-sized (residues p) n k (entryOf p (turnedGrid n k) ws)) turned-sized
-      (λ j i l h.
-      cut-inside (residues p) n k (entryOf p (turnedGrid n k) ws) j i l h
-      ∙ ap (λ q. reduce p (getD ws q 0)) (turned-place i j)
-      ∙ sym (table-entry p ws headerLength (rowLength n) k n i j h l))
+  turned-rows =
+      grid-turned (modulusWord ws) (turnedGrid (sizeWord ws) (countWord ws)) ws headerLength (rowLength (sizeWord ws)) turned-place
 
   -- a rank of the rows read in place
   pub rows-rank : (r : ℕ) (R : IsRank (modulusWord ws) (rowsGrid (sizeWord ws) (countWord ws)) ws r) → RowsRank ws (R .D) r
@@ -112,7 +88,7 @@ module _ (ws : List ℕ) where
     turned-rank r R =
         let p = modulusWord ws in
         let turned =
-        subst (λ A. IsPivotInverse (residues p) (sizeWord ws) (countWord ws) A (R .D) (R .I) (R .J)) grid-turned (R .inverse) in
+        subst (λ A. IsPivotInverse (residues p) (sizeWord ws) (countWord ws) A (R .D) (R .I) (R .J)) turned-rows (R .inverse) in
         record {
           I = R .J;
           J = R .I;

@@ -1,8 +1,7 @@
 -- The numbers of the kernel vector of a column without a pivot, from the reduced form: row j of D A is a row of it, or zeros.
 use mathlib.Core.Path.{_≡_, sym, ap, ap₂, _∙_}
 use mathlib.Core.List.{List}
-use Prim.Native.Nat.{ℕ, suc, _+_, _*_, _-_, _≤_, _<_}
-use native.Mathlib.Nat.{mul-le-mul}
+use Prim.Native.Nat.{ℕ, suc, _+_, _*_, _-_, _<_}
 use native.Mathlib.Omega.{arith}
 use lib.ListN.{length, getD}
 use Rattle.algebra.specs.Matrix.{unit}
@@ -12,6 +11,7 @@ use Rattle.algebra.proofs.Sums.{unit-same, unit-other}
 use Rattle.field.specs.Residue.{Residue, residues, reduce, _⊕_, negated}
 use Rattle.field.proofs.Field.{residues-ring}
 use Rattle.field.proofs.Residues.{reduce-small}
+use Rattle.matrix_echelon.proofs.WorkedClear.{row-inside}
 use Rattle.matrix.specs.Parts.{ReducedRows, IsFree}
 
 module _ {p n : ℕ} {at e : List ℕ} (h : ReducedRows p n at e) (c j : ℕ) where
@@ -38,9 +38,7 @@ module _ {p n : ℕ} {at e : List ℕ} (h : ReducedRows p n at e) (c j : ℕ) wh
   module _ (pivot : getD at j 0 ≡ 0 → ⊥) where
     pub place-inside : c < n → (getD at j 0 - 1) * (n + 1) + c < length e
     place-inside l =
-        let most : (getD at j 0 - 1) * (n + 1) ≤ 63 * 65 =
-        mul-le-mul (let r : getD at j 0 - 1 ≤ 63 = omega (arith, h .at-most j) in r) (let w : n + 1 ≤ 65 = omega (arith, h .n-most) in w) in
-        omega (arith, most, h .e-long, h .n-most)
+        omega (arith, row-inside (getD at j 0 - 1) (n + 1) (omega (arith, h .at-most j)) (omega (arith, h .n-most)), h .e-long)
 
     pub pivot-number : IsFree n at c → (r : ℕ) → r ≡ (reduce p 0 ⊕ negated (reduce p (getD e ((getD at j 0 - 1) * (n + 1) + c) 0))) .value
         → r ≡ entry .value

@@ -1,45 +1,32 @@
 -- A table that is read in place is the table as it stands, or its transpose where it is read turned. So a pivot inverse of what is
 -- read is 01's D, or D turned; and the worked rows of the reduced form are the rows of D A.
-use mathlib.Core.Path.{_≡_, refl, sym, ap, ap₂, _∙_, fun-ext, subst}
-use mathlib.Core.Bool.{Bool, true, false}
+use mathlib.Core.Path.{_≡_, refl, sym, ap₂, _∙_, fun-ext, subst}
+use mathlib.Core.Bool.{true, false}
 use mathlib.Core.List.{List}
-use Prim.Native.Nat.{ℕ, zero, suc, _+_, _*_, _≤_}
+use Prim.Native.Nat.{ℕ, zero, suc, _≤_}
 use native.Mathlib.Omega.{arith}
 use lib.ListN.{length, getD}
-use lib.Dec.{ltb}
-use Rattle.algebra.specs.Choice.{choose}
-use Rattle.algebra.specs.Matrix.{cut, product, transpose}
+use Rattle.algebra.specs.Matrix.{product, transpose}
 use Rattle.algebra.specs.Quasiinverse.{IsPivotInverse}
 use Rattle.algebra.proofs.Applied.{product-row, zeros-mixed}
 use Rattle.algebra.proofs.Independent.{count-most}
 use Rattle.algebra.proofs.Counts.{true-not-false}
 use Rattle.algebra.proofs.Marks.{by-test, is-false}
-use Rattle.algebra.proofs.Matrices.{entries}
 use Rattle.algebra.proofs.Transpose.{transposed}
 use Rattle.checks.specs.Largest.{largest}
 use Rattle.checks.specs.Prime.{IsModulus}
-use Rattle.words.specs.Lengths.{longestRow, widestTable}
-use Rattle.words.specs.Words.{Zeros}
-use Rattle.field.specs.Residue.{residues, reduce}
+use Rattle.field.specs.Residue.{residues}
 use Rattle.field.specs.View.{table}
 use Rattle.field.proofs.Field.{residues-ring}
-use Rattle.field.proofs.Views.{blank-below}
 use Rattle.matrix_echelon.specs.Grid.{gridOf, Readable}
-use Rattle.matrix_echelon.specs.Forward.{Room, IsRank}
+use Rattle.matrix_echelon.specs.Forward.{IsRank}
 use Rattle.matrix_echelon.specs.Reduced.{ReducedForm, Pivoting, RowsByPivot}
+use Rattle.matrix_echelon.proofs.Grids.{grid-table, grid-turned}
 use Rattle.matrix.specs.Calls.{tableOf, tableRank, inverseOf}
 use Rattle.matrix.specs.Parts.{Checked, plain, turned, marked, ReducedRows, KernelVectors, StoresBasis}
 use Rattle.matrix.proofs.Memory.{place-inside, marked-no, marked-yes}
 use Rattle.matrix.proofs.Stored.{rank-is, inverse-so}
 use Rattle.matrix.proofs.Basis.{basis-stored}
-
--- memory that is cleared is room for the worked rows and their pivots
-pub cleared-room : (p : ℕ) {e pivots : List ℕ} → IsModulus p → Zeros widestTable e → Zeros longestRow pivots → Room p e pivots
-cleared-room p {e} ok z zs =
-    record {
-      rows-in = record { long = z .0; below = blank-below p e (omega (arith, ok .prime .two-or-more)) (z .1) };
-      pivots-long = zs .0;
-    }
 
 -- a table that has passed the checks can be read, with a column of numbers beside it
 module _ {p m n : ℕ} {a : List ℕ} (k : Checked p m n a) {w : List ℕ} where
@@ -71,27 +58,10 @@ module _ {p m n : ℕ} {a : List ℕ} (k : Checked p m n a) {w : List ℕ} where
 
 module _ (p m n : ℕ) (a : List ℕ) where
   plain-same : gridOf p (plain m n) a ≡ tableOf p m n a
-  unfolding gridOf cut table
-  plain-same =
-      entries (residues p) (gridOf p (plain m n) a) (tableOf p m n a)
-      (λ i j.
-      ap (λ q. choose (ltb i m) (choose (ltb j n) (reduce p (getD a q 0)) (reduce p 0)) (reduce p 0))
-      (let e : 0 + i * n + j * 1 ≡ 0 + i * n + j = omega arith in e))
+  plain-same = grid-table p (plain m n) a 0 n (λ i j. omega arith)
 
   turned-same : gridOf p (turned m n) a ≡ transpose (residues p) (tableOf p m n a)
-  unfolding gridOf cut table transpose
-  turned-same =
-      entries (residues p) (gridOf p (turned m n) a) (transpose (residues p) (tableOf p m n a))
-      (λ i j.
-      swapped (ltb i n) (ltb j m) (reduce p (getD a (0 + i * 1 + j * n) 0))
-      ∙ ap (λ q. choose (ltb j m) (choose (ltb i n) (reduce p (getD a q 0)) (reduce p 0)) (reduce p 0))
-      (let e : 0 + i * 1 + j * n ≡ 0 + j * n + i = omega arith in e))
-    where
-      swapped : (b c : Bool) (x : residues p .Carrier)
-          → choose b (choose c x (reduce p 0)) (reduce p 0) ≡ choose c (choose b x (reduce p 0)) (reduce p 0)
-      swapped true c x = refl
-      swapped false true x = refl
-      swapped false false x = refl
+  turned-same = grid-turned p (turned m n) a 0 n (λ i j. omega arith)
 
   -- ---- a pivot inverse of the table as it stands
 

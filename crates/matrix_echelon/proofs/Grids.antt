@@ -1,15 +1,16 @@
--- The table with its carried column: cut to its sizes it is the table. So the worked rows of all its rows give its rank, and their
--- pivots lie in its columns.
-use mathlib.Core.Path.{_≡_, refl, ap, subst, fun-ext}
+-- What is read in place: a table with its rows one behind the other, as it stands or turned. With its carried column, cut to its sizes,
+-- it is the table; so the worked rows of all its rows give its rank, and their pivots lie in its columns.
+use mathlib.Core.Path.{_≡_, refl, ap, _∙_, subst, fun-ext}
 use mathlib.Core.Bool.{Bool, true, false}
 use mathlib.Core.List.{List}
-use Prim.Native.Nat.{ℕ, _+_, _<_}
+use Prim.Native.Nat.{ℕ, _+_, _*_, _<_}
 use native.Mathlib.Omega.{arith}
 use lib.Dec.{ltb}
 use lib.ListN.{getD}
+use borrow.Author.Tests.{lt-ltb, le-ltb}
 use Rattle.algebra.specs.Choice.{choose}
 use Rattle.algebra.specs.Ring.{IsCommutativeRing}
-use Rattle.algebra.specs.Matrix.{Matrix, cut}
+use Rattle.algebra.specs.Matrix.{Matrix, cut, transpose}
 use Rattle.algebra.specs.Quasiinverse.{IsPivotInverse}
 use Rattle.algebra.specs.Echelon.{Worked}
 use Rattle.algebra.proofs.Matrices.{entries}
@@ -18,16 +19,25 @@ use Rattle.checks.specs.Prime.{IsModulus}
 use Rattle.words.specs.Lengths.{longestRow, widestTable}
 use Rattle.words.specs.Words.{Zeros}
 use Rattle.field.specs.Residue.{reduce, residues}
-use Rattle.field.specs.View.{line}
+use Rattle.field.specs.View.{line, table}
 use Rattle.field.proofs.Field.{residues-ring}
 use Rattle.field.proofs.Views.{blank-below}
 use Rattle.matrix_echelon.specs.declared.Grid.{Grid}
-use Rattle.matrix_echelon.specs.Grid.{entryOf, gridOf, wide, Readable}
+use Rattle.matrix_echelon.specs.Grid.{gridPlace, entryOf, gridOf, wide, Readable}
 use Rattle.matrix_echelon.specs.Group.{Pivots}
 use Rattle.matrix_echelon.specs.Forward.{Room, Held, IsRank}
 use Rattle.matrix_echelon.proofs.Groups.{one-not-zero}
 use Rattle.matrix_echelon.proofs.Settle.{modulus-proper}
-use Rattle.matrix_echelon.proofs.WorkRow.{wide-carried}
+
+-- the table with its carried column, at a column and behind them
+pub wide-front : (p : ℕ) (g : Grid) (a w : List ℕ) (step i j : ℕ) → j < g .columns → wide p g a w step i j ≡ entryOf p g a i j
+unfolding wide
+wide-front p g a w step i j h = ap (λ b. choose b (entryOf p g a i j) (line p w 0 step i)) (lt-ltb j (g .columns) h)
+
+pub wide-carried : (p : ℕ) (g : Grid) (a w : List ℕ) (step i : ℕ) → wide p g a w step i (g .columns) ≡ line p w 0 step i
+unfolding wide
+wide-carried p g a w step i =
+    ap (λ b. choose b (entryOf p g a i (g .columns)) (line p w 0 step i)) (le-ltb (g .columns) (g .columns) (omega arith))
 
 -- a choice that is made twice
 chosen-twice : {A : Type 0} (b : Bool) (x y z : A) → choose b (choose b x y) z ≡ choose b x z
@@ -46,6 +56,29 @@ module _ (p : ℕ) (g : Grid) (a w : List ℕ) (step : ℕ) where
   -- behind the table stands the carried column
   pub wide-last : _≡_ {A = ℕ → residues p .Carrier} (λ i. wide p g a w step i (g .columns)) (line p w 0 step)
   wide-last = fun-ext (λ i. wide-carried p g a w step i)
+
+-- a table whose rows begin `stride` numbers apart, read row by row, and read turned: row i of the table is column i of what is read
+module _ (p : ℕ) (g : Grid) (a : List ℕ) (start stride : ℕ) where
+  pub grid-table : ((i j : ℕ) → gridPlace g i j ≡ start + i * stride + j) → gridOf p g a ≡ table p a start stride (g .rows) (g .columns)
+  unfolding gridOf cut table
+  grid-table place =
+      entries (residues p) _ _
+      (λ i j.
+      ap (λ q. choose (ltb i (g .rows)) (choose (ltb j (g .columns)) (reduce p (getD a q 0)) (reduce p 0)) (reduce p 0)) (place i j))
+
+  pub grid-turned : ((i j : ℕ) → gridPlace g j i ≡ start + i * stride + j)
+      → gridOf p g a ≡ transpose (residues p) (table p a start stride (g .columns) (g .rows))
+  unfolding gridOf cut table transpose
+  grid-turned place =
+      entries (residues p) _ _
+      (λ j i.
+      ap (λ q. choose (ltb j (g .rows)) (choose (ltb i (g .columns)) (reduce p (getD a q 0)) (reduce p 0)) (reduce p 0)) (place i j)
+      ∙ swapped (ltb j (g .rows)) (ltb i (g .columns)) (reduce p (getD a (start + i * stride + j) 0)) (reduce p 0))
+    where
+      swapped : {A : Type 0} (b c : Bool) (x z : A) → choose b (choose c x z) z ≡ choose c (choose b x z) z
+      swapped true c x z = refl
+      swapped false true x z = refl
+      swapped false false x z = refl
 
 -- the D of the worked rows is a pivot inverse of the table
 abbrev pub rank-worked : {p : ℕ} {g : Grid} {a : List ℕ} (w : List ℕ) (step : ℕ) {r : ℕ} {E : Matrix (residues p)} {pivot : ℕ → ℕ}

@@ -16,9 +16,8 @@ use Rattle.algebra.proofs.Cleared as cleared
 use Rattle.algebra.proofs.Rings as rings
 use Rattle.algebra.proofs.Sums as sums
 use Rattle.checks.specs.Prime.{largestModulus}
-use Rattle.words.specs.Lengths.{longestRow, widestRow, largestTable}
+use Rattle.words.specs.Lengths.{widestRow, largestTable}
 use Rattle.field.specs.Residue.{Residue, reduce, residues, _⊕_, _⊗_}
-use Rattle.field.specs.Limbs.{limbBase, low, high}
 use Rattle.field.proofs.Residues.{reduce-plus, reduce-times, reduce-zero, nonzero-of-positive}
 use Rattle.field.proofs.Field.{residues-ring}
 use Rattle.field.proofs.Limbs.{Within, within-zero, within-one, within-more, within-low, within-high, within-fits, whole-add, number-fits}

@@ -3,10 +3,10 @@ pub mod WorkedClear
 pub mod WorkedGrow
 pub mod Groups
 pub mod Settle
+pub mod Grids
 pub mod WorkRow
 pub mod ReduceMultipliers
 pub mod ReduceRow
-pub mod Grids
 pub mod ReducedPivots
 pub mod ReducedRows
 pub mod SolutionBack

@@ -2,23 +2,22 @@
 -- joins the worked rows with the first such place as its pivot.
 use mathlib.Core.Path.{_≡_, sym, ap, _∙_}
 use mathlib.Core.List.{List}
-use Prim.Native.Nat.{ℕ, suc, _+_, _≤_, _<_}
+use Prim.Native.Nat.{ℕ, suc, _+_, _<_}
 use native.Mathlib.Numerals.{add-one}
 use native.Mathlib.Omega.{arith}
 use lib.ListN.{length, getD, take}
 use lib.Seq.{length-take-le, getD-take}
 use Rattle.algebra.specs.Ring.{IsCommutativeRing}
 use Rattle.algebra.specs.Matrix.{Vector, Matrix}
-use Rattle.algebra.specs.Echelon.{Worked, Cleared}
+use Rattle.algebra.specs.Echelon.{Cleared}
 use Rattle.algebra.proofs.Echelon.{row-skipped, row-added, pivot-below, grown-leading}
-use Rattle.checks.specs.Prime.{IsModulus, largestModulus}
-use Rattle.words.specs.Lengths.{longestRow}
+use Rattle.checks.specs.Prime.{IsModulus}
 use Rattle.words.specs.Words.{Below, LeastNonzero}
 use Rattle.field.specs.Residue.{reduce, residues}
 use Rattle.field.proofs.Residues.{reduce-of-value, below-of-value}
 use Rattle.field.proofs.Field.{residues-ring}
 use Rattle.matrix_mul.specs.Rows.{Summed, wholeAt, summedAt}
-use Rattle.matrix_echelon.specs.Group.{rowIn, workedRows, pivotsOf}
+use Rattle.matrix_echelon.specs.Group.{rowIn}
 use Rattle.matrix_echelon.specs.Worked.{Growable, RowGrown}
 use Rattle.matrix_echelon.specs.Forward.{Settleable, RowSettled}
 use Rattle.matrix_echelon.proofs.Groups.{one-not-zero}

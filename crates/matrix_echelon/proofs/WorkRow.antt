@@ -5,15 +5,12 @@ use mathlib.Core.List.{List}
 use Prim.Native.Nat.{ℕ, suc, _+_, _*_, _≤_, _<_}
 use native.Mathlib.Decide.{decLt}
 use native.Mathlib.Omega.{arith}
-use lib.Dec.{ltb}
 use lib.ListN.{length, getD, take, List·getD-eq-default}
 use lib.Seq.{length-take-le, getD-take}
-use borrow.Author.Tests.{lt-ltb, le-ltb}
-use Rattle.algebra.specs.Choice.{choose}
 use Rattle.algebra.specs.Ring.{IsCommutativeRing}
 use Rattle.algebra.specs.Matrix.{mixed}
 use Rattle.algebra.specs.Echelon.{Worked, Cleared}
-use Rattle.algebra.proofs.Echelon.{worked-none, row-follows, pivot-below, rank-columns}
+use Rattle.algebra.proofs.Echelon.{worked-none, row-follows, rank-columns}
 use Rattle.words.specs.Lengths.{widestRow}
 use Rattle.words.specs.Words.{Blank, Zeros}
 use Rattle.field.specs.Residue.{reduce, residues}
@@ -22,21 +19,12 @@ use Rattle.field.specs.View.{line}
 use Rattle.field.proofs.Field.{residues-ring}
 use Rattle.matrix_mul.specs.Rows.{wholeAt}
 use Rattle.matrix_echelon.specs.declared.Grid.{Grid}
-use Rattle.matrix_echelon.specs.Grid.{entryOf, wide, Readable}
-use Rattle.matrix_echelon.specs.Group.{rowIn, workedRows, pivotsOf, Pivots, RowReadable, RowRead, Clearable, PivotsCleared}
+use Rattle.matrix_echelon.specs.Grid.{wide, Readable}
+use Rattle.matrix_echelon.specs.Group.{rowIn, workedRows, pivotsOf, RowReadable, RowRead, Clearable, PivotsCleared}
 use Rattle.matrix_echelon.specs.Forward.{Room, Settleable, RowSettled, Held, Workable}
 use Rattle.matrix_echelon.proofs.Groups.{one-not-zero}
 use Rattle.matrix_echelon.proofs.Settle.{modulus-proper}
-
--- the table with its carried column, at a column and behind them
-pub wide-front : (p : ℕ) (g : Grid) (a w : List ℕ) (step i j : ℕ) → j < g .columns → wide p g a w step i j ≡ entryOf p g a i j
-unfolding wide
-wide-front p g a w step i j h = ap (λ b. choose b (entryOf p g a i j) (line p w 0 step i)) (lt-ltb j (g .columns) h)
-
-pub wide-carried : (p : ℕ) (g : Grid) (a w : List ℕ) (step i : ℕ) → wide p g a w step i (g .columns) ≡ line p w 0 step i
-unfolding wide
-wide-carried p g a w step i =
-    ap (λ b. choose b (entryOf p g a i (g .columns)) (line p w 0 step i)) (le-ltb (g .columns) (g .columns) (omega arith))
+use Rattle.matrix_echelon.proofs.Grids.{wide-front, wide-carried, pivot-in-columns, pivots-held}
 
 -- no row yet
 pub held-none : {p : ℕ} {g : Grid} {a w : List ℕ} {step : ℕ} {e pivots : List ℕ} → Readable p g a w step → Room p e pivots
@@ -99,13 +87,7 @@ module _ (p : ℕ) (g : Grid) (i : ℕ) (a w : List ℕ) (step r : ℕ) (e pivot
           proper = proper;
           in-range = s .readable .table .is-modulus .in-range;
           room = s .held .room .rows-in;
-          pivots-in =
-              record {
-                narrow = omega (arith, s .readable .table .columns-most);
-                few = omega (arith, s .free, s .readable .table .columns-most);
-                long = s .held .room .pivots-long;
-                inside = λ t h. omega (arith, pivot-below (residues p) L (one-not-zero p proper) worked t h);
-              };
+          pivots-in = pivots-held (s .readable) (s .held);
           cleared = worked .cleared;
           leading = s .held .leading;
           long-lo = l .long;
@@ -169,5 +151,5 @@ module _ (p : ℕ) (g : Grid) (i : ℕ) (a w : List ℕ) (step r : ℕ) (e pivot
           record {
             room = t .room;
             worked = t .worked i (wide p g a w step) worked row-cleared;
-            leading = t .leading (pivot-below (residues p) L (one-not-zero p proper) worked) (s .held .leading);
+            leading = t .leading (pivot-in-columns (s .readable) (s .held)) (s .held .leading);
           }

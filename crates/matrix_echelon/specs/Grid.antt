@@ -4,7 +4,7 @@ use Prim.Native.Nat.{ℕ, _+_, _*_, _≤_, _<_}
 use lib.ListN.{length, getD}
 use lib.Dec.{ltb}
 use Rattle.algebra.specs.Choice.{choose}
-use Rattle.algebra.specs.Matrix.{Vector, Matrix, cut}
+use Rattle.algebra.specs.Matrix.{Matrix, cut}
 use Rattle.checks.specs.Prime.{IsModulus}
 use Rattle.words.specs.Lengths.{longestRow}
 use Rattle.field.specs.Residue.{reduce, residues}

@@ -57,7 +57,6 @@ pub record GroupCleared (p : ℕ) (x : List ℕ) (v r : ℕ) (e e′ : List ℕ)
       → workedRows p e′ (length x) t j
       ≡ workedRows p e (length x) t j ⊕ negated (workedRows p e (length x) t v) ⊗ reduce p (getD x j 0)
   pub before : (q : ℕ) → q < r / 4 * 4 * length x → getD e′ q 0 ≡ getD e q 0
-  pub behind : (q : ℕ) → r * length x ≤ q → getD e′ q 0 ≡ getD e q 0
 
 -- making x, whose first number that is not 0 stands at v, the worked row r
 pub record Growable (p : ℕ) (x : List ℕ) (v r : ℕ) (e pivots : List ℕ) : Type 0 where

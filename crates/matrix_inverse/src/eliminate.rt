@@ -1,7 +1,6 @@
 // Algorithm Q of document 001: a quasiinverse of a table from those of its upper rows and of its reduced lower rows.
-ghost use mathlib.Core.Path.{_≡_};
-ghost use Prim.Native.Nat.{ℕ, _+_, _-_, _*_, _/_, _≤_, _<_};
-ghost use lib.ListN.{length, getD};
+ghost use Prim.Native.Nat.{_+_, _-_, _*_, _/_, _≤_, _<_};
+ghost use lib.ListN.{length};
 ghost use Rattle.matrix_mul.specs.Rows.{Passes};
 ghost use Rattle.matrix_mul.specs.Places.{place, Factors};
 ghost use Rattle.matrix_inverse.specs.Eliminated.{noMarks, Eliminable, Eliminated, BothMarked};

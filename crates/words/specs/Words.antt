@@ -1,4 +1,4 @@
--- What is said of lists of words: bounds, zeros, marks, and what a call that copies or compares leaves.
+-- What is said of lists of words: bounds, zeros, and what a call that copies or compares leaves.
 use mathlib.Core.Path.{_≡_}
 use mathlib.Core.List.{List}
 use Prim.Native.Nat.{ℕ, _+_, _≤_, _<_}
@@ -15,10 +15,6 @@ Blank xs = (j : ℕ) → getD xs j 0 ≡ 0
 -- k zeros
 abbrev pub Zeros : ℕ → List ℕ → Type 0
 Zeros k xs = (length xs ≡ k) × Blank xs
-
--- no number is 0
-abbrev pub AllMarked : List ℕ → Type 0
-AllMarked xs = (j : ℕ) → j < length xs → 1 ≤ getD xs j 0
 
 -- the n first numbers of zs are those of xs from start on
 pub record Copied (xs : List ℕ) (start n : ℕ) (zs zs′ : List ℕ) : Type 0 where

@@ -4,8 +4,8 @@ ghost use mathlib.Core.Path.{_≡_};
 ghost use Prim.Native.Nat.{_+_, _≤_, _<_};
 ghost use lib.ListN.{length};
 ghost use Rattle.algebra.specs.Answers.{Tells};
-ghost use Rattle.words.specs.Lengths.{longestRow, widestRow, largestTable, widestTable};
-ghost use Rattle.words.specs.Words.{Below, Blank, Zeros, AllMarked, Copied, PutAt, FirstDifference, LeastNonzero};
+ghost use Rattle.words.specs.Lengths.{longestRow, widestRow, widestTable};
+ghost use Rattle.words.specs.Words.{Below, Blank, Zeros, Copied, PutAt, FirstDifference, LeastNonzero};
 
 // The most numbers of a row or a column.
 pub const ROW: usize = 64;
@@ -13,10 +13,7 @@ pub const ROW: usize = 64;
 // The numbers of a row with one number carried behind it.
 pub const WIDE: usize = 65;
 
-// The numbers of the largest table.
-pub const TABLE: usize = 4096;
-
-// The same with a number carried behind each row.
+// The numbers of the largest table with one number carried behind each row.
 pub const WIDE_TABLE: usize = 4160;
 
 // Zeros: room for the longest row or column.
@@ -24,13 +21,6 @@ pub fn row_room() -> [u32; ROW]
     ensures { λ r. ⌜ Zeros longestRow r ⌝ }
 {
     [0u32; ROW]
-}
-
-// Room for the largest table.
-pub fn table_room() -> [u32; TABLE]
-    ensures { λ r. ⌜ Zeros largestTable r ⌝ }
-{
-    [0u32; TABLE]
 }
 
 // Room for a row with one number carried behind it.
@@ -116,20 +106,6 @@ pub fn same(xs: &[u32], ys: &[u32]) -> bool
     ensures { λ r. ⌜ Tells r (now (xs .entry) ≡ now (ys .entry)) ⌝ }
 {
     xs.len() <= first_difference(xs, ys)
-}
-
-// Whether no number is 0.
-pub fn all_marked(xs: &[u32]) -> bool
-    ensures { λ r. ⌜ Tells r (AllMarked (now (xs .entry))) ⌝ }
-{
-    let mut j = 0;
-    while j < xs.len() {
-        if xs[j] < 1 {
-            return false;
-        }
-        j += 1;
-    }
-    true
 }
 
 // Whether every number is below p.

@@ -11,7 +11,7 @@ use mir.ValLaws.{toZ-ofZ}
 use Rattle.signed.specs.Reading.{readFrom}
 use Rattle.signed.proofs.Readings.{low-end-below, reading-from-low}
 use Rattle.board_solve.specs.Records.{workedPlace}
-use Rattle.board_solve.proofs.RecordRows.{row-inside, row-in}
+use Rattle.board_solve.proofs.RecordRows.{row-in-room, row-in}
 use Rattle.board_solve.proofs.records.record_at.Statement.{statement}
 use Rattle.board_solve.proofs.records.record_at.Tie as tie
 
@@ -22,16 +22,16 @@ add-at : tie.Need-add-at
 add-at c = search needs
 
 mul-at : tie.Need-mul-at
-mul-at c = omega (arith, row-inside (c .before .pre .0) (c .before .pre .1))
+mul-at c = omega (arith, row-in-room (c .before .pre .0) (c .before .pre .1))
 
 add-at-2 : tie.Need-add-at-2
-add-at-2 c = omega (arith, row-inside (c .before .pre .0) (c .before .pre .1))
+add-at-2 c = omega (arith, row-in-room (c .before .pre .0) (c .before .pre .1))
 
 low-end-requires : tie.Need-low-end-requires
 low-end-requires c κs = search needs
 
 mul-read-from : tie.Need-mul-read-from
-mul-read-from c = let s = c .before .before in omega (arith, row-inside (s .pre .0) (s .pre .1))
+mul-read-from c = let s = c .before .before in omega (arith, row-in-room (s .pre .0) (s .pre .1))
 
 shared-slice-read-read-from : tie.Need-shared-slice-read-read-from
 shared-slice-read-read-from c = let s = c .before .before .before in row-in (s .pre .0) (s .pre .1)

@@ -4,7 +4,7 @@ use native.Mathlib.Omega.{arith}
 use Prim.Native.Nat.{_<_}
 use borrow.Author.Needs.{needs}
 use Rattle.algebra.proofs.Answers.{tells-no}
-use Rattle.board_solve.proofs.RecordRows.{row-inside, row-in, row-tells}
+use Rattle.board_solve.proofs.RecordRows.{row-in-room, row-in, row-tells}
 use Rattle.board_solve.proofs.records.settled.Statement.{statement}
 use Rattle.board_solve.proofs.records.settled.Tie as tie
 
@@ -22,13 +22,13 @@ add-at : tie.Need-add-at
 add-at c = search needs
 
 mul-at : tie.Need-mul-at
-mul-at c = omega (arith, row-inside (c .before .before .pre) (some c))
+mul-at c = omega (arith, row-in-room (c .before .before .pre) (some c))
 
 add-end : tie.Need-add-end
-add-end c = omega (arith, row-inside (c .before .before .pre) (some c))
+add-end c = omega (arith, row-in-room (c .before .before .pre) (some c))
 
 mul-is-unit : tie.Need-mul-is-unit
-mul-is-unit c = omega (arith, row-inside (c .before .before .pre) (some c))
+mul-is-unit c = omega (arith, row-in-room (c .before .before .pre) (some c))
 
 sub-is-unit : tie.Need-sub-is-unit
 sub-is-unit c = search needs

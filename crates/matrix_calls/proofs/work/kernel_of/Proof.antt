@@ -1,7 +1,8 @@
 -- `matrix_calls::work::kernel_of` meets its contract: the vectors that the reduced form gives are the basis.
 use mathlib.Core.Path.{sym}
 use native.Mathlib.Omega.{arith}
-use Rattle.matrix.proofs.Grids.{cleared-room, plain-readable, pivoting, reduced-rows, basis-reduced}
+use Rattle.matrix_echelon.proofs.Grids.{room-fresh}
+use Rattle.matrix.proofs.Grids.{plain-readable, pivoting, reduced-rows, basis-reduced}
 use Rattle.matrix_calls.proofs.work.kernel_of.Statement.{statement}
 use Rattle.matrix_calls.proofs.work.kernel_of.Tie as tie
 
@@ -32,7 +33,7 @@ reduced-requires c κs =
     let r = c .before .before .before in
     let k = start c .pre .0 in (
       plain-readable k (omega (arith, r .before .before .row-room .ensures .0, k .m-most)),
-      cleared-room _ (k .is-modulus) (r .before .wide-table .ensures) (r .row-room2 .ensures),
+      room-fresh _ _ (k .is-modulus) (r .before .wide-table .ensures) (r .row-room2 .ensures),
     )
 
 slice-aggregate-rows-by-pivot : tie.Need-slice-aggregate-rows-by-pivot

@@ -3,7 +3,7 @@ use mathlib.Core.Path.{sym}
 use native.Mathlib.Omega.{arith}
 use borrow.Author.Needs.{needs}
 use lib.Seq.{length-take-le}
-use Rattle.matrix_echelon.proofs.Settle.{row-long, settled-none, growable, settled-row}
+use Rattle.matrix_echelon.proofs.Settle.{settled-none, growable, settled-row}
 use Rattle.matrix_echelon.proofs.forward.settle.Statement.{statement}
 use Rattle.matrix_echelon.proofs.forward.settle.Tie as tie
 

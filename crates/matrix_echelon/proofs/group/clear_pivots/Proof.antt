@@ -1,8 +1,7 @@
 -- `matrix_echelon::group::clear_pivots` meets its contract. The loop's invariant: the row has multiples of the first g worked rows
 -- added, and is 0 at their pivots; g is a multiple of four.
 use mathlib.Core.Path.{_≡_, refl}
-use mathlib.Core.List.{List}
-use Prim.Native.Nat.{ℕ, _+_, _*_, _-_, _/_, _%_, _≤_, _<_}
+use Prim.Native.Nat.{_+_, _*_, _-_, _/_, _%_, _≤_, _<_}
 use native.Mathlib.Omega.{arith}
 use Rattle.algebra.specs.Echelon.{ClearedTo}
 use Rattle.algebra.proofs.Cleared as cleared
@@ -11,7 +10,7 @@ use Rattle.field.specs.Limbs.{limbBase}
 use Rattle.field.proofs.Field.{residues-ring}
 use Rattle.matrix_mul.specs.Rows.{Powers}
 use Rattle.matrix_mul.proofs.RowsTaken.{mod-short, quarter-product, one-fits}
-use Rattle.matrix_echelon.specs.Group.{Clearable, rowIn, workedRows, pivotsOf}
+use Rattle.matrix_echelon.specs.Group.{rowIn, workedRows, pivotsOf}
 use Rattle.matrix_echelon.proofs.Groups.{Limbs, limbs-fresh, limbs-ready, limbs-more, four-inside, nothing-before, group-cleared}
 use Rattle.matrix_echelon.proofs.Groups.{one-not-zero}
 use Rattle.matrix_echelon.proofs.group.clear_pivots.Statement.{statement}

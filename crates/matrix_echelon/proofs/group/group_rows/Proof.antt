@@ -1,8 +1,5 @@
 -- `matrix_echelon::group::group_rows` meets its contract.
-use Prim.Native.Nat.{ℕ, _≤_}
 use native.Mathlib.Omega.{arith}
-use Rattle.words.specs.Lengths.{longestRow}
-use Rattle.matrix_echelon.specs.Group.{PivotRoom}
 use Rattle.matrix_echelon.proofs.group.group_rows.Statement.{statement}
 use Rattle.matrix_echelon.proofs.group.group_rows.Tie as tie
 

@@ -85,7 +85,7 @@ returns c =
     let l = c .before .loop in
     let e : l .t ≡ c .before .before .before .before .args .rank = omega arith in
     let w = rw e at (l .inv .2) in
-    record { room = w .room; group = λ t j h k g. w .group t h k j g; before = w .before; behind = w .behind }
+    record { room = w .room; group = λ t j h k g. w .group t h k j g; before = w .before }
 
 pub clear-group-spec : {M : Type 1} → statement M
 clear-group-spec =
