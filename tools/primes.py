@@ -1,7 +1,7 @@
 #!/usr/bin/env python3
 """The table of inverses by which is_modulus tests p: crates/checks/src/primes.rt.
 
-The table has the inverse modulo 2^32 of each prime from 33 to 46,340, the largest number whose square is at most
+The table has the inverse modulo 2^32 of each prime from 33 past 46,340, the largest number whose square is at most
 2,147,483,647. A part of it is one arm of a match: the number that the part starts from, then 38 inverses. The primes of a
 part lie below twice its start; where that leaves places, they are filled with ones. 38 makes it 128 parts: at a power of
 two the compiler turns the arms into tables with no case apart for the last arm, and nothing is copied to the stack. Where

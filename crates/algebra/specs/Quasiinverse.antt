@@ -1,6 +1,6 @@
 -- Three descriptions of D beside a table A. `IsQuasiinverse` is document 001's own: ADA = A and DAD = D. `IsInverseOn` is 01's:
--- the inverse of A on marked rows and columns, and zero elsewhere. `IsPivotInverse` is what Algorithm Q carries from the halves
--- of a table to the whole; `proofs/` shows that it gives the other two.
+-- the inverse of A on marked rows and columns, and zero elsewhere. `IsPivotInverse` is what both eliminations carry, Algorithm Q
+-- from the halves of a table to the whole, the forward elimination from row to row; `proofs/` shows that it gives the other two.
 use mathlib.Core.Path.{_≡_}
 use mathlib.Core.Bool.{Bool, true, false}
 use Prim.Native.Nat.{ℕ, zero, suc, _+_, _-_, _<_}
@@ -56,7 +56,7 @@ module _ (R : Ring) where
     pub left-inverse : (i c : ℕ) → I i ≡ true → I c ≡ true → product R m D A i c ≡ unit R i c
     pub right-inverse : (y j : ℕ) → J y ≡ true → J j ≡ true → product R n A D y j ≡ unit R y j
 
-  -- what Algorithm Q carries: D with the marks I of the pivot columns and J of the pivot rows
+  -- what both eliminations carry: D with the marks I of the pivot columns and J of the pivot rows
   pub record IsPivotInverse (m n : ℕ) (A D : Matrix R) (I J : Marks) : Type 0 where
     -- D is zero in rows outside I and in columns outside J
     pub row-outside : (i j : ℕ) → I i ≡ false → D i j ≡ R .zero

@@ -60,7 +60,7 @@ pub fn number_of(kind: Refusal) -> u32
 }
 
 // Whether p is a prime from 2 to 2,147,483,647: by division by 2 and the odd numbers below 33, which is all for a p below
-// 33², and then by the table of inverses.
+// 31², and then by the table of inverses.
 pub fn is_modulus(p: u32) -> bool
     ensures { λ r. ⌜ Tells r (IsModulus p) ⌝ }
 {

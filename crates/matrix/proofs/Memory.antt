@@ -1,5 +1,5 @@
 -- From numbers in memory to vectors, tables and marks: a list that reads as a table is that table written out, a list of
--- marks sums to the number of members, and products of tables are sums of products along lines of memory.
+-- marks sums to the number of members, and a table times a vector is sums of products along lines of memory.
 use mathlib.Core.Path.{_≡_, sym, ap, ap₂, _∙_, fun-ext}
 use mathlib.Core.Bool.{true, false, not}
 use mathlib.Core.List.{List}

@@ -26,7 +26,7 @@ use Rattle.matrix_mul.specs.declared.rows.Four.{Four}
 use Rattle.matrix_mul.specs.Rows.{Short, Inside, FourInside, NothingBefore, Ready, Added, productAt, fourAt, wholeAt}
 use Rattle.matrix_mul.proofs.RowsTaken.{below-shorts, quarter-product, four-fit}
 use Rattle.matrix_echelon.specs.Group.{Pivots, WorkedRoom, IsPivotRow, GroupTaken, GroupsCleared, Clearable, rowIn, workedRows}
-use Rattle.matrix_echelon.specs.Group.{pivotsOf, LeastPivot}
+use Rattle.matrix_echelon.specs.Group.{pivotsOf, NoPivotBefore}
 use Rattle.matrix_echelon.proofs.WorkedClear.{row-inside}
 
 -- 1 is not 0 modulo p
@@ -91,7 +91,7 @@ module _ (p n r : ℕ) (e pivots : List ℕ) (positive : 0 < p) (in-range : p �
         (quarter-product _ _ (i .third .short) (i .table-short _)) (quarter-product _ _ (i .fourth .short) (i .table-short _)))
 
     -- in front of the least pivot of the group its rows are 0
-    pub nothing-before : {v : ℕ} → LeastPivot (n + 1) r g pivots v → Leading (residues p) r (workedRows p e (n + 1)) (pivotsOf pivots)
+    pub nothing-before : {v : ℕ} → NoPivotBefore (n + 1) r g pivots v → Leading (residues p) r (workedRows p e (n + 1)) (pivotsOf pivots)
         → NothingBefore (n + 1) v e four
     unfolding fourAt productAt
     nothing-before {v} l leading =

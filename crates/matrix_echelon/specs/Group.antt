@@ -94,8 +94,8 @@ pub record GroupTaken (p width r g : ℕ) (pivots lo hi : List ℕ) (four : Four
   pub row-c : IsPivotRow p width r (g + 2) pivots lo hi (four .c)
   pub row-d : IsPivotRow p width r (g + 3) pivots lo hi (four .d)
 
--- a place of a row, in front of which no row of the group from g on has its pivot
-pub record LeastPivot (width r g : ℕ) (pivots : List ℕ) (v : ℕ) : Type 0 where
+-- no row of the group from g on has its pivot in front of v
+pub record NoPivotBefore (width r g : ℕ) (pivots : List ℕ) (v : ℕ) : Type 0 where
   pub within : v ≤ width
   pub least : (t : ℕ) → g ≤ t → t < g + 4 → t < r → v ≤ getD pivots t 0
 

@@ -46,13 +46,14 @@ pub record FirstFree (at : List ℕ) (v : ℕ) : Type 0 where
   pub within : v ≤ length at
   pub taken : (j : ℕ) → j < v → getD at j 0 ≡ 0 → ⊥
 
+-- what reducing row t asks; `next` leads through all rows
 pub record Reducible (p width from r t : ℕ) (next e pivots : List ℕ) : Type 0 where
   pub lookable : Lookable p width r t e pivots
   pub proper : 1 < p
   pub within : from ≤ width
   pub through : Each next
 
--- they have been used on row t from the place `from` on; in front of it the row has a 1 at its own pivot, and 0 elsewhere
+-- the multipliers have been used on row t from the place `from` on; in front of it the row has a 1 at its own pivot, and 0 elsewhere
 pub record RowLessened (p width from r t : ℕ) (pivots e e′ : List ℕ) : Type 0 where
   pub room : WorkedRoom p e′
   pub row :

@@ -11,7 +11,7 @@ use Rattle.field.specs.Residue.{Residue, reduce, residues, _⊕_, _⊗_, negate
 use Rattle.matrix_echelon.specs.Group.{workedRows, pivotsOf, WorkedRoom}
 
 -- numbers below p, of which those in front of `from` are 0
-pub record Leading (p from : ℕ) (x : List ℕ) : Type 0 where
+pub record LeadingZeros (p from : ℕ) (x : List ℕ) : Type 0 where
   pub positive : 0 < p
   pub in-range : p ≤ largestModulus
   pub below : Below p x
@@ -20,7 +20,7 @@ pub record Leading (p from : ℕ) (x : List ℕ) : Type 0 where
 
 -- scaling by s
 pub record Scalable (p s from : ℕ) (x : List ℕ) : Type 0 where
-  pub leading : Leading p from x
+  pub leading : LeadingZeros p from x
   pub factor : s < p
 
 pub record Scaled (p s : ℕ) (x x′ : List ℕ) : Type 0 where
@@ -29,7 +29,7 @@ pub record Scaled (p s : ℕ) (x x′ : List ℕ) : Type 0 where
 
 -- adding c times x to the numbers of e from the place on
 pub record Addable (p c : ℕ) (x : List ℕ) (from : ℕ) (e : List ℕ) (at : ℕ) : Type 0 where
-  pub leading : Leading p from x
+  pub leading : LeadingZeros p from x
   pub factor : c < p
   pub e-below : Below p e
   pub inside : at + length x ≤ length e
@@ -44,7 +44,7 @@ pub record MultipleAdded (p c : ℕ) (x : List ℕ) (at : ℕ) (e e′ : List �
 
 -- clearing the group of row r at the place v, where x begins
 pub record GroupClearable (p : ℕ) (x : List ℕ) (v r : ℕ) (e : List ℕ) : Type 0 where
-  pub leading : Leading p v x
+  pub leading : LeadingZeros p v x
   pub narrow : length x ≤ widestRow
   pub in-row : v < length x
   pub few : r < longestRow
@@ -65,7 +65,7 @@ pub record Growable (p : ℕ) (x : List ℕ) (v r : ℕ) (e pivots : List ℕ) :
   pub not-zero : getD x v 0 ≡ 0 → ⊥
   pub pivots-long : length pivots ≡ longestRow
 
--- x has n numbers and a carried one
+-- it has become that row; `grown` says so for x of n numbers and a carried one
 pub record RowGrown (p : ℕ) (x : List ℕ) (v r : ℕ) (e pivots e′ pivots′ : List ℕ) : Type 0 where
   pub room : WorkedRoom p e′
   pub pivots-long : length pivots′ ≡ longestRow

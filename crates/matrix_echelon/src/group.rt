@@ -3,7 +3,7 @@
 // with its carried number; row t begins at t times that length.
 ghost use Prim.Native.Nat.{_+_, _≤_};
 ghost use Rattle.matrix_echelon.specs.Group.{RowReadable, RowRead, PivotReadable, IsMultiplier, PivotRoom, IsPivotRow, GroupRoom, GroupTaken, Clearable, PivotsCleared};
-ghost use Rattle.matrix_echelon.specs.Group.{Pivots, LeastPivot};
+ghost use Rattle.matrix_echelon.specs.Group.{Pivots, NoPivotBefore};
 ghost use Rattle.words.specs.Lengths.{longestRow};
 use super::Grid;
 use field::sums::BASE;
@@ -48,7 +48,7 @@ fn multiplier(
     field::arith::minus(p, 0, x)
 }
 
-// The worked row t with its multiplier; the first row, times 0, where there is no row t.
+// The worked row t with its multiplier; the first row, times 0, where there is no row t. The rows are taken one after the other.
 fn pivot_row(
     p: u32,
     once: u64,
@@ -103,7 +103,7 @@ fn group_rows(
 // The least pivot of the rows of the group that begins with row g: in front of it they are 0.
 fn least_pivot(width: usize, rank: usize, g: usize, pivots: &[u32]) -> usize
     requires { ⌜ Pivots width rank (now pivots) × (g ≤ longestRow) ⌝ }
-    ensures { λ r. ⌜ LeastPivot width rank g (now (pivots .entry)) r ⌝ }
+    ensures { λ r. ⌜ NoPivotBefore width rank g (now (pivots .entry)) r ⌝ }
 {
     let mut least = width;
     let mut t = g;
