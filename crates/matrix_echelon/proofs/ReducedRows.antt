@@ -1,21 +1,26 @@
 -- The worked rows are reduced from the last one on: of any table from which they come they stay worked rows, and those from t on are 0
 -- at all pivots but their own. When all are reduced, the rows are those of D A with D w behind them: the reduced form.
 use mathlib.Core.Path.{_≡_, refl, ap, _∙_}
+use mathlib.Core.Bool.{false}
 use mathlib.Core.List.{List}
 use Prim.Native.Nat.{ℕ, _+_, _-_, _≤_, _<_}
 use native.Mathlib.Omega.{arith}
+use lib.ListN.{getD}
 use Rattle.algebra.specs.Ring.{IsCommutativeRing}
 use Rattle.algebra.specs.Matrix.{Matrix, product, apply}
 use Rattle.algebra.specs.Echelon.{Worked, ReducedFrom}
+use Rattle.algebra.proofs.Marks.{is-false}
+use Rattle.algebra.proofs.Independent.{count-most}
 use Rattle.algebra.proofs.Echelon.{pivot-below}
 use Rattle.algebra.proofs.EchelonReduced.{reduced-row, reduced-carried, row-reduced}
+use Rattle.words.specs.Lengths.{longestRow}
 use Rattle.field.specs.Residue.{residues}
 use Rattle.field.proofs.Field.{residues-ring}
 use Rattle.matrix_echelon.specs.declared.Grid.{Grid}
 use Rattle.matrix_echelon.specs.Grid.{wide}
 use Rattle.matrix_echelon.specs.Group.{workedRows, pivotsOf, WorkedRoom}
 use Rattle.matrix_echelon.specs.Forward.{Held}
-use Rattle.matrix_echelon.specs.Reduced.{RowLessened, ReducedForm}
+use Rattle.matrix_echelon.specs.Reduced.{RowLessened, ReducedForm, Pivoting}
 use Rattle.matrix_echelon.proofs.Groups.{one-not-zero}
 use Rattle.matrix_echelon.proofs.Grids.{wide-cut, wide-last, rank-worked}
 
@@ -70,3 +75,16 @@ module _ {p : ℕ} {g : Grid} {a w : List ℕ} {step r : ℕ} {e e′ pivots : L
             reduced-carried (residues p) L (one-not-zero p proper) worked all-reduced t l
             ∙ ap (λ v. apply (residues p) (g .rows) (worked .D) v (pivotsOf pivots t)) (wide-last p g a w step);
       }
+
+-- what the reduced form says of the pivots: they lie in the longest row, and a column where none stands is outside I
+module _ {p : ℕ} {g : Grid} {a w : List ℕ} {step r : ℕ} {e pivots : List ℕ} (f : ReducedForm p g a w step r e pivots) where
+  pub reduced-pivoting : g .columns ≤ longestRow → Pivoting r pivots
+  reduced-pivoting most =
+      record {
+        long = f .pivots-long;
+        few = omega (arith, f .rank .rank, count-most (g .columns) (f .rank .I));
+        inside = λ t l. omega (arith, f .pivots-below t l);
+      }
+
+  pub no-pivot-outside : (c : ℕ) → ((t : ℕ) → t < r → getD pivots t 0 ≡ c → ⊥) → f .rank .I c ≡ false
+  no-pivot-outside c none = is-false (f .rank .I c) (λ b. let (t, (l, d)) = f .found c b in none t l d)
