@@ -38,10 +38,7 @@ module _ (R : Ring) (L : IsCommutativeRing R) (one-not-zero : R .one ≡ R .zero
     pub pivot-below : (t : ℕ) → t < r → pivot t < n
     pivot-below t l = w .inverse .columns (pivot t) (w .chosen t l)
 
-    -- there are at most as many worked rows as rows, and as columns
-    pub rank-rows : r ≤ m
-    rank-rows = omega (arith, w .rank, w .inverse .equally-many, count-most m (w .J))
-
+    -- there are at most as many worked rows as columns
     pub rank-columns : r ≤ n
     rank-columns = omega (arith, w .rank, count-most n (w .I))
 

@@ -102,7 +102,7 @@ module _ (R : Ring) (L : IsCommutativeRing R) where
   bottom-row i n M j l = cut-inside R 1 n (lowerRows R i M) 0 j (zero-lt-suc 0) l ∙ ap (λ k. M k j) (add-zero i)
 
   -- row i less the mix of the rows above by (row i) D
-  pub remainder-row : (i n : ℕ) (M D : Matrix R) (j : ℕ) → j < n
+  remainder-row : (i n : ℕ) (M D : Matrix R) (j : ℕ) → j < n
       → remainder R i n M D 0 j ≡ M i j ⊕ minus (mixed R i (mixed R n (M i) D) M j)
   unfolding remainder add negative
   remainder-row i n M D j l =

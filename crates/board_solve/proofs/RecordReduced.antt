@@ -1,6 +1,6 @@
 -- The reduced form of a board's rows with their values, from that of the table that is read in place; and what it says of record j:
 -- its worked row is the unit row of j exactly if row j of D R is, and the value behind it is then that of D v.
-use mathlib.Core.Path.{_≡_, sym, ap, _∙_}
+use mathlib.Core.Path.{_≡_, sym, ap, _∙_, subst}
 use mathlib.Core.List.{List}
 use Prim.Native.Nat.{ℕ, _+_, _*_, _-_, _≤_, _<_}
 use native.Mathlib.Decide.{decLt}
@@ -9,7 +9,6 @@ use lib.Dec.{eqb}
 use lib.ListN.{length, getD, take, drop}
 use borrow.Author.Tests.{eqb-true}
 use Rattle.algebra.specs.Matrix.{product}
-use Rattle.algebra.proofs.Marks.{by-test}
 use Rattle.algebra.proofs.Applied.{apply-same}
 use Rattle.algebra.proofs.Step.{product-row}
 use Rattle.field.specs.Residue.{reduce, residues}
@@ -19,12 +18,12 @@ use Rattle.field.proofs.Residues.{value-unique}
 use Rattle.words.proofs.Parts.{part-length, part-at}
 use Rattle.matrix_echelon.specs.Grid.{Readable}
 use Rattle.matrix_echelon.specs.Forward.{Room}
-use Rattle.matrix_echelon.specs.Reduced.{ReducedForm, RowsByPivot}
+use Rattle.matrix_echelon.specs.Reduced.{ReducedForm, Pivoting, RowsByPivot}
 use Rattle.matrix_echelon.proofs.Grids.{room-fresh}
+use Rattle.matrix_echelon.proofs.ReducedRows.{reduced-pivoting, no-pivot-outside}
 use Rattle.ledger.specs.Board.{rowLength, valueStart, modulusWord, sizeWord, countWord, multiplierTable}
 use Rattle.ledger.proofs.LayoutPlaces.{value-step, value-inside}
 use Rattle.board_words.specs.Rows.{rowsGrid}
-use Rattle.board_words.proofs.TestSizes.{count-most}
 use Rattle.board_words.proofs.TestRows.{grid-rows, rows-readable, rows-rank}
 use Rattle.board_words.proofs.TestBoard.{full-board, rank-tells}
 use Rattle.board_solve.specs.Records.{valuesOf, ReducedRoom, BoardReduced, ReducedTold, WorkedRow, workedPlace, UnitAt}
@@ -76,23 +75,14 @@ module _ (ws e₀ pivots₀ : List ℕ) (asked : ReducedRoom ws e₀ pivots₀) 
     board-reduced : r ≡ countWord ws → BoardReduced ws e pivots
     board-reduced full =
         let p = modulusWord ws in
-        let h = asked .laid .header in
         let inside : (t : ℕ) → t < countWord ws → t < r = λ t l. omega arith in
         record {
           D = F .rank .D;
           inverse = full-board (asked .laid) (rows-rank ws r (F .rank)) full;
           long = F .long;
           below = F .below;
-          pivoting =
-              record {
-                long = F .pivots-long;
-                few = count-most ws h;
-                inside = λ t l. omega (arith, F .pivots-below t (inside t l), h .size .1);
-              };
-          no-pivot = λ c none i.
-              by-test (F .rank .I c)
-              (λ chosen. let (t, at) = F .found c chosen in absurd (none t (omega (arith, at .0)) (at .1)))
-              (λ free. F .rank .inverse .row-outside c i free);
+          pivoting = subst (λ k. Pivoting k pivots) full (reduced-pivoting F (asked .laid .header .size .1));
+          no-pivot = λ c none i. F .rank .inverse .row-outside c i (no-pivot-outside F c (λ t l. none t (omega arith)));
           row = λ t c l b.
               F .row t c (inside t l) b
               ∙ ap (λ A. product (residues p) (countWord ws) (F .rank .D) A (getD pivots t 0) c) (grid-rows ws);

@@ -1,7 +1,6 @@
--- How large tables and the rows of a board are, for what the code computes with them.
+-- How large the rows of a board are, for what the code computes with them.
 use mathlib.Core.List.{List}
-use Prim.Native.Nat.{ℕ, _*_, _≤_}
-use native.Mathlib.Nat.{mul-le-mul}
+use Prim.Native.Nat.{ℕ, _≤_}
 use native.Mathlib.Omega.{arith}
 use lib.ListN.{length}
 use Rattle.checks.specs.declared.Refusal.{Refusal}
@@ -13,10 +12,6 @@ use Rattle.checks.proofs.InOrder.{none-left, _and-then_, not-both}
 use Rattle.ledger.specs.Board.{sizeWord, countWord, rowsEnd}
 use Rattle.ledger.proofs.LayoutPlaces.{row-inside}
 use Rattle.board_words.specs.Tested.{Header}
-
--- at most 64 rows of at most 64 multipliers
-pub table-most : {k n : ℕ} → k ≤ largest → n ≤ largest → k * n ≤ 4096
-table-most {k} {n} h l = omega (arith, mul-le-mul h l)
 
 module _ (ws : List ℕ) (h : Header ws) where
   -- the rows of a board are at most 64, and lie in its words

@@ -8,10 +8,10 @@ use native.Mathlib.Omega.{arith}
 use lib.ListN.{length, getD}
 use Rattle.algebra.specs.Matrix.{product, transpose}
 use Rattle.algebra.specs.Quasiinverse.{IsPivotInverse}
-use Rattle.algebra.proofs.Applied.{product-row, zeros-mixed}
+use Rattle.algebra.proofs.Step.{product-row}
 use Rattle.algebra.proofs.Independent.{count-most}
 use Rattle.algebra.proofs.Counts.{true-not-false}
-use Rattle.algebra.proofs.Marks.{by-test, is-false}
+use Rattle.algebra.proofs.Marks.{by-test}
 use Rattle.algebra.proofs.Transpose.{transposed}
 use Rattle.checks.specs.Largest.{largest}
 use Rattle.checks.specs.Prime.{IsModulus}
@@ -20,8 +20,9 @@ use Rattle.field.specs.View.{table}
 use Rattle.field.proofs.Field.{residues-ring}
 use Rattle.matrix_echelon.specs.Grid.{gridOf, Readable}
 use Rattle.matrix_echelon.specs.Forward.{IsRank}
-use Rattle.matrix_echelon.specs.Reduced.{ReducedForm, Pivoting, RowsByPivot}
+use Rattle.matrix_echelon.specs.Reduced.{ReducedForm, RowsByPivot}
 use Rattle.matrix_echelon.proofs.Grids.{grid-table, grid-turned}
+use Rattle.matrix_echelon.proofs.ReducedRows.{no-pivot-outside}
 use Rattle.matrix.specs.Calls.{tableOf, tableRank, inverseOf}
 use Rattle.matrix.specs.Parts.{Checked, plain, turned, marked, ReducedRows, KernelVectors, StoresBasis}
 use Rattle.matrix.proofs.Memory.{place-inside, marked-no, marked-yes}
@@ -91,19 +92,10 @@ module _ (p m n : ℕ) (a : List ℕ) where
   -- ---- the reduced form of the table
 
   module _ {w : List ℕ} {step r : ℕ} {e pivots : List ℕ} (f : ReducedForm p (plain m n) a w step r e pivots) where
-    -- its pivots lie in the longest row
-    pub pivoting : n ≤ largest → Pivoting r pivots
-    pivoting few =
-        record {
-          long = f .pivots-long;
-          few = omega (arith, rank-within (f .rank));
-          inside = λ t l. omega (arith, f .pivots-below t l);
-        }
-
     module _ {at : List ℕ} (b : RowsByPivot r pivots at) where
       -- a column has no pivot exactly if it is outside I
       free-outside : (j : ℕ) → getD at j 0 ≡ 0 → f .rank .I j ≡ false
-      free-outside j z = is-false (f .rank .I j) (λ t. let (s, (l, d)) = f .found j t in b .none j z s l d)
+      free-outside j z = no-pivot-outside f j (b .none j z)
 
       outside-free : (j : ℕ) → f .rank .I j ≡ false → getD at j 0 ≡ 0
       outside-free j o = go (getD at j 0) refl
@@ -140,9 +132,8 @@ module _ (p m n : ℕ) (a : List ℕ) where
             D = f .rank .D;
             A = tableOf p m n a;
             zeros = λ j c z.
-                product-row (residues p) m (f .rank .D) (tableOf p m n a) j c
-                ∙ zeros-mixed (residues p) (residues-ring p (omega (arith, ok .prime .two-or-more))) m (f .rank .D j) (tableOf p m n a) c
-                (λ t l. f .rank .inverse .row-outside j t (free-outside j z));
+                product-row (residues p) (residues-ring p (omega (arith, ok .prime .two-or-more))) m (f .rank .D) (tableOf p m n a) j
+                (λ t l. f .rank .inverse .row-outside j t (free-outside j z)) c;
             row = λ j t c z l.
                 let (s, d) = b .row j t z in
                 f .row t c s l ∙ ap₂ (λ X q. product (residues p) m (f .rank .D) X q c) plain-same d;

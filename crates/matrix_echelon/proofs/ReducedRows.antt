@@ -1,6 +1,7 @@
 -- The worked rows are reduced from the last one on: of any table from which they come they stay worked rows, and those from t on are 0
 -- at all pivots but their own. When all are reduced, the rows are those of D A with D w behind them: the reduced form.
 use mathlib.Core.Path.{_≡_, refl, sym, ap, _∙_}
+use mathlib.Core.Bool.{false}
 use mathlib.Core.List.{List}
 use Prim.Native.Nat.{ℕ, suc, _+_, _-_, _≤_, _<_}
 use native.Mathlib.Decide.{decLt, ℕ-discrete}
@@ -13,6 +14,8 @@ use Rattle.algebra.specs.Choice.{choose}
 use Rattle.algebra.specs.Ring.{IsCommutativeRing}
 use Rattle.algebra.specs.Matrix.{Matrix, unit, product, apply, mixed}
 use Rattle.algebra.specs.Echelon.{Worked, ReducedFrom, RowReduced, others}
+use Rattle.algebra.proofs.Marks.{is-false}
+use Rattle.algebra.proofs.Independent.{count-most}
 use Rattle.algebra.proofs.Echelon.{pivot-below, pivots-differ}
 use Rattle.algebra.proofs.EchelonReduced.{reduced-row, reduced-carried, others-at-pivot, row-reduced}
 use Rattle.algebra.proofs.Sums.{unit-same, unit-other}
@@ -23,7 +26,7 @@ use Rattle.matrix_echelon.specs.declared.Grid.{Grid}
 use Rattle.matrix_echelon.specs.Grid.{wide}
 use Rattle.matrix_echelon.specs.Group.{workedRows, pivotsOf, WorkedRoom}
 use Rattle.matrix_echelon.specs.Forward.{Held}
-use Rattle.matrix_echelon.specs.Reduced.{FirstFree, RowLessened, ReducedForm, RowsByPivot}
+use Rattle.matrix_echelon.specs.Reduced.{FirstFree, RowLessened, ReducedForm, Pivoting, RowsByPivot}
 use Rattle.matrix_echelon.proofs.Groups.{one-not-zero}
 use Rattle.matrix_echelon.proofs.Grids.{wide-cut, wide-last, rank-worked}
 
@@ -132,3 +135,16 @@ taken-before {n} {r} {from} {pivots} {at} small k f j h = go (getD at j 0) refl
     go : (c : ℕ) → getD at j 0 ≡ c → (s : ℕ) × ((s < r) × (getD pivots s 0 ≡ j))
     go ℕ.zero e = absurd (f .taken j h (getD-take n at j 0 in-front ∙ e))
     go (suc s) e = (s, k .row j s e)
+
+-- what the reduced form says of the pivots: they lie in the longest row, and a column where none stands is outside I
+module _ {p : ℕ} {g : Grid} {a w : List ℕ} {step r : ℕ} {e pivots : List ℕ} (f : ReducedForm p g a w step r e pivots) where
+  pub reduced-pivoting : g .columns ≤ longestRow → Pivoting r pivots
+  reduced-pivoting most =
+      record {
+        long = f .pivots-long;
+        few = omega (arith, f .rank .rank, count-most (g .columns) (f .rank .I));
+        inside = λ t l. omega (arith, f .pivots-below t l);
+      }
+
+  pub no-pivot-outside : (c : ℕ) → ((t : ℕ) → t < r → getD pivots t 0 ≡ c → ⊥) → f .rank .I c ≡ false
+  no-pivot-outside c none = is-false (f .rank .I c) (λ b. let (t, (l, d)) = f .found c b in none t l d)

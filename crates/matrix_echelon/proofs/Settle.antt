@@ -41,7 +41,7 @@ module _ (p n r : ℕ) (lo hi x e pivots x′ : List ℕ) (s : Settleable p n r 
   proper : 1 < p
   proper = modulus-proper (s .is-modulus)
 
-  pub row-long : length x′ ≡ n + 1
+  row-long : length x′ ≡ n + 1
   row-long = f .long ∙ s .x-long
 
   number-at : (j : ℕ) → j < n + 1 → getD x′ j 0 ≡ (rowIn p lo hi j) .value

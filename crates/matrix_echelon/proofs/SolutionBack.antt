@@ -142,7 +142,7 @@ module _ {p m n : ℕ} {M : Matrix (residues p)} {r : ℕ} {e pivots z : List �
           ap (reduce p) (k .elsewhere c h (λ s o l q. true-not-false (ap (w .I) (sym q) ∙ w .chosen s l) b))
           ∙ sym (zero-row-apply (residues p) (residues-ring p positive) m (w .D) (λ i. M i n) c (λ t l. w .inverse .row-outside c t b))
 
-  pub all-solved : z ≡ numbers n (apply (residues p) m (w .D) (λ i. M i n))
+  all-solved : z ≡ numbers n (apply (residues p) m (w .D) (λ i. M i n))
   all-solved = is-tabulate n _ z (k .long) (λ c h. value-unique p _ _ (k .below c (omega (arith, k .long))) (solved-at c h))
 
 pub solution-found : {p : ℕ} {g : Grid} {a w : List ℕ} {step r : ℕ} {e pivots z : List ℕ} → 0 < p

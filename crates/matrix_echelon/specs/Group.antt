@@ -1,4 +1,4 @@
--- A row that is worked off: what its parts ask and leave. x is the row that the sums of limbs stand for.
+-- A row that is worked off: what its parts ask and leave. `rowIn` is the row that the sums of limbs stand for.
 use mathlib.Core.Path.{_≡_}
 use mathlib.Core.List.{List}
 use Prim.Native.Nat.{ℕ, _+_, _*_, _/_, _≤_, _<_}

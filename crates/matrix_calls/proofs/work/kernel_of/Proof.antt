@@ -2,7 +2,8 @@
 use mathlib.Core.Path.{sym}
 use native.Mathlib.Omega.{arith}
 use Rattle.matrix_echelon.proofs.Grids.{room-fresh}
-use Rattle.matrix.proofs.Grids.{plain-readable, pivoting, reduced-rows, basis-reduced}
+use Rattle.matrix_echelon.proofs.ReducedRows.{reduced-pivoting}
+use Rattle.matrix.proofs.Grids.{plain-readable, reduced-rows, basis-reduced}
 use Rattle.matrix_calls.proofs.work.kernel_of.Statement.{statement}
 use Rattle.matrix_calls.proofs.work.kernel_of.Tie as tie
 
@@ -42,7 +43,7 @@ slice-aggregate-rows-by-pivot c = sym (c .before .before .before .reduced .ensur
 rows-by-pivot-requires : tie.Need-rows-by-pivot-requires
 rows-by-pivot-requires c κs =
     let r = c .before .before .before in
-    pivoting _ _ _ _ (r .reduced .ensures) (start (r .before) .pre .0 .n-most)
+    reduced-pivoting (r .reduced .ensures) (start (r .before) .pre .0 .n-most)
 
 -- the reduced form, from where its rows are known by their pivots
 abbrev form : tie.After-rows-by-pivot → tie.After-reduced
