@@ -118,7 +118,9 @@ module _ (ws f c zs g : List ℕ) (H : Findable ws f c) (z : Zeros largest zs) (
   added-mixed j l =
       ap (λ m. sum (residues p) m (λ t. line p (take k c) 0 1 t ⊗ line p (behindHeader ws) (0 + j) w t)) multipliers-long
       ∙ sum-same (residues p) k _ _
-      (λ t h. ap₂ _⊗_ (line-residues p (take k c) t ∙ ap (reduce p) (getD-take k c t 0 h)) (ap (λ s. line p (behindHeader ws) (0 + j) s t) wide ∙ part-entry ws board t j h l))
+      (λ t h.
+      ap₂ _⊗_ (line-residues p (take k c) t ∙ ap (reduce p) (getD-take k c t 0 h))
+      (ap (λ s. line p (behindHeader ws) (0 + j) s t) wide ∙ part-entry ws board t j h l))
 
   number : (j : ℕ) → j < n → getD g j 0 ≡ (mixed (residues p) k (residuesOf p c) (multiplierTable ws) j) .value
   number j l =

@@ -28,11 +28,13 @@ proper : (c : tie.After-each-row Inv-loop μ-loop) → 1 < entry c .args .p
 proper c = modulus-proper (entry c .pre .0 .table .is-modulus)
 
 -- every column in front of the first free one has a pivot
-taken : (c : tie.After-each-row Inv-loop μ-loop) → TakenBefore (c .before .first-free .result) (forwarded c .forward .result) (forwarded c .forward .last .1 .1 .1 .1 .1 .1 .0)
+taken : (c : tie.After-each-row Inv-loop μ-loop)
+    → TakenBefore (c .before .first-free .result) (forwarded c .forward .result) (forwarded c .forward .last .1 .1 .1 .1 .1 .1 .0)
 taken c = taken-before (entry c .pre .0 .table .columns-most) (c .before .before .before .rows-by-pivot .ensures) (c .before .first-free .ensures)
 
 -- the marks of the columns are as many as these
-front-long : (c : tie.After-each-row Inv-loop μ-loop) → length (take (entry c .args .grid .columns) (c .before .before .before .rows-by-pivot .result)) ≡ entry c .args .grid .columns
+front-long : (c : tie.After-each-row Inv-loop μ-loop)
+    → length (take (entry c .args .grid .columns) (c .before .before .before .rows-by-pivot .result)) ≡ entry c .args .grid .columns
 front-long c = length-take-le _ _ (omega (arith, c .before .before .before .rows-by-pivot .ensures .long, entry c .pre .0 .table .columns-most))
 
 forward-requires : tie.Need-forward-requires Inv-loop μ-loop
