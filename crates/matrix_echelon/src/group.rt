@@ -1,7 +1,7 @@
 // A row that is worked off: it is read as sums of limbs, which stay apart while the worked rows are added, group after group, each
 // with the multiplier that makes the row 0 at its pivot. The worked rows are in groups of four, and as long as a row of the table
 // with its carried number; row t begins at t times that length.
-ghost use Prim.Native.Nat.{_+_, _≤_};
+ghost use Prim.Native.Nat.{_≤_};
 ghost use Rattle.matrix_echelon.specs.Group.{RowReadable, RowRead, PivotReadable, IsMultiplier, PivotRoom, IsPivotRow, GroupRoom, GroupTaken, Clearable, PivotsCleared};
 ghost use Rattle.matrix_echelon.specs.Group.{Pivots, NoPivotBefore};
 ghost use Rattle.words.specs.Lengths.{longestRow};
