@@ -1,11 +1,10 @@
 -- `reduced::write_unit` meets its contract. The loop's invariant: the first j numbers of the unit row are written.
-use mathlib.Core.Path.{_≡_, refl, sym, ap, _∙_}
+use mathlib.Core.Path.{refl, sym, ap, _∙_}
 use mathlib.Core.Logic.{⊎-elim}
-use Prim.Native.Nat.{ℕ, _+_, _-_, _≤_, _<_}
+use Prim.Native.Nat.{ℕ, _-_, _≤_}
 use native.Mathlib.Omega.{arith}
 use borrow.Author.Tests.{eq-eqb, ne-eqb}
 use lib.Dec.{eqb}
-use lib.ListN.{length, getD}
 use Rattle.algebra.specs.Choice.{choose}
 use Rattle.matrix_echelon.proofs.WorkedMultiples.{Spanned, spanned-more}
 use Rattle.matrix_echelon.proofs.reduced.write_unit.Statement.{statement}
