@@ -19,6 +19,7 @@ use Rattle.algebra.proofs.Independent.{combination-found}
 use Rattle.checks.specs.Largest.{largest}
 use Rattle.field.specs.Residue.{Residue, reduce, residues, _⊕_, _⊗_}
 use Rattle.field.specs.View.{line}
+use Rattle.field.specs.Products.{sumOfProducts}
 use Rattle.field.proofs.Field.{residues-ring}
 use Rattle.field.proofs.Residues.{reduce-of-value, reduce-injective, below-of-value}
 use Rattle.field.proofs.Views.{table-entry}
@@ -111,7 +112,7 @@ module _ (ws f c zs g : List ℕ) (H : Findable ws f c) (z : Zeros largest zs) (
 
   -- the sum of products that is added at j
   abbrev added : ℕ → Residue p
-  added j = sum (residues p) (length (take k c)) (λ t. line p (take k c) 0 1 t ⊗ line p (behindHeader ws) (0 + j) w t)
+  added j = sumOfProducts p (take k c) (behindHeader ws) (0 + j) w
 
   added-mixed : (j : ℕ) → j < n → added j ≡ mixed (residues p) k (residuesOf p c) (multiplierTable ws) j
   unfolding mixed

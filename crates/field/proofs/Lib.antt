@@ -5,3 +5,4 @@ pub mod Totals
 pub mod Limbs
 pub mod Written
 pub mod Views
+pub mod Products

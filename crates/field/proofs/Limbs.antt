@@ -1,12 +1,11 @@
 -- The laws of limbs: adding the limbs of a product apart adds the product, k limbs stay within k times the largest limb, and so
--- 4096 of them fit. `Within` is opened here alone, so that no invariant shows its large number.
+-- 2^32 of them fit. `Within` is opened here alone, so that no invariant shows its large number.
 use mathlib.Core.Path.{_≡_, refl, sym, ap, _∙_}
 use Prim.Native.Nat.{ℕ, _+_, _*_, _-_, _/_, _%_, _<_, _≤_}
 use native.Mathlib.Nat.{mod-lt, mod-add-div, mod-add-mod, mul-le-mul}
 use native.Mathlib.Omega.{arith}
 use mir.Val.{Fits}
 use mir.Syntax.{w32, w64}
-use Rattle.words.specs.Lengths.{largestTable}
 use Rattle.field.specs.Limbs.{limbBase, low, high, whole, LimbFits}
 use Rattle.field.proofs.Residues.{mod-times}
 
@@ -23,6 +22,10 @@ whole-add lo hi x = omega (arith, mod-add-div x limbBase)
 pub whole-low : (n m lo hi : ℕ) → n ≡ m → whole (lo + n) hi ≡ m + whole lo hi
 unfolding whole
 whole-low n m lo hi e = omega arith
+
+-- a number of 32 bits has 64
+pub word-wide : (n : ℕ) → Fits w32 n → Fits w64 n
+word-wide n f = omega arith
 
 -- the product of two numbers of 32 bits has 64
 pub product-fits : (a b : ℕ) → Fits w32 a → Fits w32 b → Fits w64 (a * b)
@@ -69,7 +72,7 @@ pub within-high : (k n x : ℕ) → Within k n → Fits w64 x → Within (k + 1)
 unfolding Within high
 within-high k n x h f = omega arith
 
-pub within-fits : (k n : ℕ) → k ≤ largestTable → Within k n → LimbFits n
+pub within-fits : (k n : ℕ) → k ≤ limbBase → Within k n → LimbFits n
 unfolding Within LimbFits
 within-fits k n h w = omega arith
 
@@ -110,6 +113,12 @@ pub record Sums (k lo hi v : ℕ) : Type 0 where
 pub sums-none : Sums 0 0 0 0
 sums-none = record { low-within = within-zero; high-within = within-zero; same = whole-zero }
 
+-- a number of 32 bits to begin with
+pub sums-one : (n : ℕ) → Fits w32 n → Sums 1 n 0 n
+unfolding whole
+sums-one n f =
+    record { low-within = within-one n (omega arith); high-within = within-more 0 1 0 (omega arith) within-zero; same = omega arith }
+
 -- one product more
 pub sums-more : (k lo hi v x : ℕ) → Sums k lo hi v → Fits w64 x → Sums (k + 1) (lo + low x) (hi + high x) (v + x)
 sums-more k lo hi v x s f =
@@ -128,9 +137,9 @@ sums-widen k m lo hi v h s =
       same = s .same;
     }
 
--- the limbs of 4096 products fit
-pub sums-low-fits : (k lo hi v : ℕ) → k ≤ largestTable → Sums k lo hi v → LimbFits lo
+-- the limbs of 2^32 products fit
+pub sums-low-fits : (k lo hi v : ℕ) → k ≤ limbBase → Sums k lo hi v → LimbFits lo
 sums-low-fits k lo hi v h s = within-fits k lo h (s .low-within)
 
-pub sums-high-fits : (k lo hi v : ℕ) → k ≤ largestTable → Sums k lo hi v → LimbFits hi
+pub sums-high-fits : (k lo hi v : ℕ) → k ≤ limbBase → Sums k lo hi v → LimbFits hi
 sums-high-fits k lo hi v h s = within-fits k hi h (s .high-within)

@@ -1,9 +1,9 @@
 -- Sums of products of natural numbers, and that their residue is the ring's sum of products of residues: what the code adds
 -- up in ℕ is, reduced once, what the contracts say in the residues.
-use mathlib.Core.Path.{_≡_, refl, sym, ap, fun-ext, _∙_}
+use mathlib.Core.Path.{_≡_, refl, sym, ap, ap₂, fun-ext, _∙_}
 use mathlib.Core.List.{List}
 use Prim.Native.Nat.{ℕ, zero, suc, _+_, _*_, _≤_, _<_}
-use native.Mathlib.Nat.{mul-one, zero-add, add-zero}
+use native.Mathlib.Nat.{mul-one, zero-add, add-zero, add-assoc, le-step, lt-suc-self}
 use native.Mathlib.Omega.{arith}
 use native.Mathlib.Numerals.{add-one}
 use lib.ListN.{getD}
@@ -26,6 +26,21 @@ total-suc n f = refl
 -- the same, as a loop counts
 pub total-more : (n : ℕ) (f : ℕ → ℕ) → total (n + 1) f ≡ total n f + f n
 total-more n f = rw add-one (total-suc n f)
+
+-- equal numbers have equal sums
+pub total-same : (n : ℕ) (f g : ℕ → ℕ) → ((u : ℕ) → u < n → f u ≡ g u) → total n f ≡ total n g
+total-same zero f g e = total-zero f ∙ sym (total-zero g)
+total-same (suc n) f g e =
+    total-suc n f ∙ ap₂ _+_ (total-same n f g (λ u h. e u (le-step h))) (e n (lt-suc-self n)) ∙ sym (total-suc n g)
+
+-- the first a numbers and the n behind them
+pub total-split : (a n : ℕ) (f : ℕ → ℕ) → total (a + n) f ≡ total a f + total n (λ u. f (a + u))
+total-split a zero f = ap (λ k. total k f) (add-zero a) ∙ sym (add-zero (total a f)) ∙ ap (λ k. total a f + k) (sym (total-zero (λ u. f (a + u))))
+total-split a (suc n) f =
+    let place : a + suc n ≡ suc (a + n) = omega arith in
+    ap (λ k. total k f) place ∙ total-suc (a + n) f ∙ ap (λ k. k + f (a + n)) (total-split a n f)
+    ∙ add-assoc (total a f) (total n (λ u. f (a + u))) (f (a + n))
+    ∙ ap (λ k. total a f + k) (sym (total-suc n (λ u. f (a + u))))
 
 -- numbers that are 0 add nothing
 pub total-passed : (f : ℕ → ℕ) (a n : ℕ) → ((u : ℕ) → a ≤ u → u < a + n → f u ≡ 0) → total (a + n) f ≡ total a f

@@ -1,6 +1,6 @@
 -- How numbers in memory are read as vectors and matrices of residues: by a start and a step, or by a start, a stride and
 -- sizes. 01: entry (row i, column j) of a table stands at i × n + j.
-use Prim.Native.Nat.{ℕ, _+_, _*_, _<_}
+use Prim.Native.Nat.{ℕ, _+_, _*_}
 use mathlib.Core.List.{List}
 use lib.ListN.{getD}
 use lib.Dec.{ltb}
@@ -16,7 +16,3 @@ line p xs start step t = reduce p (getD xs (start + t * step) 0)
 unfoldable pub table : (p : ℕ) → List ℕ → (start stride m n : ℕ) → Matrix (residues p)
 table p xs start stride m n i j =
     choose (ltb i m) (choose (ltb j n) (reduce p (getD xs (start + i * stride + j) 0)) (reduce p 0)) (reduce p 0)
-
--- the places start, start + step, .., k of them, lie in a list of length len
-abbrev pub Reaches : (k start step len : ℕ) → Type 0
-Reaches k start step len = (t : ℕ) → t < k → start + t * step < len

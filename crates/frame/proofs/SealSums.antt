@@ -6,16 +6,16 @@ use native.Mathlib.Omega.{arith}
 use lib.IntN.{ℤ, pos}
 use lib.ListN.{length, getD, take}
 use lib.Seq.{getD-take, length-take-le}
-use Rattle.algebra.specs.Matrix.{sum}
 use Rattle.algebra.proofs.Sums.{sum-same}
-use Rattle.field.specs.Residue.{Residue, residues, _⊗_}
+use Rattle.field.specs.Residue.{Residue, residues}
 use Rattle.field.specs.View.{line}
+use Rattle.field.specs.Products.{sumOfProducts}
 use Rattle.signed.specs.Reading.{residueOf}
 use Rattle.frame.specs.Sealing.{sealed}
 
 pub seal-sum :
     (p n : ℕ) (zs : List ℤ) (xs rs : List ℕ) → n ≤ length rs → ((i : ℕ) → i < n → getD rs i 0 ≡ residueOf p (getD zs i (pos 0)))
-    → (sum (residues p) (length (take n rs)) (λ t. line p (take n rs) 0 1 t ⊗ line p xs 0 1 t)) .value ≡ sealed p n zs xs
+    → (sumOfProducts p (take n rs) xs 0 1) .value ≡ sealed p n zs xs
 unfolding sealed line
 seal-sum p n zs xs rs h at =
     rw (length-take-le n rs h)

@@ -17,6 +17,7 @@ use Rattle.algebra.proofs.Sums as sums
 use Rattle.algebra.proofs.Applied.{apply-same}
 use Rattle.field.specs.Residue.{residues, reduce, _⊗_}
 use Rattle.field.specs.View.{line, table}
+use Rattle.field.specs.Products.{sumOfProducts}
 use Rattle.words.specs.Words.{Below, Blank}
 use Rattle.field.specs.Written.{tabulate, numbers, rowsOf, marksOf}
 use Rattle.field.proofs.Residues.{reduce-small, reduce-value}
@@ -108,9 +109,7 @@ part-line p x s k t h =
 
 -- the sum of products along a row, as the code lends it, is that row's number of the table applied to a vector
 pub apply-number : (p m k : ℕ) (x w : List ℕ) (i r : ℕ) → i < m → i * k + k ≤ length x
-    → r
-    ≡ (sum (residues p) (length (take (i * k + k - i * k) (drop (i * k) x)))
-    (λ t. line p (take (i * k + k - i * k) (drop (i * k) x)) 0 1 t ⊗ line p w 0 1 t)) .value
+    → r ≡ (sumOfProducts p (take (i * k + k - i * k) (drop (i * k) x)) w 0 1) .value
     → r ≡ (apply (residues p) k (table p x 0 k m k) (vectorOf p w) i) .value
 unfolding apply
 apply-number p m k x w i r h inside e =

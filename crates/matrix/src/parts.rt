@@ -104,7 +104,7 @@ pub fn row_mix(p: u32, m: usize, n: usize, a: &[u32], y: usize, u: &mut [u32])
 
 // X w, where x has `rows` rows of k numbers.
 pub fn times_vector(p: u32, rows: usize, k: usize, x: &[u32], w: &[u32], out: &mut [u32])
-    requires { ⌜ IsModulus p × (k ≤ largest) × (length (now x) ≡ rows * k) × (length (now w) ≡ k) × (length (now out) ≡ rows) ⌝ }
+    requires { ⌜ (0 < p) × (length (now x) ≡ rows * k) × (length (now w) ≡ k) × (length (now out) ≡ rows) ⌝ }
     ensures { λ _. ⌜ now (out .exit) ≡ numbers rows (apply (residues p) k (table p (now (x .entry)) 0 k rows k) (vectorOf p (now (w .entry)))) ⌝ }
 {
     let mut i = 0;

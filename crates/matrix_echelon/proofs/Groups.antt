@@ -14,10 +14,10 @@ use Rattle.algebra.specs.Matrix.{Vector, mixed, sum}
 use Rattle.algebra.specs.Echelon.{ClearedTo, GroupAdded, Leading}
 use Rattle.algebra.proofs.Cleared as cleared
 use Rattle.algebra.proofs.Rings as rings
-use Rattle.algebra.proofs.Sums as sums
 use Rattle.checks.specs.Prime.{largestModulus}
-use Rattle.words.specs.Lengths.{widestRow, largestTable}
+use Rattle.words.specs.Lengths.{widestRow}
 use Rattle.field.specs.Residue.{Residue, reduce, residues, _⊕_, _⊗_}
+use Rattle.field.specs.Limbs.{limbBase}
 use Rattle.field.proofs.Residues.{reduce-plus, reduce-times, reduce-zero, nonzero-of-positive}
 use Rattle.field.proofs.Field.{residues-ring}
 use Rattle.field.proofs.Limbs.{Within, within-zero, within-one, within-more, within-low, within-high, within-fits, whole-add, number-fits}
@@ -49,7 +49,7 @@ limbs-fresh c =
       high-within = λ j h. rw (c .fresh j) (within-more 0 1 0 (omega arith) within-zero);
     }
 
-pub limbs-ready : {k n : ℕ} {lo hi : List ℕ} → k ≤ largestTable → n + 1 ≤ widestRow → Limbs k n lo hi → Ready (n + 1) lo hi
+pub limbs-ready : {k n : ℕ} {lo hi : List ℕ} → k ≤ limbBase → n + 1 ≤ widestRow → Limbs k n lo hi → Ready (n + 1) lo hi
 limbs-ready {k} b w l =
     record {
       small = w;

@@ -19,6 +19,7 @@ use Rattle.words.specs.Words.{Below, Zeros, Copied, PutAt}
 use Rattle.words.proofs.Parts.{taken-below}
 use Rattle.field.specs.Residue.{Residue, reduce, residues, _⊕_, _⊗_}
 use Rattle.field.specs.View.{line}
+use Rattle.field.specs.Products.{sumOfProducts}
 use Rattle.field.proofs.Residues.{reduce-of-value, below-of-value}
 use Rattle.matrix_mul.specs.Rows.{Each, Combinable, CombinedInto, Passes}
 use Rattle.matrix_mul.proofs.RowsTaken.{each-passes}
@@ -67,7 +68,7 @@ module _ (from len : ℕ) {p width r t : ℕ} {e pivots by room x : List ℕ} (c
     y-below j h = below-of-value (can .positive) (sum-at j) (combined .1 j (omega (arith, combined .0)))
       where
         sum-at : ℕ → Residue p
-        sum-at j = reduce p (getD (take len x) j 0) ⊕ sum (residues p) (length (take r by)) (λ s. line p (take r by) 0 1 s ⊗ line p e (from + j) width s)
+        sum-at j = reduce p (getD (take len x) j 0) ⊕ sumOfProducts p (take r by) e (from + j) width
 
     whole : take len (y ++ drop len x) ≡ y
     whole = take-at y (drop len x) len y-long
@@ -87,7 +88,7 @@ module _ (from len : ℕ) {p width r t : ℕ} {e pivots by room x : List ℕ} (c
         let place : t * width + from + j ≡ t * width + (from + j) = omega arith in
         ap (reduce p) (getD-take len x j 0 h ∙ copied .front j h ∙ ap (λ q. getD e q 0) place)
 
-    added : (j : ℕ) → sum (residues p) (length (take r by)) (λ s. line p (take r by) 0 1 s ⊗ line p e (from + j) width s)
+    added : (j : ℕ) → sumOfProducts p (take r by) e (from + j) width
         ≡ mixed (residues p) r (others (residues p) t (workedRows p e width) (pivotsOf pivots)) (workedRows p e width) (from + j)
     unfolding line mixed
     added j =
@@ -123,7 +124,7 @@ module _ (from len : ℕ) {p width r t : ℕ} {e pivots by room x : List ℕ} (c
       row j h =
           ap (reduce p) (behind j h)
           ∙ reduce-of-value _ (combined .1 j (omega (arith, copy-long)))
-          ∙ ap (λ z. z ⊕ sum (residues p) (length (take r by)) (λ s. line p (take r by) 0 1 s ⊗ line p e (from + j) width s)) (copy-at j h)
+          ∙ ap (λ z. z ⊕ sumOfProducts p (take r by) e (from + j) width) (copy-at j h)
           ∙ ap (λ z. workedRows p e width t (from + j) ⊕ z) (added j)
 
       rest : (s j : ℕ) → (s ≡ t → ⊥) → j < width → workedRows p e′ width s j ≡ workedRows p e width s j

@@ -20,6 +20,7 @@ use Rattle.algebra.proofs.EchelonReduced.{back-substituted}
 use Rattle.words.specs.Words.{Below, Blank}
 use Rattle.field.specs.Residue.{Residue, reduce, residues, _⊕_, _⊗_, negated}
 use Rattle.field.specs.View.{line}
+use Rattle.field.specs.Products.{sumOfProducts}
 use Rattle.field.specs.Written.{numbers}
 use Rattle.field.proofs.Residues.{reduce-of-value, below-of-value, value-unique}
 use Rattle.field.proofs.Field.{residues-ring}
@@ -53,7 +54,7 @@ solved-none {p} {z = z} positive long blank =
 
 -- what the code adds up: the numbers of a worked row times those of z
 row-sum : (p n t : ℕ) (e row z : List ℕ) → IsPart e (t * (n + 1)) n row
-    → sum (residues p) (length row) (λ j. line p row 0 1 j ⊗ line p z 0 1 j)
+    → sumOfProducts p row z 0 1
     ≡ sum (residues p) n (λ j. workedRows p e (n + 1) t j ⊗ reduce p (getD z j 0))
 unfolding line
 row-sum p n t e row z part =
@@ -65,13 +66,13 @@ row-sum p n t e row z part =
     ∙ ap (λ y. reduce p y ⊗ reduce p (getD z j 0)) (part .same j h))
 
 pub sum-below : {p y : ℕ} (row z : List ℕ) → 0 < p
-    → y ≡ (sum (residues p) (length row) (λ j. line p row 0 1 j ⊗ line p z 0 1 j)) .value → y < p
-sum-below {p} row z positive e = below-of-value positive (sum (residues p) (length row) (λ j. line p row 0 1 j ⊗ line p z 0 1 j)) e
+    → y ≡ (sumOfProducts p row z 0 1) .value → y < p
+sum-below {p} row z positive e = below-of-value positive (sumOfProducts p row z 0 1) e
 
 -- row t has its number x - y at its pivot, with the carried number x and the sum y
 module _ {p n r t : ℕ} {e pivots z row : List ℕ} {y v : ℕ} (proper : 1 < p) (one-of : t < r) (inside : getD pivots t 0 < n)
     (k : SolvedFrom p n r (t + 1) e pivots z) (part : IsPart e (t * (n + 1)) n row)
-    (is-sum : y ≡ (sum (residues p) (length row) (λ j. line p row 0 1 j ⊗ line p z 0 1 j)) .value)
+    (is-sum : y ≡ (sumOfProducts p row z 0 1) .value)
     (is-number : v ≡ (workedRows p e (n + 1) t n ⊕ negated (reduce p y)) .value) where
   L : IsCommutativeRing (residues p)
   L = residues-ring p (omega (arith, proper))

@@ -8,7 +8,8 @@ use Rattle.algebra.specs.Matrix.{Matrix, cut}
 use Rattle.checks.specs.Prime.{IsModulus}
 use Rattle.words.specs.Lengths.{longestRow}
 use Rattle.field.specs.Residue.{reduce, residues}
-use Rattle.field.specs.View.{line, Reaches}
+use Rattle.field.specs.View.{line}
+use Rattle.field.specs.Products.{Reaches}
 use Rattle.matrix_echelon.specs.declared.Grid.{Grid}
 
 -- where entry (row i, column j) stands

@@ -13,6 +13,7 @@ use Rattle.algebra.proofs.Matrices.{entry}
 use Rattle.algebra.proofs.Step.{product-row}
 use Rattle.field.specs.Residue.{Residue, reduce, residues, _⊕_, _⊗_}
 use Rattle.field.specs.View.{line, table}
+use Rattle.field.specs.Products.{sumOfProducts}
 use Rattle.words.specs.Words.{Below, Copied}
 use Rattle.matrix_mul.specs.Rows.{Passes, Combinable}
 use Rattle.field.proofs.Residues.{reduce-zero, below-of-value, reduce-of-value}
@@ -288,7 +289,7 @@ module _ {p k n : ℕ} {x : List ℕ} {at : ℕ} {y : List ℕ} {Y : Place} {z :
 
     -- what it adds at place j
     abbrev row-sum : ℕ → Residue p
-    row-sum j = sum (residues p) (length by) (λ t. line p by 0 1 t ⊗ line p y (Y .start + j) (Y .stride) t)
+    row-sum j = sumOfProducts p by y (Y .start + j) (Y .stride)
 
     module _ {size : ℕ} (n-same : size ≡ n) (out′ : List ℕ) (long : length out′ ≡ length out)
         (each : (j : ℕ) → j < length out → getD out′ j 0 ≡ (reduce p (getD out j 0) ⊕ row-sum j) .value)

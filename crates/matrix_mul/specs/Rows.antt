@@ -4,10 +4,9 @@ use mathlib.Core.Path.{_≡_}
 use mathlib.Core.List.{List}
 use Prim.Native.Nat.{ℕ, _+_, _*_, _%_, _^_, _<_, _≤_}
 use lib.ListN.{length, getD}
-use Rattle.algebra.specs.Matrix.{sum}
-use Rattle.field.specs.Residue.{reduce, residues, _⊕_, _⊗_}
+use Rattle.field.specs.Residue.{reduce, _⊕_}
 use Rattle.checks.specs.Prime.{largestModulus}
-use Rattle.field.specs.View.{line}
+use Rattle.field.specs.Products.{sumOfProducts}
 use Rattle.field.specs.Totals.{total, products}
 use Rattle.field.specs.Limbs.{limbBase, low, high, whole, LimbFits}
 use Rattle.words.specs.Lengths.{longestRow, widestRow}
@@ -160,4 +159,4 @@ CombinedInto p by table start stride before after =
     (length after ≡ length before)
     × ((j : ℕ) → j < length before
     → getD after j 0
-    ≡ (reduce p (getD before j 0) ⊕ sum (residues p) (length by) (λ t. line p by 0 1 t ⊗ line p table (start + j) stride t)) .value)
+    ≡ (reduce p (getD before j 0) ⊕ sumOfProducts p by table (start + j) stride) .value)

@@ -104,10 +104,8 @@ dot-requires c κs =
     let d = v .before .before in
     let e = d .before .before .before .before .before .before .before .before in
     let s = start-of (e .before) in
-    let long = slice-aggregate-dot d in
-    let (positive, small, few) = board-sizes _ (board s) in (
-      positive,
-      omega (arith, long),
+    let long = slice-aggregate-dot d in (
+      board-sizes _ (board s) .0,
       λ t h. rw (v .value-start .ensures, c .row-length .ensures) (values-reach _ (board s) t (omega (arith, long))),
     )
 

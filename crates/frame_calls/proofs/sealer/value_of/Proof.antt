@@ -32,7 +32,7 @@ slice-aggregate-dot c = sym (length-take-le _ _ (long (c .before .before)))
 dot-requires : tie.Need-dot-requires
 dot-requires c κs =
     let s = c .before .before .before .before .before .before in
-    rw (length-take-le _ _ (long (c .before .before))) (s .pre .0, omega arith, λ t h. omega arith)
+    rw (length-take-le _ _ (long (c .before .before))) (s .pre .0, λ t h. omega arith)
 
 returns : tie.Need-returns
 returns c =

@@ -31,7 +31,7 @@ start c = c .before .before .before .before .before
 
 -- the row of a turn lies in x
 inside : (c : tie.In-loop Inv-loop μ-loop) → c .before .loop .i * start c .args .k + start c .args .k ≤ length (start c .args .x .now)
-inside c = rw (start c .pre .2) (row-inside (c .before .loop .i) (start c .args .rows) (start c .args .k) (c .loop-test .taken))
+inside c = rw (start c .pre .1) (row-inside (c .before .loop .i) (start c .args .rows) (start c .args .k) (c .loop-test .taken))
 
 mul-start : tie.Need-mul-start Inv-loop μ-loop
 mul-start c = omega (arith, inside c)
@@ -56,16 +56,16 @@ dot-requires c κs =
     let t = c .before in
     let s = start t in
     let long = part-long (s .args .x .now) (t .before .loop .i * s .args .k) (s .args .k) (inside t) in
-    (omega (arith, s .pre .0 .prime .two-or-more), omega (arith, long, s .pre .1), λ j h. omega (arith, long, s .pre .3))
+    (s .pre .0, λ j h. omega (arith, long, s .pre .2))
 
 mul-out : tie.Need-mul-out Inv-loop μ-loop
-mul-out c = omega (arith, start (c .before .before) .pre .4)
+mul-out c = omega (arith, start (c .before .before) .pre .3)
 
 slice-write-out : tie.Need-slice-write-out Inv-loop μ-loop
-slice-write-out c = omega (arith, c .before .before .before .loop .inv .1 .long, start (c .before .before) .pre .4)
+slice-write-out c = omega (arith, c .before .before .before .loop .inv .1 .long, start (c .before .before) .pre .3)
 
 add-i : tie.Need-add-i Inv-loop μ-loop
-add-i c = omega (arith, start (c .before .before) .pre .4)
+add-i c = omega (arith, start (c .before .before) .pre .3)
 
 loop-less : tie.Need-loop-less Inv-loop μ-loop
 loop-less c = omega arith
@@ -77,7 +77,7 @@ loop-again c =
     let s = start t in
     let l = t .before .loop in (
       omega arith,
-      walked-more (l .i) _ _ _ _ (l .inv .1) (omega (arith, s .pre .4))
+      walked-more (l .i) _ _ _ _ (l .inv .1) (omega (arith, s .pre .3))
           (apply-number _ _ _ _ _ (l .i) (c .dot .result) (t .loop-test .taken) (inside t) (c .dot .ensures)),
     )
 
@@ -89,7 +89,7 @@ unfolding applied
 returns c =
     let s = c .before .before .before .before .before in
     let l = c .before .loop in
-    walked-numbers (l .i) (s .args .rows) _ _ (l .out) (omega arith) (s .pre .4) (l .inv .1)
+    walked-numbers (l .i) (s .args .rows) _ _ (l .out) (omega arith) (s .pre .3) (l .inv .1)
 
 pub times-vector-spec : {M : Type 1} → statement M
 times-vector-spec =

@@ -33,7 +33,7 @@ times-vector-requires : tie.Need-times-vector-requires
 times-vector-requires c κs =
     let s = start (c .before) in
     let k = s .pre .0 in
-    (k .is-modulus, k .n-most, k .a-long, solution-long _ _ _ _ _ _ (s .pre .3), sym (slice-aggregate-times-vector c))
+    (omega (arith, k .is-modulus .prime .two-or-more), k .a-long, solution-long _ _ _ _ _ _ (s .pre .3), sym (slice-aggregate-times-vector c))
 
 -- the part of the room that now holds A x
 abbrev held : tie.After-times-vector → List ℕ

@@ -111,11 +111,7 @@ dot-requires : tie.Need-dot-requires Inv-loop μ-loop
 dot-requires c κs =
     let i = c .before .before .before in
     let l = i .before in
-    let part = is-row i in (
-      omega (arith, proper (l .before)),
-      omega (arith, part .long, entry (l .before) .pre .0 .table .columns-most),
-      λ j h. omega (arith, part .long, l .loop .inv .1 .long),
-    )
+    (omega (arith, proper (l .before)), λ j h. omega (arith, is-row i .long, l .loop .inv .1 .long))
 
 mul-minus : tie.Need-mul-minus Inv-loop μ-loop
 mul-minus c = omega (arith, in-room (c .before .before .before .before))

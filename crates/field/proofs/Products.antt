@@ -1,0 +1,67 @@
+-- The laws of sums of products: the part of a row that begins at a reaches the places that are its own, the products of a row are
+-- those of its front and of the part behind it, and a sum that is reduced before more is added is the same residue. Then that a
+-- column of a table of rows is such a sum, and that an empty row gives 0.
+use mathlib.Core.Path.{_≡_, refl, sym, ap, ap₂, _∙_}
+use mathlib.Core.List.{List, []}
+use Prim.Native.Nat.{ℕ, _+_, _*_, _-_, _%_, _≤_, _<_}
+use native.Mathlib.Nat.{add-mul, add-assoc, zero-mod, mod-add-mod, mul-le-mul-right}
+use native.Mathlib.Omega.{arith}
+use lib.ListN.{length, getD, take, drop}
+use Rattle.algebra.specs.Matrix.{mixed}
+use Rattle.algebra.proofs.Sums.{sum-none, sum-same}
+use Rattle.words.proofs.Parts.{part-length, part-at}
+use Rattle.field.specs.Residue.{reduce, residues, _⊗_}
+use Rattle.field.specs.View.{line, table}
+use Rattle.field.specs.Products.{Reaches, sumOfProducts}
+use Rattle.field.proofs.Totals.{total, total-same, total-split, products}
+use Rattle.field.proofs.Views.{table-entry}
+
+-- place u of the column that begins at place a of another is place a + u of that
+part-place : (start step a u : ℕ) → start + a * step + u * step ≡ start + (a + u) * step
+part-place start step a u = add-assoc start (a * step) (u * step) ∙ ap (λ k. start + k) (sym (add-mul a u step))
+
+module _ (row ys : List ℕ) (start step a n : ℕ) (inside : a + n ≤ length row) where
+  -- the n numbers of the row from place a on
+  abbrev part : List ℕ
+  part = take n (drop a row)
+
+  pub reaches-part : Reaches (length row) start step (length ys) → Reaches (length part) (start + a * step) step (length ys)
+  reaches-part reaches t h = rw (part-place start step a t) (reaches (a + t) (omega (arith, part-length row a n inside)))
+
+  part-products : (u : ℕ) → u < n → products row ys start step (a + u) ≡ products part ys (start + a * step) step u
+  unfolding products
+  part-products u h = ap₂ _*_ (sym (part-at row a n u h)) (ap (λ k. getD ys k 0) (sym (part-place start step a u)))
+
+  -- what the first a products add up to, reduced, and the products of the part behind them
+  pub reduce-part : (p sum : ℕ) → sum ≡ (reduce p (total a (products row ys start step))) .value
+      → (reduce p (sum + total (length part) (products part ys (start + a * step) step))) .value
+      ≡ (reduce p (total (a + n) (products row ys start step))) .value
+  unfolding reduce
+  reduce-part p sum e =
+      ap₂ (λ s k. (s + total k (products part ys (start + a * step) step)) % p) e (part-length row a n inside)
+      ∙ mod-add-mod (total a (products row ys start step)) p (total n (products part ys (start + a * step) step))
+      ∙ ap (λ k. k % p)
+      (sym
+      (total-split a n (products row ys start step)
+      ∙ ap (λ k. total a (products row ys start step) + k)
+      (total-same n (λ u. products row ys start step (a + u)) (products part ys (start + a * step) step) part-products)))
+
+-- an empty row gives 0, whatever start and step say
+pub products-none : (p : ℕ) (ys : List ℕ) (start step : ℕ) → (sumOfProducts p [] ys start step) .value ≡ 0
+unfolding reduce
+products-none p ys start step =
+    ap (λ x. x .value) (sum-none (residues p) (λ t. line p [] 0 1 t ⊗ line p ys start step t)) ∙ zero-mod p
+
+-- ---- a column of a table of rows of n numbers: its start is the column's number, and its step is the row's width
+
+pub column-reaches : (m n j : ℕ) (ys : List ℕ) → j < n → m * n ≤ length ys → Reaches m j n (length ys)
+column-reaches m n j ys h l t less = omega (arith, mul-le-mul-right n less)
+
+pub column-sum : (p : ℕ) (row ys : List ℕ) (n j : ℕ) → j < n
+    → sumOfProducts p row ys j n ≡ mixed (residues p) (length row) (line p row 0 1) (table p ys 0 n (length row) n) j
+unfolding mixed line
+column-sum p row ys n j h =
+    sum-same (residues p) (length row) _ _
+    (λ t l.
+    let place : j + t * n ≡ 0 + t * n + j = omega arith in
+    ap₂ (_⊗_ {p = p}) refl (ap (λ q. reduce p (getD ys q 0)) place ∙ sym (table-entry p ys 0 n (length row) n t j l h)))
