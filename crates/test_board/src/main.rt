@@ -1,7 +1,7 @@
 // Plays stored lists of calls on the board, and document 01's examples. The lists are those of tools/boards.py, whose own
 // ledger says what each call answers and leaves in memory:
 //
-//     python3 tools/boards.py > crates/board_test/stdin
+//     python3 tools/boards.py > crates/test_board/stdin
 //
 // The file `stdout` has what that script's ledger counts, and for the examples what the document gives, worked out from them
 // and not from a run:

@@ -1,7 +1,7 @@
 // Runs the calls on frames on stored cases and on document 01's examples. The cases are those of tools/frames.py, whose own
 // reader says what each answers:
 //
-//     python3 tools/frames.py > crates/frame_test/stdin
+//     python3 tools/frames.py > crates/test_frame/stdin
 //
 // The file `stdout` has what that script counts, and for the examples what the document gives, worked out from them and not
 // from a run:

@@ -1,7 +1,7 @@
 // Runs the calls on tables on stored cases and on document 01's examples. The cases are those of tools/tables.py, whose own
 // solver says what each answers and leaves:
 //
-//     python3 tools/tables.py > crates/matrix_test/stdin
+//     python3 tools/tables.py > crates/test_matrix/stdin
 //
 // The file `stdout` has what that script counts, and for the examples what the document gives, worked out from them and not
 // from a run:
