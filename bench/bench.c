@@ -1,7 +1,7 @@
 /* The benchmark: the calls of libdauneroad.a beside FLINT, in one process, on the same tables.
  *
  *   bench race SECONDS TABLE AIMS    times everything, one line each, about SECONDS for a line; writes these two files
- *   bench count CALL           prepares, then makes one call of take, repeat, show, quasiinverse or prime: for callgrind
+ *   bench count CALL           prepares, then makes one call of take, repeat, show, quasiinverse, solve, seal or prime: for callgrind
  *
  * Before a thing is timed both sides work it out and must agree, or the program ends with status 1. A time is the fastest of
  * many samples. The contenders' samples take turns, so that both sides see the same machine. The library's side is the whole
@@ -762,6 +762,17 @@ static int count(const char *call) {
         prepare(&s, p, MOST, MOST);
         our_quasiinverse(&s, 0);
         must(s.answer == DAUNEROAD_DONE + MOST, "quasiinverse");
+    } else if (!strcmp(call, "solve")) {
+        prepare(&s, p, MOST, MOST);
+        our_solve(&s, 0);
+        must(s.answer == DAUNEROAD_DONE + MOST, call);
+    } else if (!strcmp(call, "seal")) {
+        uint32_t value;
+        int32_t records[MOST];
+        uint32_t multipliers[MOST];
+        p = 251; /* whose test is next to nothing */
+        for (int i = 0; i < MOST; i++) records[i] = i, multipliers[i] = below(p);
+        must(dauneroad_seal(p, MOST, records, MOST, multipliers, MOST, &value) == 0, call);
     } else if (!strcmp(call, "take") || !strcmp(call, "repeat") || !strcmp(call, "show")) {
         furnish(&h, p, 0);
         lay_out(&h, MOST - 1);
@@ -777,6 +788,6 @@ static int count(const char *call) {
 int main(int argc, char **argv) {
     if (argc == 5 && !strcmp(argv[1], "race")) return race_all(atof(argv[2]), argv[3], argv[4]);
     int status = argc == 3 && !strcmp(argv[1], "count") ? count(argv[2]) : 2;
-    if (status == 2) fprintf(stderr, "usage: bench race SECONDS TABLE AIMS | bench count take|repeat|show|quasiinverse|prime\n");
+    if (status == 2) fprintf(stderr, "usage: bench race SECONDS TABLE AIMS | bench count take|repeat|show|quasiinverse|solve|seal|prime\n");
     return status;
 }
