@@ -24,9 +24,10 @@ def sums(numbers, start, lengths, steps):
 def cases(numbers):
     for start in (0, 37, 50000):
         yield from sums(numbers, start, (0, 1, 63, 64, 65), (0, 1, 2, 64, 65))
-        yield from sums(numbers, start, (4096, 4097), (0, 1, 2))
+        yield from sums(numbers, start, (4096, 4097, 8192), (0, 1, 2))
     for start in (0, 37):
         yield from sums(numbers, start, (100000,), (0, 1))
+    yield from sums(numbers, 50000, (100000,), (0,))
 
 
 for name, numbers in (("largest", LARGEST), ("mixed", MIXED)):
@@ -37,3 +38,5 @@ for name, numbers in (("largest", LARGEST), ("mixed", MIXED)):
             print(name, p, k, start, step, s % p)
         print("empty", p, 0)
         print("one-number", p, one % p)
+    print("empty 1 0")
+    print("one-number 1 0")

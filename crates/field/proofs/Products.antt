@@ -1,6 +1,5 @@
--- The laws of sums of products: the part of a row that begins at a reaches the places that are its own, the products of a row are
--- those of its front and of the part behind it, and a sum that is reduced before more is added is the same residue. Then that a
--- column of a table of rows is such a sum, and that an empty row gives 0.
+-- The laws of sums of products, for `dot`: a part of a row reaches its own places of the column, and its products may be added to
+-- the residue of those in front of it. Then that an empty row gives 0, and that a row times a column of a table is such a sum.
 use mathlib.Core.Path.{_≡_, refl, sym, ap, ap₂, _∙_}
 use mathlib.Core.List.{List, []}
 use Prim.Native.Nat.{ℕ, _+_, _*_, _-_, _%_, _≤_, _<_}
@@ -32,7 +31,7 @@ module _ (row ys : List ℕ) (start step a n : ℕ) (inside : a + n ≤ length r
   unfolding products
   part-products u h = ap₂ _*_ (sym (part-at row a n u h)) (ap (λ k. getD ys k 0) (sym (part-place start step a u)))
 
-  -- what the first a products add up to, reduced, and the products of the part behind them
+  -- the residue of the first a products plus the products of the part behind them is that of the first a + n
   pub reduce-part : (p sum : ℕ) → sum ≡ (reduce p (total a (products row ys start step))) .value
       → (reduce p (sum + total (length part) (products part ys (start + a * step) step))) .value
       ≡ (reduce p (total (a + n) (products row ys start step))) .value

@@ -11,7 +11,8 @@ ghost use Rattle.field.specs.Limbs.{limbBase, whole, LimbFits};
 // 2^32, the base of the limbs.
 pub const BASE: u64 = 4294967296;
 
-// How many products of a longer row are added before their sum is reduced. Sums of fewer than 2^32 limbs have 64 bits.
+// The length of a part: so many products are added before their sum is reduced. Any length below 2^32 would do, as sums of 2^32
+// limbs have 64 bits, and the sum so far counts as one.
 const PART: usize = 4096;
 
 // The residue of lo + 2^32 × hi, with two divisions: what `lo` has above its low limb goes to `hi` first.
@@ -41,7 +42,7 @@ fn add_products(p: u32, sum: u32, row: &[u32], table: &[u32], start: usize, step
     reduced(p, lo, hi)
 }
 
-// Where the part of a row of `len` numbers that begins at `from` ends.
+// Where the part that begins at `from` ends, in a row of `len` numbers.
 fn part_end(from: usize, len: usize) -> usize
     requires { ⌜ from < len ⌝ }
     ensures { λ r. ⌜ (from < r) × (r ≤ len) × (r < from + limbBase) ⌝ }
@@ -52,8 +53,7 @@ fn part_end(from: usize, len: usize) -> usize
     from + PART
 }
 
-// The sum of the products of `row` and the column of `table` that begins at `start` and goes on by `step`, part after part: each
-// begins with the sum so far.
+// The same as `dot`, part after part: each begins with the sum so far.
 fn dot_by_parts(p: u32, row: &[u32], table: &[u32], start: usize, step: usize) -> u32
     requires { ⌜ (0 < p) × Reaches (length (now row)) start step (length (now table)) ⌝ }
     ensures { λ r. ⌜ r ≡ (sumOfProducts p (now (row .entry)) (now (table .entry)) start step) .value ⌝ }

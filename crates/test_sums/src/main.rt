@@ -4,9 +4,10 @@
 //     python3 tools/sums.py > crates/test_sums/stdout
 //
 // - `NUMBERS P K START STEP S`: modulo P, the first K numbers times those at START, START + STEP, .. come to S. NUMBERS are `largest`,
-//   all 2^32 - 1, or `mixed`.
+//   all 2^32 - 1, or `mixed`: number i is 2^32 - 1 less i × 2654435761, modulo 2^32.
 // - `empty P S`: a row of no numbers, where start and step are 2^64 - 1.
-// - `one-number P S`: the first 100,000 numbers times a table of one number, by steps of 0.
+// - `one-number P S`: the first 100,000 of the numbers of the lines above times a table of one number, the one at place 7, by steps
+//   of 0.
 ghost use mathlib.Core.Path.{_≡_};
 ghost use Prim.Native.Nat.{_<_};
 ghost use lib.ListN.{length};
@@ -23,6 +24,7 @@ fn print_modulo(name: &[u8], p: u32, numbers: &[u32])
     sums::print_from(name, p, numbers, 50000);
     sums::print_longest(name, p, numbers, 0);
     sums::print_longest(name, p, numbers, 37);
+    sums::print_sum(name, p, numbers, 100000, 50000, 0);
     sums::print_ends(p, numbers);
 }
 
@@ -32,6 +34,7 @@ fn print_all(name: &[u8], numbers: &[u32])
     print_modulo(name, 251, numbers);
     print_modulo(name, 2147483629, numbers);
     print_modulo(name, 4294967291, numbers);
+    sums::print_ends(1, numbers);
 }
 
 fn main() {

@@ -2,7 +2,7 @@
 ghost use mathlib.Core.Path.{_≡_};
 ghost use lib.ListN.{length};
 
-// How many they are.
+// How many there are.
 pub const COUNT: usize = 100100;
 
 // The largest number of 32 bits, everywhere.
@@ -12,7 +12,7 @@ pub fn largest() -> [u32; COUNT]
     [4294967295; COUNT]
 }
 
-// Numbers of all sizes, the first of them the largest: 2^32 - 1 less i × 2654435761, modulo 2^32.
+// Numbers of all sizes, the first of them the largest: number i is 2^32 - 1 less i × 2654435761, modulo 2^32.
 pub fn mixed() -> [u32; COUNT]
     ensures { λ r. ⌜ length r ≡ 100100 ⌝ }
 {

@@ -18,15 +18,15 @@ fn print_size(n: usize) {
     io::print_decimal(STDOUT_FILENO, n as u64);
 }
 
-// The sum of the first k numbers of `row` and those of the table at start, start + step, ..
+// The sum of the products of the first k numbers of `row` and those of the table at start, start + step, ..
 fn sum_of(p: u32, row: &[u32], k: usize, table: &[u32], start: usize, step: usize) -> u32
     requires { ⌜ (0 < p) × (k ≤ length (now row)) × Reaches k start step (length (now table)) ⌝ }
 {
     dot(p, &row[..k], table, start, step)
 }
 
-// The line of the sum of the first k numbers and those at start, start + step, ..
-fn print_sum(name: &[u8], p: u32, numbers: &[u32], k: usize, start: usize, step: usize)
+// The line of the sum of the products of the first k numbers and those at start, start + step, ..
+pub fn print_sum(name: &[u8], p: u32, numbers: &[u32], k: usize, start: usize, step: usize)
     requires { ⌜ (0 < p) × (k ≤ 100000) × (start + k * step < 100100) × (length (now numbers) ≡ 100100) ⌝ }
 {
     print_text(name);
@@ -38,7 +38,7 @@ fn print_sum(name: &[u8], p: u32, numbers: &[u32], k: usize, start: usize, step:
     print_end();
 }
 
-// Rows that a table of 64 columns has, one number fewer, one more, and nearly none.
+// The sums of one short row, by steps of 0, 1, 2, 64 and 65.
 fn print_short(name: &[u8], p: u32, numbers: &[u32], k: usize, start: usize)
     requires { ⌜ (0 < p) × (k ≤ 65) × (start ≤ 50000) × (length (now numbers) ≡ 100100) ⌝ }
 {
@@ -49,16 +49,16 @@ fn print_short(name: &[u8], p: u32, numbers: &[u32], k: usize, start: usize)
     print_sum(name, p, numbers, k, start, 65);
 }
 
-// Rows of one part, and of one number more.
+// Those of one long row, by steps of 0, 1 and 2.
 fn print_long(name: &[u8], p: u32, numbers: &[u32], k: usize, start: usize)
-    requires { ⌜ (0 < p) × (k ≤ 4097) × (start ≤ 50000) × (length (now numbers) ≡ 100100) ⌝ }
+    requires { ⌜ (0 < p) × (k ≤ 8192) × (start ≤ 50000) × (length (now numbers) ≡ 100100) ⌝ }
 {
     print_sum(name, p, numbers, k, start, 0);
     print_sum(name, p, numbers, k, start, 1);
     print_sum(name, p, numbers, k, start, 2);
 }
 
-// The sums of rows of up to 4,097 numbers and columns that begin at `start`.
+// The sums of rows of up to 8,192 numbers and columns that begin at `start`.
 pub fn print_from(name: &[u8], p: u32, numbers: &[u32], start: usize)
     requires { ⌜ (0 < p) × (start ≤ 50000) × (length (now numbers) ≡ 100100) ⌝ }
 {
@@ -69,6 +69,7 @@ pub fn print_from(name: &[u8], p: u32, numbers: &[u32], start: usize)
     print_short(name, p, numbers, 65, start);
     print_long(name, p, numbers, 4096, start);
     print_long(name, p, numbers, 4097, start);
+    print_long(name, p, numbers, 8192, start);
 }
 
 // Those of rows of 100,000 numbers.

@@ -4,7 +4,7 @@ use mathlib.Core.Path.{ap}
 use native.Mathlib.Nat.{zero-add}
 use native.Mathlib.Omega.{arith}
 use lib.ListN.{length}
-use Rattle.field.proofs.Totals.{reduce-products}
+use Rattle.field.proofs.Totals.{total, products, reduce-products}
 use Rattle.field.proofs.sums.dot.Statement.{statement}
 use Rattle.field.proofs.sums.dot.Tie as tie
 
@@ -23,7 +23,7 @@ returns-2 : tie.Need-returns-2
 returns-2 c =
     let a = c .before .before .before .before .args in
     let row = a .row .now in
-    rw (c .add-products .ensures, zero-add)
+    rw (c .add-products .ensures, zero-add (total (length row) (products row (a .table .now) (a .start) (a .step))))
     (ap (λ r. r .value) (reduce-products (a .p) (length row) row (a .table .now) (a .start) (a .step)))
 
 pub dot-spec : {M : Type 1} → statement M
