@@ -18,7 +18,7 @@ use Rattle.field.specs.Residue.{reduce, residues, _⊕_, _⊗_, negated}
 use Rattle.field.specs.View.{line, table}
 use Rattle.words.specs.Words.{Below, Blank, Copied}
 use Rattle.field.proofs.Field.{residues-ring}
-use Rattle.field.proofs.Views.{table-entry, table-sized}
+use Rattle.field.proofs.Views.{table-entry, column-line, table-sized}
 use Rattle.matrix_mul.specs.declared.Place.{Place}
 use Rattle.matrix_mul.specs.Places.{place, matrixAt, Kept}
 
@@ -175,11 +175,8 @@ row-product p x X y Y m k n by i h row j l =
     sum-same (residues p) k _ _
     (λ t b.
     let here : 0 + t * 1 ≡ t = omega arith in
-    let there : Y .start + j + t * Y .stride ≡ Y .start + t * Y .stride + j = omega arith in
     let first : reduce p (getD by (0 + t * 1) 0) ≡ matrixAt p x X m k i t =
     ap (λ q. reduce p (getD by q 0)) here
     ∙ ap (reduce p) (row t b)
     ∙ sym (table-entry p x (X .start) (X .stride) m k i t h b) in
-    let second : reduce p (getD y (Y .start + j + t * Y .stride) 0) ≡ matrixAt p y Y k n t j =
-    ap (λ q. reduce p (getD y q 0)) there ∙ sym (table-entry p y (Y .start) (Y .stride) k n t j b l) in
-    λ s. first s ⊗ second s)
+    λ s. first s ⊗ column-line p y (Y .start) (Y .stride) k n t j b l s)
