@@ -35,8 +35,8 @@ enum {
     DAUNEROAD_LENGTH = 3,          /* a lent slice's length is not the one named */
     DAUNEROAD_NUMBER = 4,          /* a number not below p, or a record out of range */
     DAUNEROAD_INSOLUBLE = 5,       /* solve: no solution; u says why */
-    DAUNEROAD_FRAME_LENGTH = 6,    /* the frame is cut or too long */
-    DAUNEROAD_PADDING = 7,         /* a bit of the map stands at n or above */
+    DAUNEROAD_FRAME_LENGTH = 6,    /* the frame is shorter or longer than its map says: cut, or joined to another */
+    DAUNEROAD_PADDING = 7,         /* it is as long as its map says, and a bit of the map stands at n or above */
     DAUNEROAD_ZERO_MULTIPLIER = 8, /* multiplier 0 under a standing bit */
     DAUNEROAD_CONFLICT = 9,        /* the frame contradicts the standing ones; mix says how */
     DAUNEROAD_WITHDRAWAL = 10,     /* more frames to withdraw than stand */
@@ -56,7 +56,8 @@ enum { DAUNEROAD_NEW = 0, DAUNEROAD_REPEAT = 100, DAUNEROAD_DONE = 200 };
 uint32_t dauneroad_open(uint32_t p, uint32_t n, uint32_t *board, size_t board_len);
 
 /* Takes a frame. 0: new, it stands now, mix untouched. 100: repeat, and 9: conflict; both write to the mix (n words) the
- * combination of the standing frames that the frame's multipliers are. Refuses 11, 3, then the frame's 6, 7, 6, 8, 4, then 9. */
+ * combination of the standing frames that the frame's multipliers are. Refuses 11, 3, then as read does of the frame's bytes,
+ * then 9. */
 uint32_t dauneroad_take(uint32_t *board, size_t board_len, const uint8_t *frame, size_t frame_len, uint32_t *mix,
                         size_t mix_len);
 
@@ -70,7 +71,9 @@ uint32_t dauneroad_show(const uint32_t *board, size_t board_len, uint32_t *marks
 
 /* ---- frames ---- */
 
-/* Reads a frame: n multipliers and *value are written. 0; refuses 1, 2, 3, then 6, 7, 6, 8, 4 as the frame's bytes say. */
+/* Reads a frame: n multipliers and *value are written. 0; refuses 1, 2, 3, then as the frame's bytes say: 6 where they are fewer
+ * than the map's, 6 where they are not map + 4 * standing bits + 4 (every bit of the map counts, those at n or above too), 7
+ * where a bit stands at n or above, then the numbers in byte order, 8 or 4. */
 uint32_t dauneroad_read(uint32_t p, uint32_t n, const uint8_t *frame, size_t frame_len, uint32_t *multipliers,
                         size_t multipliers_len, uint32_t *value);
 

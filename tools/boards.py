@@ -2,9 +2,9 @@
 """Call lists for the test program of the board: crates/test_board/stdin.
 
 A model of its own plays lists of take, withdraw and show calls: a ledger of frames, with Gaussian elimination on lists of
-Python numbers, straight from document 01's section "The board and its ledger". Frames are lost, doubled, summed, falsified
-and malformed, lent memory has wrong lengths now and then, boards are tampered with. Numbers are four bytes each, most
-significant first, signed ones in two's complement:
+Python numbers, straight from document 01's section "The board and its ledger", frames read as document 02's #101 has it. Frames
+are lost, doubled, summed, falsified and malformed, lent memory has wrong lengths now and then, boards are tampered with. Numbers
+are four bytes each, most significant first, signed ones in two's complement:
 
     p n, then calls, then 0
     1 frame length, frame (one number a byte), mix length, mix; answer, count; the mix after; the board after
@@ -17,11 +17,15 @@ An answer is the number that the firmware gets; count is the count afterwards, a
 
   tools/boards.py [SEED]      (seed 2028 makes the stored file)
 """
+import itertools
 import random
 import struct
 import sys
 
 PRIMES = [2, 3, 5, 7, 251, 65537, 2147483629, 2147483647]
+
+# the number for a padding bit, in every other frame that has one: with it the length is the one counted over the whole map
+padding_numbers = itertools.cycle([b'', struct.pack('>I', 1)])
 
 
 def is_prime(p):
@@ -57,11 +61,11 @@ def read(p, n, frame):
     if len(frame) < size:
         return 6
     bits = [frame[j // 8] >> (j % 8) & 1 for j in range(8 * size)]
-    if any(bits[n:]):
-        return 7
-    k = sum(bits[:n])
+    k = sum(bits)
     if len(frame) != size + 4 * k + 4:
         return 6
+    if any(bits[n:]):
+        return 7
     numbers = [int.from_bytes(frame[size + 4 * t:size + 4 * t + 4], 'big') for t in range(k + 1)]
     for x in numbers[:-1]:
         if x == 0:
@@ -213,6 +217,7 @@ def history(rng, p, n, calls, out, count):
                     frame += bytes([rng.randrange(256)])
                 elif bad == 2 and n % 8:
                     frame[(n + 7) // 8 - 1] |= 128
+                    frame[-4:-4] = next(padding_numbers)
                 elif bad == 3 and len(frame) > (n + 7) // 8 + 4:
                     frame[(n + 7) // 8:(n + 7) // 8 + 4] = bytes(4)
                 else:

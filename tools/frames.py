@@ -1,9 +1,11 @@
 #!/usr/bin/env python3
 """Cases for the test program of the frames: crates/test_frame/stdin.
 
-A reader of its own, straight from document 01's section "Frame bytes", says of each frame what reading answers. Frames are
-written for every n from 1 to 64 and then damaged: cut, extended, with padding bits, with multipliers of 0 and with numbers
-of p or more. Each case, numbers most significant byte first:
+A reader of its own, straight from document 01's section "Frame bytes" and document 02's #101, says of each frame what reading
+answers. Frames are written for every n from 1 to 64 and then damaged: cut, extended, with padding bits, with multipliers of 0 and
+with numbers of p or more. For every n then come frames made for the order of 6 and 7: with a bit at n or above, of the length
+counted over the whole map and of others, and where n has no padding with its last bit standing. Each case, numbers most
+significant byte first:
 
     p (4 bytes), n (1), length of the frame (2), the frame, answer (4): 0 or the refusal's number;
     where the answer is 0 the value (4) and n multipliers (4 each)
@@ -35,11 +37,11 @@ def read(p, n, frame):
     if len(frame) < size:
         return (6,)
     bits = [frame[j // 8] >> (j % 8) & 1 for j in range(8 * size)]
-    if any(bits[n:]):
-        return (7,)
-    standing = sum(bits[:n])
+    standing = sum(bits)
     if len(frame) != size + 4 * standing + 4:
         return (6,)
+    if any(bits[n:]):
+        return (7,)
     numbers = [int.from_bytes(frame[size + 4 * k:size + 4 * k + 4], 'big') for k in range(standing + 1)]
     for x in numbers[:-1]:
         if x == 0:
@@ -79,24 +81,53 @@ def damage(rng, p, n, frame):
     return bytes(b)
 
 
+def any_frame(rng, n):
+    """A modulus and a frame that is as it should be."""
+    p = rng.choice(PRIMES)
+    part = rng.random()
+    xs = [rng.randrange(p) if rng.random() < part else 0 for _ in range(n)]
+    return p, frame_of(n, xs, rng.randrange(p))
+
+
+def damaged_frames(rng):
+    for n in range(1, 65):
+        for k in range(10):
+            p, frame = any_frame(rng, n)
+            yield p, n, damage(rng, p, n, frame) if k else frame
+
+
+def ordered_frames(rng):
+    """For each n, with the answer that the order of 6 and 7 gives: padding in a frame of the counted length, where the number
+    of the padding bit may be bad itself, is 7, and in a shorter or longer one 6; without padding no length but one is good."""
+    for n in range(1, 65):
+        p, frame = any_frame(rng, n)
+        size = (n + 7) // 8
+        longest = bytes(rng.randrange(256) for _ in range(rng.randrange(269, 300)))
+        if n % 8 == 0:
+            whole = frame_of(n, [1] * n, 0)
+            yield from ((answer, p, n, f) for answer, f in ((0, whole), (6, whole[:-1]), (6, whole[:-4]), (6, whole + longest)))
+            continue
+        short = bytearray(frame)
+        short[size - 1] |= 1 << rng.randrange(n % 8, 8)
+        short = bytes(short)
+        for number in (1, 0, p):
+            yield 7, p, n, short[:-4] + struct.pack('>I', number) + short[-4:]
+        whole = short[:-4] + struct.pack('>I', 1) + short[-4:]
+        yield from ((6, p, n, f) for f in (short, whole[:-1], short[:size], whole + b'\0', short[:size] + longest))
+
+
 def main():
     rng = random.Random(int(sys.argv[1]) if len(sys.argv) > 1 else 2027)
     out = bytearray()
     count = [0] * 12
-    for n in range(1, 65):
-        for k in range(10):
-            p = rng.choice(PRIMES)
-            part = rng.random()
-            xs = [rng.randrange(p) if rng.random() < part else 0 for _ in range(n)]
-            frame = frame_of(n, xs, rng.randrange(p))
-            if k:
-                frame = damage(rng, p, n, frame)
-            answer = read(p, n, frame)
-            count[answer[0]] += 1
-            out += struct.pack('>IBH', p, n, len(frame)) + frame + struct.pack('>I', answer[0])
-            if answer[0] == 0:
-                assert frame_of(n, answer[2], answer[1]) == frame
-                out += struct.pack('>I', answer[1]) + b''.join(struct.pack('>I', x) for x in answer[2])
+    for *expected, p, n, frame in [*damaged_frames(rng), *ordered_frames(rng)]:
+        answer = read(p, n, frame)
+        assert expected in ([], [answer[0]]), (expected, answer)
+        count[answer[0]] += 1
+        out += struct.pack('>IBH', p, n, len(frame)) + frame + struct.pack('>I', answer[0])
+        if answer[0] == 0:
+            assert frame_of(n, answer[2], answer[1]) == frame
+            out += struct.pack('>I', answer[1]) + b''.join(struct.pack('>I', x) for x in answer[2])
     out += struct.pack('>IB', 0, 0)
     sys.stdout.buffer.write(bytes(out))
     print('answers', {k: c for k, c in enumerate(count) if c}, file=sys.stderr)

@@ -146,7 +146,15 @@ def refused_inputs():
     yield 'frame-no-bytes', stream(7, 3, b'', FIRST, b'', SECOND, b'')
     yield 'frame-300-bytes', stream(7, 3, FIRST + bytes(300 - len(FIRST)), SECOND)
     yield 'frame-65535-bytes', stream(7, 3, FIRST + bytes(65535 - len(FIRST)), b'\x80' + bytes(65534), SECOND)
-    yield 'frame-padding', stream(7, 3, b'\x08' + struct.pack('>II', 1, 2), FIRST)
+    padded = b'\x08' + struct.pack('>II', 1, 2)
+    yield 'frame-padding', stream(7, 3, padded, FIRST)
+    yield 'frame-padding-numbers', stream(7, 3, b'\x08' + struct.pack('>II', 0, 7), FIRST)
+    yield 'frame-padding-cut', stream(7, 3, padded[:-1], padded[:-4], padded[:1], FIRST)
+    yield 'frame-padding-long', stream(7, 3, padded + b'\0', padded + padded[1:], padded + bytes(260), b'\xff' + bytes(268), FIRST)
+    ones = struct.pack('>9I', *[1] * 9)
+    yield 'frame-no-padding', stream(7, 8, padded, padded[:-1], b'\xff' + ones, b'\xff' + ones[:-4], b'\x80' + padded[1:])
+    last = bytes(7) + b'\x80'
+    yield 'frame-no-padding-64', stream(7, 64, last + padded[1:], last + padded[1:-1], last + padded[1:5], b'\xff' * 8 + bytes(259))
     yield 'frame-multiplier-zero', stream(7, 3, b'\x01' + bytes(8), FIRST)
     yield 'frame-conflict', stream(7, 3, ([0, 0, 0], 0), ([0, 0, 0], 1), FIRST, ([2, 4, 0], 3), ([2, 4, 0], 4))
 
@@ -171,8 +179,10 @@ def mixed(rng, p, rows):
 
 
 def damaged(rng, frame):
-    """Too short, too long, a bit behind the last of at most seven records, a value that is no residue, or no bytes at all."""
-    return rng.choice([frame[:-1], frame + b'\0', bytes([frame[0] | 0x80]) + frame[1:], frame[:-4] + b'\xff' * 4, b''])
+    """Too short, too long, a bit behind the last of at most seven records, without its number and with it, a value that is no
+    residue, or no bytes at all."""
+    padded = bytes([frame[0] | 0x80]) + frame[1:]
+    return rng.choice([frame[:-1], frame + b'\0', padded, padded[:-4] + padded[-4:] * 2, frame[:-4] + b'\xff' * 4, b''])
 
 
 def long_stream(rng, p, n, late, count):
@@ -210,6 +220,7 @@ def made():
         new = [i for i, line in enumerate(lines) if line.startswith('new')]
         assert new[-2:] == [66000, 70050] and lines[-1] == 'missing 0', 'the last rows come behind 65,536 and 70,000 frames'
         assert {line.split()[0] for line in lines[70100:70200]} == {'repeat', 'conflict', 'refused'}
+        assert {'refused 4', 'refused 6', 'refused 7'} <= set(lines)
         yield f'70200-frames-modulus-{p}', data
     for p in (2, 2147483629):
         data = conflicts(rng, p, 64)

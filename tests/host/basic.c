@@ -115,10 +115,10 @@ static void moduli_and_sizes(void)
 static void frames(void)
 {
     static const uint8_t frame[] = {3, 0, 0, 0, 1, 0, 0, 0, 2, 0, 0, 0, 5};
-    static const uint8_t padded[] = {8, 0, 0, 0, 1, 0, 0, 0, 1};
+    static const uint8_t padded[] = {8, 0, 0, 0, 1, 0, 0, 0, 1, 0};
     static const uint8_t zero[] = {1, 0, 0, 0, 0, 0, 0, 0, 1};
     static const uint8_t large[] = {1, 0, 0, 0, 7, 0, 0, 0, 1};
-    uint32_t multipliers[3], value = 0;
+    uint32_t multipliers[3], eight[8], value = 0;
     uint8_t bytes[DAUNEROAD_LONGEST_FRAME];
     EXPECT(dauneroad_read(7, 3, frame, LEN(frame), multipliers, 3, &value) == 0);
     SAME(multipliers, {1, 2, 0});
@@ -128,14 +128,21 @@ static void frames(void)
     EXPECT(memcmp(bytes, frame, sizeof frame) == 0);
     for (size_t i = sizeof frame; i < sizeof bytes; i++)
         EXPECT(bytes[i] == 0xee);
-    EXPECT(dauneroad_read(7, 3, padded, LEN(padded), multipliers, 3, &value) == DAUNEROAD_PADDING);
+    /* a bit at n or above: 7 in a frame as long as its map says, that bit counted; a shorter or longer one was cut or joined */
+    for (uint32_t length = 0; length <= LEN(padded); length++) {
+        uint32_t number = length == 9 ? DAUNEROAD_PADDING : DAUNEROAD_FRAME_LENGTH;
+        EXPECT(dauneroad_read(7, 3, padded, length, multipliers, 3, &value) == number);
+    }
     EXPECT(dauneroad_read(7, 3, zero, LEN(zero), multipliers, 3, &value) == DAUNEROAD_ZERO_MULTIPLIER);
     EXPECT(dauneroad_read(7, 3, large, LEN(large), multipliers, 3, &value) == DAUNEROAD_NUMBER);
     EXPECT(dauneroad_read(7, 3, frame, LEN(frame) - 1, multipliers, 3, &value) == DAUNEROAD_FRAME_LENGTH);
     EXPECT(dauneroad_read(7, 3, frame, 0, multipliers, 3, &value) == DAUNEROAD_FRAME_LENGTH);
     SAME(multipliers, {1, 2, 0});
     EXPECT(value == 5);
-    group("frames of n = 3, p = 7");
+    EXPECT(dauneroad_read(7, 8, padded, 9, eight, 8, &value) == 0);
+    SAME(eight, {0, 0, 0, 1, 0, 0, 0, 0});
+    EXPECT(value == 1);
+    group("frames of n = 3 and n = 8, p = 7");
 }
 
 static void fresh_board(void)

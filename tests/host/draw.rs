@@ -162,10 +162,10 @@ pub fn damaged(rng: &mut Rng, p: u32, n: usize, frame: &[u8]) -> Vec<u8> {
             bytes.extend((0..more).map(|_| rng.next() as u8));
         }
         5 | 6 if n % 8 != 0 => {
-            // a bit at n or above, with or without the number for it
+            // a bit at n or above, with the number for it, good or bad, with none, or with one more
             bytes[map - 1] |= 1 << (n % 8 + rng.below(8 - n % 8));
-            if rng.once_in(2) {
-                bytes.splice(map..map, [0, 0, 0, 1]);
+            for _ in 0..rng.below(3) {
+                bytes.splice(map..map, rng.pick(&[1, 0, p]).to_be_bytes());
             }
         }
         7 | 8 if standing > 0 => {

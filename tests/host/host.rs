@@ -84,8 +84,8 @@ fn required() -> Vec<String> {
         "all 268, 3 multipliers below, 3 multipliers above, 3 bytes below, 3 bytes above, 4 multipliers, 4 value, 4 both",
     );
     of("seal", "3 records below, 3 records above, 3 multipliers below, 3 multipliers above, 4 records, 4 multipliers, 4 both");
-    let frame = "6 cut map, 7 alone, 7 with a wrong length, 6 short, 6 long, 6 with a zero, 6 with a large number, 8 alone, \
-                 8 before 4, 4 before 8, 4 multiplier, 4 value";
+    let frame = "6 cut map, 6 short, 6 long, 6 short with padding, 6 long with padding, 6 with a zero, 6 with a large number, \
+                 7 alone, 7 with a bad number, 8 alone, 8 before 4, 4 before 8, 4 multiplier, 4 value";
     of("read", frame);
     of("take", frame);
     of("take", "new, repeat, 9, 3, 3 mix below, 3 mix above, 3 before the frame, 11, 11 before 3");

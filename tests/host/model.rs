@@ -366,16 +366,16 @@ pub fn frame_read(call: &str, p: u32, n: usize, frame: &[u8]) -> Result<(Vec<u32
         return Err(6);
     }
     let standing: Vec<usize> = (0..8 * map).filter(|&j| frame[j / 8] >> (j % 8) & 1 == 1).collect();
-    let wrong_length = frame.len() != map + 4 * standing.len() + 4;
-    if standing.iter().any(|&j| j >= n) {
-        met(call, if wrong_length { "7 with a wrong length" } else { "7 alone" });
-        return Err(7);
-    }
+    let named = map + 4 * standing.len() + 4;
+    let padded = standing.iter().any(|&j| j >= n);
     let numbers: Vec<u32> = frame[map..].chunks_exact(4).map(|four| u32::from_be_bytes(four.try_into().unwrap())).collect();
     let zero = numbers.iter().take(standing.len()).position(|&x| x == 0);
     let large = numbers.iter().position(|&x| x >= p);
-    if wrong_length {
-        met(call, if frame.len() < map + 4 * standing.len() + 4 { "6 short" } else { "6 long" });
+    if frame.len() != named {
+        met(call, if frame.len() < named { "6 short" } else { "6 long" });
+        if padded {
+            met(call, if frame.len() < named { "6 short with padding" } else { "6 long with padding" });
+        }
         if zero.is_some() {
             met(call, "6 with a zero");
         }
@@ -383,6 +383,10 @@ pub fn frame_read(call: &str, p: u32, n: usize, frame: &[u8]) -> Result<(Vec<u32
             met(call, "6 with a large number");
         }
         return Err(6);
+    }
+    if padded {
+        met(call, if zero.or(large).is_some() { "7 with a bad number" } else { "7 alone" });
+        return Err(7);
     }
     match (zero, large) {
         (Some(_), None) => met(call, "8 alone"),

@@ -1,5 +1,5 @@
--- The map of eight bytes and the bytes that it was built from: the same bits where the bytes reach and none past them. So
--- none stands at n or above exactly if the bytes are unpadded, and then all standing bits are those of the records.
+-- The map of eight bytes and the bytes that it was built from: the same bits where the bytes reach and none past them. So as many
+-- stand as in the frame's whole map; none stands at n or above exactly if the bytes are unpadded, and then all are the records'.
 use mathlib.Core.Path.{_≡_, refl, sym, ap, _∙_}
 use mathlib.Core.Bool.{false}
 use mathlib.Core.List.{List, _++_}
@@ -10,11 +10,13 @@ use native.Mathlib.Omega.{arith}
 use lib.ListN.{length, getD, take, drop, replicate, List·getD-append}
 use lib.Seq.{length-take-le, getD-append-add, getD-take}
 use Rattle.checks.specs.Largest.{largest}
+use Rattle.codec.specs.BigEndian.{width}
 use Rattle.codec.specs.Placed.{placed}
 use Rattle.codec.proofs.Placed.{placed-front}
 use Rattle.frame.specs.Format.{mapLength}
-use Rattle.frame.specs.Bitmap.{bitAt, standing, recordBits, ClearFrom, Unpadded, mapFrom, mapBits}
-use Rattle.frame.proofs.Bits.{count, count-record-bits, count-small, count-runs, count-clear, bits-agree}
+use Rattle.frame.specs.Bitmap.{bitAt, standing, recordBits, wholeMap, ClearFrom, Unpadded, mapFrom, mapBits}
+use Rattle.frame.specs.Reading.{frameLength}
+use Rattle.frame.proofs.Bits.{count, count-record-bits, count-whole-map, count-small, count-runs, count-clear, bits-agree}
 
 -- ---- building the map
 
@@ -66,12 +68,26 @@ module _ (len : ℕ) (bytes : List ℕ) (fits : len ≤ length bytes) where
 pub standing-small : (map : List ℕ) → standing (mapBits map) ≤ largest
 standing-small map = rw count-record-bits (count-small map 0 64)
 
+-- where none of the first k stands at n or above, as many stand as of the first n
+count-first : (n k : ℕ) (bytes : List ℕ) → n ≤ k → ClearFrom n k bytes → count bytes 0 k ≡ count bytes 0 n
+count-first n k bytes small clear =
+    let all : k ≡ n + (k - n) = omega arith in
+    let none = count-clear bytes n (k - n) (λ j h l. clear j (omega arith) h) in
+    ap (count bytes 0) all ∙ count-runs bytes 0 n (k - n) ∙ rw (zero-add n, none, add-zero)
+
 -- where none stands at n or above, the standing bits of the map are those of the first n
 pub standing-first : (n : ℕ) (map : List ℕ) → n ≤ largest → ClearFrom n largest map → standing (mapBits map) ≡ standing (recordBits n map)
-standing-first n map small clear =
-    let all : 64 ≡ n + (64 - n) = omega arith in
-    let none = count-clear map n (64 - n) (λ j h l. clear j (omega arith) h) in
-    rw (count-record-bits, count-record-bits) (ap (count map 0) all ∙ count-runs map 0 n (64 - n) ∙ rw (zero-add n, none, add-zero))
+standing-first n map small clear = rw (count-record-bits largest map, count-record-bits n map) (count-first n largest map small clear)
+
+-- and those of a frame's whole map are those of its records, which the frame's length is then counted over
+unpadded-standing : (n : ℕ) (bytes : List ℕ) → Unpadded n bytes → standing (wholeMap n bytes) ≡ standing (recordBits n bytes)
+unfolding mapLength
+unpadded-standing n bytes clear =
+    rw (count-whole-map, count-record-bits) (count-first n (8 * mapLength n) bytes (omega arith) (λ j h l. clear j (omega arith) l))
+
+pub unpadded-length : (n : ℕ) (bytes : List ℕ) → Unpadded n bytes → frameLength n bytes ≡ mapLength n + width * standing (recordBits n bytes) + width
+unfolding frameLength width
+unpadded-length n bytes clear = omega (arith, unpadded-standing n bytes clear)
 
 -- ---- the map of the front of a frame of n records
 
@@ -83,14 +99,24 @@ module _ (n : ℕ) (bytes : List ℕ) (fits : mapLength n ≤ length bytes) wher
       bits-agree (mapFrom (mapLength n) bytes) bytes 0 n
       (λ i _ h. bit-of-map (mapLength n) bytes fits i (omega arith))
 
+  -- as many bits stand in it as in the frame's whole map
+  pub standing-whole : n ≤ largest → standing (mapBits (mapFrom (mapLength n) bytes)) ≡ standing (wholeMap n bytes)
+  unfolding mapLength wholeMap count
+  standing-whole small =
+      let map = mapFrom (mapLength n) bytes in
+      let k = 8 * mapLength n in
+      let agree = bits-agree map bytes 0 k (λ i _ h. bit-of-map (mapLength n) bytes fits i (omega arith)) in
+      let beyond : ClearFrom k largest map = λ j _ h. bit-past-map (mapLength n) bytes fits j h in
+      count-record-bits largest map ∙ count-first k largest map (omega arith) beyond ∙ ap standing agree
+
   -- none stands at n or above exactly if the bytes are unpadded
   pub clear-unpadded : n ≤ largest → ClearFrom n largest (mapFrom (mapLength n) bytes) → Unpadded n bytes
   unfolding mapLength
-  clear-unpadded small clear j h l = sym (bit-of-map (mapLength n) bytes fits j h) ∙ clear j (omega arith) l
+  clear-unpadded small clear j h l = sym (bit-of-map (mapLength n) bytes fits j (omega arith)) ∙ clear j (omega arith) l
 
   pub unpadded-clear : Unpadded n bytes → ClearFrom n largest (mapFrom (mapLength n) bytes)
   unpadded-clear clear j _ l = by-place (decLt j (8 * mapLength n))
     where
       by-place : Dec (j < 8 * mapLength n) → bitAt (mapFrom (mapLength n) bytes) j ≡ false
-      by-place (yes k) = bit-of-map (mapLength n) bytes fits j k ∙ clear j k l
+      by-place (yes k) = bit-of-map (mapLength n) bytes fits j k ∙ clear j (omega arith) l
       by-place (no k) = bit-past-map (mapLength n) bytes fits j (omega arith)

@@ -10,7 +10,8 @@ use lib.ListN.{getD}
 use lib.Dec.{eqb}
 use lib.Count.{ones, ones-step, ones-le}
 use Rattle.algebra.specs.Choice.{choose}
-use Rattle.frame.specs.Bitmap.{bitAt, bitsFrom, standing, recordBits}
+use Rattle.frame.specs.Format.{mapLength}
+use Rattle.frame.specs.Bitmap.{bitAt, bitsFrom, standing, recordBits, wholeMap}
 
 -- ---- the equations of the bits and of their number
 
@@ -37,6 +38,10 @@ count-more bytes j k = refl
 pub count-record-bits : (n : ℕ) (bytes : List ℕ) → standing (recordBits n bytes) ≡ count bytes 0 n
 unfolding count recordBits
 count-record-bits n bytes = refl
+
+pub count-whole-map : (n : ℕ) (bytes : List ℕ) → standing (wholeMap n bytes) ≡ count bytes 0 (8 * mapLength n)
+unfolding count wholeMap
+count-whole-map n bytes = refl
 
 -- no more bits stand than there are
 bit-small : (b : Bool) → choose b 1 0 ≤ 1

@@ -11,6 +11,7 @@ pub mod WriteMap
 pub mod WriteNumbers
 pub mod WriteFrame
 pub mod Calls
+pub mod EarlierOrder
 pub mod RecordsMeet
 pub mod SealSums
 pub mod RoundCalls

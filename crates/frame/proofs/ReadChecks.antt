@@ -15,12 +15,12 @@ use Rattle.checks.specs.Largest.{largest}
 use Rattle.checks.proofs.InOrder.{fails-here, in-order-done, in-order-refused, in-order-elim, kind-of-list, _then_, _and-then_}
 use Rattle.codec.specs.BigEndian.{width}
 use Rattle.frame.specs.Format.{mapLength}
-use Rattle.frame.specs.Bitmap.{standing, recordBits, ClearFrom, Unpadded, mapFrom, mapBits}
+use Rattle.frame.specs.Bitmap.{standing, recordBits, wholeMap, ClearFrom, Unpadded, mapFrom, mapBits}
 use Rattle.frame.specs.Reading.{numbersIn, spread, frameLength, frameNumbers, frameMultipliers, frameValue, numberChecks, frameChecks}
 use Rattle.frame.specs.Reading.{ReadingKind, Found, accepted, rejected, readFrame}
 use Rattle.frame.specs.Stages.{valueAfter, checksFrom, multipliersFrom}
 use Rattle.frame.specs.Calls.{readOutcome}
-use Rattle.frame.proofs.BitMaps.{map-record-bits, clear-unpadded, unpadded-clear, standing-first}
+use Rattle.frame.proofs.BitMaps.{map-record-bits, clear-unpadded, unpadded-clear, standing-first, standing-whole}
 
 -- ---- the checks of a frame
 
@@ -29,11 +29,10 @@ pub record Mapped (n : ℕ) (bytes map : List ℕ) : Type 0 where
   pub fits : mapLength n ≤ length bytes
   pub built : map ≡ mapFrom (mapLength n) bytes
 
--- no bit of it stands at n or above, and its standing bits are counted
+-- and its standing bits are counted
 pub record Counted (n : ℕ) (bytes map : List ℕ) (count : ℕ) : Type 0 where
   pub mapped : Mapped n bytes map
   pub small : n ≤ largest
-  pub clear : ClearFrom n largest map
   pub counted : count ≡ standing (mapBits map)
 
 module _ (p n : ℕ) (bytes : List ℕ) where
@@ -41,49 +40,54 @@ module _ (p n : ℕ) (bytes : List ℕ) where
   pub frame-short : length bytes < mapLength n → FirstFailing (frameChecks p n bytes) FrameLength
   frame-short h = fails-here (λ l. omega arith)
 
-  -- a bit stands at n or above
-  pub frame-padded : (map : List ℕ) → Mapped n bytes map → (ClearFrom n largest map → ⊥) → FirstFailing (frameChecks p n bytes) Padding
-  frame-padded map m h =
-      m .fits then fails-here (λ u. h (rw (m .built) (unpadded-clear n bytes (m .fits) u)))
-
   module _ (map : List ℕ) (count : ℕ) (c : Counted n bytes map count) where
-    unpadded : Unpadded n bytes
-    unpadded = clear-unpadded n bytes (c .mapped .fits) (c .small) (rw (c .mapped .built) at (c .clear))
-
-    bits : recordBits n map ≡ recordBits n bytes
-    bits = rw (c .mapped .built) (map-record-bits n bytes (c .mapped .fits))
-
-    count-bytes : count ≡ standing (recordBits n bytes)
-    count-bytes = c .counted ∙ standing-first n map (c .small) (c .clear) ∙ ap standing bits
+    count-whole : count ≡ standing (wholeMap n bytes)
+    count-whole = c .counted ∙ rw (c .mapped .built) (standing-whole n bytes (c .mapped .fits) (c .small))
 
     length-told : mapLength n + width * count + width ≡ frameLength n bytes
-    unfolding frameLength
-    length-told = rw count-bytes
+    unfolding frameLength width
+    length-told = omega (arith, count-whole)
 
     -- another length than the map tells
     pub frame-other-length : (length bytes ≡ mapLength n + width * count + width → ⊥) → FirstFailing (frameChecks p n bytes) FrameLength
-    frame-other-length h =
-        c .mapped .fits then unpadded then fails-here (λ e. h (e ∙ sym length-told))
+    frame-other-length h = c .mapped .fits then fails-here (λ e. h (e ∙ sym length-told))
 
-    -- the length that the map tells: the numbers decide
-    module _ (long : length bytes ≡ mapLength n + width * count + width) where
-      pub frame-number : {k : Refusal} → FirstFailing (checksFrom p bytes (mapLength n) count) k → FirstFailing (frameChecks p n bytes) k
-      unfolding frameNumbers frameValue valueAfter
-      frame-number f =
-          c .mapped .fits then unpadded then (long ∙ length-told) then rw count-bytes at f
+    -- a bit stands at n or above in a frame of that length
+    pub frame-padded : length bytes ≡ mapLength n + width * count + width → (ClearFrom n largest map → ⊥) → FirstFailing (frameChecks p n bytes) Padding
+    frame-padded long h =
+        let m = c .mapped in
+        m .fits then (long ∙ length-told) then fails-here (λ u. h (rw (m .built) (unpadded-clear n bytes (m .fits) u)))
 
-      pub frame-good : AllHold (checksFrom p bytes (mapLength n) count) → AllHold (frameChecks p n bytes)
-      unfolding frameNumbers frameValue valueAfter
-      frame-good a =
-          c .mapped .fits and-then unpadded and-then (long ∙ length-told) and-then rw count-bytes at a
+    -- none does: the numbers are the records', and decide
+    module _ (clear : ClearFrom n largest map) where
+      unpadded : Unpadded n bytes
+      unpadded = clear-unpadded n bytes (c .mapped .fits) (c .small) (rw (c .mapped .built) at clear)
 
-    pub value-read : valueAfter bytes (mapLength n) count ≡ frameValue n bytes
-    unfolding frameValue valueAfter
-    value-read = rw count-bytes
+      bits : recordBits n map ≡ recordBits n bytes
+      bits = rw (c .mapped .built) (map-record-bits n bytes (c .mapped .fits))
 
-    pub multipliers-read : multipliersFrom map bytes (mapLength n) 0 n ≡ frameMultipliers n bytes
-    unfolding multipliersFrom frameMultipliers frameNumbers recordBits
-    multipliers-read = ap (λ bs. spread bs (numbersIn (standing bs) (drop (mapLength n) bytes))) bits
+      pub count-records : count ≡ standing (recordBits n map)
+      count-records = c .counted ∙ standing-first n map (c .small) clear
+
+      count-bytes : count ≡ standing (recordBits n bytes)
+      count-bytes = count-records ∙ ap standing bits
+
+      module _ (long : length bytes ≡ mapLength n + width * count + width) where
+        pub frame-number : {k : Refusal} → FirstFailing (checksFrom p bytes (mapLength n) count) k → FirstFailing (frameChecks p n bytes) k
+        unfolding frameNumbers frameValue valueAfter
+        frame-number f = c .mapped .fits then (long ∙ length-told) then unpadded then rw count-bytes at f
+
+        pub frame-good : AllHold (checksFrom p bytes (mapLength n) count) → AllHold (frameChecks p n bytes)
+        unfolding frameNumbers frameValue valueAfter
+        frame-good a = c .mapped .fits and-then (long ∙ length-told) and-then unpadded and-then rw count-bytes at a
+
+      pub value-read : valueAfter bytes (mapLength n) count ≡ frameValue n bytes
+      unfolding frameValue valueAfter
+      value-read = rw count-bytes
+
+      pub multipliers-read : multipliersFrom map bytes (mapLength n) 0 n ≡ frameMultipliers n bytes
+      unfolding multipliersFrom frameMultipliers frameNumbers recordBits
+      multipliers-read = ap (λ bs. spread bs (numbersIn (standing bs) (drop (mapLength n) bytes))) bits
 
 -- ---- what reading comes to
 

@@ -15,6 +15,7 @@ use Rattle.codec.proofs.BigEndian.{bytes-length, number-of-bytes, bytes-of-numb
 use Rattle.frame.specs.Format.{mapLength, longest, stands, mapBytes, valueBytes, frameOf}
 use Rattle.frame.specs.Bitmap.{standing, recordBits, Unpadded}
 use Rattle.frame.specs.Reading.{accepted, frameLength, frameNumbers, frameMultipliers, frameValue, readFrame}
+use Rattle.frame.proofs.BitMaps.{unpadded-length}
 use Rattle.frame.proofs.Bytes.{one-value, value-bytes-length, numbers-length, numbers-of-values, values-of-numbers}
 use Rattle.frame.proofs.RoundMap.{map-length, bits-of-map, map-unpadded, map-of-bits, record-bits-length}
 use Rattle.frame.proofs.RoundNumbers.{kept, Positive, packed-kept, standing-kept, stands-length, spread-kept, kept-below, kept-positive}
@@ -48,8 +49,7 @@ module _ (n : ℕ) (xs : List ℕ) (v : ℕ) (long : length xs ≡ n) where
   written-unpadded = rw frame-parts (map-unpadded n (stands xs) _ (stands-length xs ∙ long))
 
   written-length : length (frameOf n xs (v ∷ [])) ≡ frameLength n (frameOf n xs (v ∷ []))
-  unfolding frameLength
-  written-length = rw (written-bits, standing-kept) (frame-length n xs v)
+  written-length = rw (unpadded-length n (frameOf n xs (v ∷ [])) written-unpadded, written-bits, standing-kept) (frame-length n xs v)
 
   -- the numbers that are read are those kept, and the value
   written-numbers : Below (256 ^ width) xs → frameNumbers n (frameOf n xs (v ∷ [])) ≡ kept xs
@@ -84,7 +84,7 @@ written-reads-back p n xs v range long below value =
     let last = written-value n xs v long (number-fits p v range value) in
     let good = good-hold p (kept xs) v (record { positive = kept-positive xs; below = kept-below p xs below; value-below = value }) in
     in-order-done _ _ _
-    ((omega (arith, frame-length n xs v)) and-then written-unpadded n xs v long and-then written-length n xs v long and-then rw (numbers, last) good)
+    ((omega (arith, frame-length n xs v)) and-then written-length n xs v long and-then written-unpadded n xs v long and-then rw (numbers, last) good)
     (λ _. rw (numbers, last, written-bits n xs v long, spread-kept))
 
 -- ---- frames that are read are written
@@ -97,8 +97,8 @@ pub record Writes (p n : ℕ) (xs : List ℕ) (v : ℕ) (bytes : List ℕ) : Typ
 -- what an accepted frame has passed, and what is found in it
 record Sound (p n : ℕ) (bytes xs : List ℕ) (v : ℕ) : Type 0 where
   map-fits : mapLength n ≤ length bytes
-  unpadded : Unpadded n bytes
   right-length : length bytes ≡ frameLength n bytes
+  unpadded : Unpadded n bytes
   passed : GoodNumbers p (frameNumbers n bytes) (frameValue n bytes)
   multipliers : frameMultipliers n bytes ≡ xs
   value : frameValue n bytes ≡ v
@@ -110,8 +110,8 @@ accepted-sound p n bytes xs v =
     (λ hs e.
     record {
       map-fits = hs .0;
-      unpadded = hs .1 .0;
-      right-length = hs .1 .1 .0;
+      right-length = hs .1 .0;
+      unpadded = hs .1 .1 .0;
       passed = good-of-given p (frameNumbers n bytes) (frameValue n bytes) (hs .1 .1 .1);
       multipliers = cc;
       value = cc;
@@ -137,11 +137,15 @@ accepted-numbers p n bytes xs v e =
       value-below = rw (← (s .value)) (t .value-below);
     }
 
--- the last bytes of a frame of the right length are those of its value
+-- the length that the records' bits tell
+abbrev RecordLength : ℕ → List ℕ → Type 0
+RecordLength n bytes = length bytes ≡ mapLength n + width * standing (recordBits n bytes) + width
+
+-- the last bytes of a frame of this length are those of its value
 value-bytes :
-    (n : ℕ) (bytes : List ℕ) → Below 256 bytes → length bytes ≡ frameLength n bytes
+    (n : ℕ) (bytes : List ℕ) → Below 256 bytes → RecordLength n bytes
     → bytesOf width (frameValue n bytes) ≡ drop (mapLength n + width * standing (recordBits n bytes)) bytes
-unfolding frameLength frameValue
+unfolding frameValue
 value-bytes n bytes small e =
     let at = mapLength n + width * standing (recordBits n bytes) in
     let w : length (drop at bytes) ≡ width = omega (arith, length-drop at bytes) in
@@ -149,9 +153,9 @@ value-bytes n bytes small e =
 
 -- and the bytes between are those of its numbers
 number-bytes :
-    (n : ℕ) (bytes : List ℕ) → Below 256 bytes → length bytes ≡ frameLength n bytes
+    (n : ℕ) (bytes : List ℕ) → Below 256 bytes → RecordLength n bytes
     → valueBytes (frameNumbers n bytes) ≡ take (width * standing (recordBits n bytes)) (drop (mapLength n) bytes)
-unfolding frameLength frameNumbers
+unfolding frameNumbers
 number-bytes n bytes small e =
     values-of-numbers (standing (recordBits n bytes)) (drop (mapLength n) bytes) (below-drop 256 (mapLength n) bytes small)
     (omega (arith, length-drop (mapLength n) bytes))
@@ -171,7 +175,7 @@ accepted-rewrites p n bytes xs v small e =
     let again = spread-stands bits ns (counted n bytes) (s .passed .positive) in
     let m = mapLength n in
     let k = width * standing bits in
-    let l = s .right-length in
+    let l = s .right-length ∙ unpadded-length n bytes (s .unpadded) in
     let map = map-of-bits n bytes small (s .map-fits) (s .unpadded) in
     let whole : take m bytes ++ (take k (drop m bytes) ++ drop (m + k) bytes) ≡ bytes =
     rw (← (drop-drop k m bytes), take-append-drop k (drop m bytes)) (take-append-drop m bytes) in

@@ -24,6 +24,10 @@ bitsFrom bytes j (suc k) = bitAt bytes j ∷ bitsFrom bytes (suc j) k
 unfoldable pub recordBits : ℕ → List ℕ → List Bool
 recordBits n bytes = bitsFrom bytes 0 n
 
+-- the bits of a frame's whole map, padding included: eight for each of its bytes
+unfoldable pub wholeMap : ℕ → List ℕ → List Bool
+wholeMap n bytes = bitsFrom bytes 0 (8 * mapLength n)
+
 -- the number of standing bits
 unfoldable pub standing : List Bool → ℕ
 standing [] = 0
@@ -47,6 +51,6 @@ mapFrom len bytes = take len bytes ++ replicate (8 - len) 0
 unfoldable pub mapOf : List ℕ → List ℕ
 mapOf xs = tabulate 8 (mapByte (stands xs))
 
--- all of its bits, a bit for every record that there can be
+-- all of its bits, one for every record that there can be
 abbrev pub mapBits : List ℕ → List Bool
 mapBits map = recordBits largest map

@@ -2,14 +2,13 @@
 use mathlib.Core.Path.{_≡_, refl}
 use mathlib.Core.Bool.{Bool, true, false, true≢false}
 use mathlib.Core.List.{List}
-use Prim.Native.Nat.{ℕ, _*_, _≤_}
+use Prim.Native.Nat.{ℕ, _≤_}
 use native.Mathlib.Decide.{decLe}
 use lib.IntN.{ℤ, pos}
 use lib.ListN.{length, getD}
 use Rattle.algebra.proofs.Choice.{all-below?}
 use Rattle.signed.specs.Reading.{IsRecord}
 use Rattle.signed.specs.Decide.{record?}
-use Rattle.frame.specs.Format.{mapLength}
 use Rattle.frame.specs.Bitmap.{bitAt, Unpadded}
 use Rattle.frame.specs.Sealing.{Records}
 
@@ -26,7 +25,7 @@ clear? n bytes j = go (decLe n j) (false? (bitAt bytes j))
     go (yes h) (no f) = no (λ g. f (g h))
 
 pub unpadded? : (n : ℕ) (bytes : List ℕ) → Dec (Unpadded n bytes)
-unpadded? n bytes = all-below? (λ j. n ≤ j → bitAt bytes j ≡ false) (clear? n bytes) (8 * mapLength n)
+unpadded? n bytes = all-below? (λ j. n ≤ j → bitAt bytes j ≡ false) (clear? n bytes) _
 
 pub records? : (p : ℕ) (zs : List ℤ) → Dec (Records p zs)
 records? p zs = all-below? (λ i. IsRecord p (getD zs i (pos 0))) (λ i. record? p (getD zs i (pos 0))) (length zs)

@@ -6,5 +6,6 @@ pub mod Reading
 pub mod Stages
 pub mod Told
 pub mod Calls
+pub mod EarlierOrder
 pub mod Promises
 pub mod Examples

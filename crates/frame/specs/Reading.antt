@@ -1,5 +1,7 @@
--- 01, "Reading checks in this order: shorter than the map, 6; a standing bit at n or above, 7; length other than map + 4 ×
--- standing bits + 4, 6; then the numbers in byte order, a multiplier of 0 giving 8, a number of p or more giving 4."
+-- 01 with request 101: reading checks in this order: shorter than the map, 6; length other than map + 4 × standing bits + 4, 6; a
+-- standing bit at n or above, 7; then the numbers in byte order, a multiplier of 0 giving 8, a number of p or more giving 4. The
+-- request: "From now on standing bits are counted over the whole map, padding included, and the length check comes before the
+-- padding check." Which answers that moved is said in EarlierOrder.antt.
 use mathlib.Core.Path.{_≡_}
 use mathlib.Core.Bool.{Bool, true, false}
 use mathlib.Core.List.{List, [], _∷_}
@@ -13,7 +15,7 @@ use Rattle.checks.specs.InOrder.{Checks, passed, _else_, _⨾_, inOrder}
 use Rattle.checks.specs.Decide.{long?}
 use Rattle.codec.specs.BigEndian.{width, numberFrom}
 use Rattle.frame.specs.Format.{mapLength}
-use Rattle.frame.specs.Bitmap.{recordBits, standing}
+use Rattle.frame.specs.Bitmap.{recordBits, wholeMap, standing}
 use Rattle.frame.specs.Decide.{unpadded?}
 
 -- the numbers that stand one after the other in the bytes, k of them
@@ -28,9 +30,9 @@ spread (true ∷ bs) [] = 0 ∷ spread bs []
 spread (true ∷ bs) (x ∷ xs) = x ∷ spread bs xs
 spread (false ∷ bs) xs = 0 ∷ spread bs xs
 
--- the length that a frame with this map has
+-- the length that a frame with this map has: map + 4 × standing bits + 4, the bits counted over the whole map
 unfoldable pub frameLength : ℕ → List ℕ → ℕ
-frameLength n bytes = mapLength n + width * standing (recordBits n bytes) + width
+frameLength n bytes = mapLength n + width * standing (wholeMap n bytes) + width
 
 -- the numbers under its standing bits, its multipliers and its value
 unfoldable pub frameNumbers : ℕ → List ℕ → List ℕ
@@ -53,8 +55,8 @@ numberChecks p (x ∷ xs) v = decLt 0 x else ZeroMultiplier ⨾ decLt x p else N
 abbrev pub frameChecks : (p n : ℕ) (bytes : List ℕ) → Checks Refusal
 frameChecks p n bytes =
     decLe (mapLength n) (length bytes) else FrameLength
-    ⨾ unpadded? n bytes else Padding
     ⨾ long? bytes (frameLength n bytes) else FrameLength
+    ⨾ unpadded? n bytes else Padding
     ⨾ numberChecks p (frameNumbers n bytes) (frameValue n bytes)
 
 -- the kinds that reading refuses a frame by: 4, 6, 7 and 8

@@ -69,12 +69,12 @@ pub fn read_frame(p: u32, n: usize, bytes: &[u8], multipliers: &mut [u32]) -> Re
         return ReadAnswer::Refused(Refusal::FrameLength);
     }
     let map = bitmap::from_bytes(bytes, len);
-    if !bitmap::unpadded(map, n) {
-        return ReadAnswer::Refused(Refusal::Padding);
-    }
     let count = bitmap::standing(map);
     if bytes.len() != len + WIDTH * count + WIDTH {
         return ReadAnswer::Refused(Refusal::FrameLength);
+    }
+    if !bitmap::unpadded(map, n) {
+        return ReadAnswer::Refused(Refusal::Padding);
     }
     match judged(p, bytes, len, count) {
         ReadAnswer::Value(value) => {

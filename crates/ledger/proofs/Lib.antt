@@ -16,6 +16,7 @@ pub mod RankFull
 pub mod Missing
 pub mod Shown
 pub mod Turns
+pub mod EarlierOrder
 pub mod Demand3
 pub mod Honest
 pub mod SumOfFrames

@@ -8,6 +8,7 @@ pub mod Proper
 pub mod Heard
 pub mod Settle
 pub mod Turns
+pub mod EarlierOrder
 pub mod Answers
 pub mod Demand3
 pub mod Honest

@@ -58,9 +58,21 @@ fn read_empty(name: &[u8], p: u32, n: u32, room: usize)
     read(name, p, n, b"", room);
 }
 
-// The document's frames, then 1, 2 and 3 before 6.
-fn reads() {
+// A bit at n or above: 7 in a frame of the length that the map with that bit tells, whatever its numbers, and 6 in another. For
+// n = 8 the same bytes have no padding.
+fn padded_reads() {
     read_frame(b"padding", 8, 1, 2);
+    read_frame(b"padding-and-numbers", 8, 0, 7);
+    read(b"padding-cut", 7, 3, &[8, 0, 0, 0, 1, 0, 0, 0], 3);
+    read(b"padding-without-number", 7, 3, &[8, 0, 0, 0, 2], 3);
+    read(b"padding-alone", 7, 3, &[8], 3);
+    read(b"padding-long", 7, 3, &[8, 0, 0, 0, 1, 0, 0, 0, 2, 0], 3);
+    read(b"no-padding", 7, 8, &[8, 0, 0, 0, 1, 0, 0, 0, 2], 8);
+    read(b"no-padding-cut", 7, 8, &[8, 0, 0, 0, 1, 0, 0, 0], 8);
+}
+
+// The document's other frames, then 1, 2 and 3 before 6.
+fn reads() {
     read_frame(b"multiplier-zero", 1, 0, 0);
     read_frame(b"multiplier-p", 1, 7, 0);
     read_empty(b"modulus", 4, 0, 2);
@@ -123,6 +135,7 @@ fn seal_numbers() {
 }
 
 pub fn run() {
+    padded_reads();
     reads();
     writes();
     seal_order();

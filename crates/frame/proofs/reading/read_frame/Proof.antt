@@ -5,12 +5,14 @@ use Prim.Native.Nat.{_≤_}
 use native.Mathlib.Omega.{arith}
 use borrow.Author.Needs.{needs}
 use Rattle.algebra.proofs.Answers.{guard-left, guard-taken}
+use Rattle.checks.specs.Largest.{largest}
 use Rattle.codec.specs.BigEndian.{width}
 use Rattle.frame.specs.Format.{mapLength}
+use Rattle.frame.specs.Bitmap.{ClearFrom}
 use Rattle.frame.specs.Stages.{Judged}
-use Rattle.frame.proofs.BitMaps.{standing-small, standing-first}
+use Rattle.frame.proofs.BitMaps.{standing-small}
 use Rattle.frame.proofs.ReadChecks.{Mapped, Counted, frame-short, frame-padded, frame-other-length, frame-number, frame-good, value-read}
-use Rattle.frame.proofs.ReadChecks.{multipliers-read, frame-refused, frame-accepted}
+use Rattle.frame.proofs.ReadChecks.{count-records, multipliers-read, frame-refused, frame-accepted}
 use Rattle.frame.proofs.reading.read_frame.Statement.{statement}
 use Rattle.frame.proofs.reading.read_frame.Tie as tie
 
@@ -22,24 +24,26 @@ mapped :
 unfolding mapLength
 mapped c = record { fits = c .before .if1 .left; built = c .from-bytes .ensures }
 
--- past the second no bit stands at n or above
+-- and its standing bits are counted
 counted :
     (c : tie.After-standing) →
-    let m = c .before .before .before in
+    let m = c .before in
     let a = m .before .before .before .before .args in
     Counted (a .n) (a .bytes .now) (m .from-bytes .result) (c .standing .result)
 counted c =
-    let u = c .before .before in
-    let s = u .before .before .before .before .before in
-    record {
-      mapped = mapped (u .before);
-      small = s .pre .2;
-      clear = guard-left (u .unpadded .ensures) (c .before .if2 .left);
-      counted = c .standing .ensures;
-    }
+    let s = c .before .before .before .before .before in
+    record { mapped = mapped (c .before); small = s .pre .2; counted = c .standing .ensures }
 
 few : (c : tie.After-standing) → c .standing .result ≤ 64
 few c = rw (c .standing .ensures) (standing-small _)
+
+-- past the third no bit stands at n or above
+clear :
+    (c : tie.Else3) →
+    let m = c .before .before .before .before in
+    let a = m .before .before .before .before .args in
+    ClearFrom (a .n) largest (m .from-bytes .result)
+clear c = guard-left (c .before .unpadded .ensures) (c .if3 .left)
 
 add-len : tie.Need-add-len
 add-len c = search needs
@@ -53,33 +57,35 @@ returns c =
 from-bytes-requires : tie.Need-from-bytes-requires
 from-bytes-requires c κs = search needs
 
-unpadded-requires : tie.Need-unpadded-requires
-unpadded-requires c κs = search needs
-
-returns-2 : tie.Need-returns-2
-returns-2 c =
-    let m = c .before .before in
-    frame-refused _ _ _ _ (frame-padded _ _ _ _ (mapped m) (guard-taken (c .before .unpadded .ensures) (c .if2 .taken)))
-
 standing-requires : tie.Need-standing-requires
 standing-requires c κs = search needs
 
-mul-if3 : tie.Need-mul-if3
-mul-if3 c = omega (arith, few c)
+mul-if2 : tie.Need-mul-if2
+mul-if2 c = omega (arith, few c)
 
-add-if3 : tie.Need-add-if3
-add-if3 c = omega (arith, few c)
+add-if2 : tie.Need-add-if2
+add-if2 c = omega (arith, few c)
 
-add-if3-2 : tie.Need-add-if3-2
-add-if3-2 c = omega (arith, few c)
+add-if2-2 : tie.Need-add-if2-2
+add-if2-2 c = omega (arith, few c)
+
+returns-2 : tie.Need-returns-2
+unfolding mapLength width
+returns-2 c = frame-refused _ _ _ _ (frame-other-length _ _ _ _ _ (counted (c .before)) (c .if2 .taken))
+
+unpadded-requires : tie.Need-unpadded-requires
+unpadded-requires c κs = search needs
 
 returns-3 : tie.Need-returns-3
 unfolding mapLength width
-returns-3 c = frame-refused _ _ _ _ (frame-other-length _ _ _ _ _ (counted (c .before)) (c .if3 .taken))
+returns-3 c =
+    let l = c .before .before in
+    let padded = guard-taken (c .before .unpadded .ensures) (c .if3 .taken) in
+    frame-refused _ _ _ _ (frame-padded _ _ _ _ _ (counted (l .before)) (l .if2 .left) padded)
 
 judged-requires : tie.Need-judged-requires
 unfolding width
-judged-requires c κs = c .if3 .left
+judged-requires c κs = c .before .before .if2 .left
 
 enum-known-value : tie.Need-enum-known-value
 enum-known-value c = search needs
@@ -88,9 +94,10 @@ fill-requires : tie.Need-fill-requires
 unfolding width
 fill-requires c κs =
     let e = c .before .before .before .before .before in
-    let t = counted (e .before) in
-    let s = e .before .before .before .before .before .before .before .before in
-    (omega arith, rw (s .pre .3, ← (standing-first _ _ (t .small) (t .clear)), ← (t .counted)) (omega (arith, e .if3 .left)))
+    let l = e .before .before in
+    let t = counted (l .before) in
+    let s = l .before .before .before .before .before .before in
+    (omega arith, rw (s .pre .3, ← (count-records (s .args .p) _ _ _ _ t (clear e))) (omega (arith, l .if2 .left)))
 
 enum-known-kind : tie.Need-enum-known-kind
 enum-known-kind c = search needs
@@ -104,22 +111,26 @@ returns-4 c =
     let f = c .before .before in
     let v = f .before .before .before in
     let j = v .before .before in
-    let t = counted (j .before .before) in
+    let e = j .before in
+    let l = e .before .before in
+    let t = counted (l .before) in
     let good = subst (Judged _ _) (v .value .given .1) (j .judged .ensures) in
-    let s = j .before .before .before .before .before .before .before .before .before in
-    frame-accepted _ _ _ _ (frame-good _ _ _ _ _ t (j .before .if3 .left) (good .0)) (good .1 ∙ value-read (s .args .p) _ _ _ _ t)
-    (rw (s .pre .3) at (f .fill .ensures) ∙ multipliers-read (s .args .p) _ _ _ _ t)
+    let s = l .before .before .before .before .before .before in
+    frame-accepted _ _ _ _ (frame-good _ _ _ _ _ t (clear e) (l .if2 .left) (good .0)) (good .1 ∙ value-read (s .args .p) _ _ _ _ t (clear e))
+    (rw (s .pre .3) at (f .fill .ensures) ∙ multipliers-read (s .args .p) _ _ _ _ t (clear e))
 
 returns-5 : tie.Need-returns-5
 unfolding mapLength width
 returns-5 c =
     let k = c .before in
     let j = k .before .before in
+    let e = j .before in
+    let l = e .before .before in
     let bad = subst (Judged _ _) (k .kind .given .1) (j .judged .ensures) in
-    frame-refused _ _ _ _ (frame-number _ _ _ _ _ (counted (j .before .before)) (j .before .if3 .left) bad)
+    frame-refused _ _ _ _ (frame-number _ _ _ _ _ (counted (l .before)) (clear e) (l .if2 .left) bad)
 
 pub read-frame-spec : {M : Type 1} → statement M
 read-frame-spec =
     tie.close
-    (tie.spec add-len returns from-bytes-requires unpadded-requires returns-2 standing-requires mul-if3 add-if3 add-if3-2
+    (tie.spec add-len returns from-bytes-requires standing-requires mul-if2 add-if2 add-if2-2 returns-2 unpadded-requires
     returns-3 judged-requires enum-known-value fill-requires enum-known-kind same-length returns-4 returns-5)

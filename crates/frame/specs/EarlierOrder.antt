@@ -1,0 +1,61 @@
+-- Request 101: "Answers that change: a frame with a standing bit at n or above, at least as long as its map and not of that counted
+-- length, gave 7 and now gives 6. No other answer moves." Reading in the order of 01, as it was before that request, is defined here
+-- for this sentence and for nothing else.
+use mathlib.Core.Path.{_≡_}
+use mathlib.Core.Bool.{true}
+use mathlib.Core.List.{List}
+use Prim.Native.Nat.{ℕ, _+_, _*_, _≤_, _<_}
+use native.Mathlib.Decide.{decLe}
+use lib.IntN.{pos}
+use lib.ListN.{length}
+use Rattle.checks.specs.declared.Refusal.{Refusal}
+use Rattle.checks.specs.declared.Refusal.the-variants.{Length, FrameLength, Padding}
+use Rattle.checks.specs.Prime.{IsModulus}
+use Rattle.checks.specs.Largest.{FrameSize}
+use Rattle.checks.specs.InOrder.{Checks, _else_, _⨾_, andThen, inOrder}
+use Rattle.checks.specs.Told.{gives}
+use Rattle.checks.specs.Outcome.{Outcome, outcome, untouched}
+use Rattle.checks.specs.Decide.{long?}
+use Rattle.checks.specs.Sizes.{frameSizes}
+use Rattle.codec.specs.BigEndian.{width}
+use Rattle.frame.specs.Format.{mapLength}
+use Rattle.frame.specs.Bitmap.{bitAt, recordBits, standing}
+use Rattle.frame.specs.Reading.{frameLength, frameNumbers, frameMultipliers, frameValue, numberChecks}
+use Rattle.frame.specs.Decide.{unpadded?}
+use Rattle.frame.specs.Calls.{readCall}
+
+-- the order of 01: "shorter than the map, 6; a standing bit at n or above, 7; length other than map + 4 × standing bits + 4, 6", where
+-- no bits but the records' were left to be counted; then the numbers
+abbrev pub earlierChecks : (p n : ℕ) (bytes : List ℕ) → Checks Refusal
+earlierChecks p n bytes =
+    decLe (mapLength n) (length bytes) else FrameLength
+    ⨾ unpadded? n bytes else Padding
+    ⨾ long? bytes (mapLength n + width * standing (recordBits n bytes) + width) else FrameLength
+    ⨾ numberChecks p (frameNumbers n bytes) (frameValue n bytes)
+
+-- the call `read` in that order
+unfoldable pub earlierRead : (p n : ℕ) (bytes multipliers : List ℕ) → Outcome (List ℕ)
+earlierRead p n bytes lent =
+    inOrder (andThen (frameSizes p n) (λ _. long? lent n else Length ⨾ earlierChecks p n bytes))
+    (λ _. outcome (gives (pos (frameValue n bytes))) (frameMultipliers n bytes)) (untouched lent)
+
+-- the frames of which the request speaks
+pub record Moved (n : ℕ) (bytes : List ℕ) : Type 0 where
+  pub padded : (j : ℕ) × (n ≤ j) × (j < 8 * mapLength n) × (bitAt bytes j ≡ true)
+  pub map-fits : mapLength n ≤ length bytes
+  pub other-length : length bytes ≡ frameLength n bytes → ⊥
+
+-- "gave 7 and now gives 6. No other answer moves.": what was and what is differ exactly where M holds, and there by these two
+pub data MovesExactly {X : Type 0} (M : Type 0) (seven six was is : X) : Type 0 where
+  moved : M → was ≡ seven → is ≡ six → MovesExactly M seven six was is
+  kept : (M → ⊥) → is ≡ was → MovesExactly M seven six was is
+
+-- read comes as far as such a frame where 1, 2 and 3 are passed
+abbrev pub ReadMoved : (p n : ℕ) (bytes multipliers : List ℕ) → Type 0
+ReadMoved p n bytes lent = (IsModulus p × FrameSize n × (length lent ≡ n)) × Moved n bytes
+
+-- and then it is refused by the other number, with the lent memory as it was either way
+abbrev pub ReadMoves : (p n : ℕ) (bytes multipliers : List ℕ) → Type 0
+ReadMoves p n bytes lent =
+    MovesExactly (ReadMoved p n bytes lent) (untouched lent Padding) (untouched lent FrameLength) (earlierRead p n bytes lent)
+    (readCall p n bytes lent)
