@@ -2,8 +2,8 @@
  *
  * A heat of n records (1 to 64) travels as coded frames: each frame carries a multiplier for each record and one value, the
  * sum of the products modulo a prime p. A board is memory that the caller owns; take feeds it frames, show tells which
- * records the frames settle. Everything here is proved against document 01; see docs/C.md for what that means and what it
- * rests on.
+ * records the frames settle. Everything here is proved against documents 01 and 02; see docs/C.md for what that means
+ * and what it rests on.
  *
  * Every function answers a number:
  *   0         done; for take: the frame is new and now stands
@@ -35,8 +35,8 @@ enum {
     DAUNEROAD_LENGTH = 3,          /* a lent slice's length is not the one named */
     DAUNEROAD_NUMBER = 4,          /* a number not below p, or a record out of range */
     DAUNEROAD_INSOLUBLE = 5,       /* solve: no solution; u says why */
-    DAUNEROAD_FRAME_LENGTH = 6,    /* the frame is shorter or longer than its map says: cut, or joined to another */
-    DAUNEROAD_PADDING = 7,         /* it is as long as its map says, and a bit of the map stands at n or above */
+    DAUNEROAD_FRAME_LENGTH = 6,    /* the frame is shorter or longer than its map says */
+    DAUNEROAD_PADDING = 7,         /* a bit of the map stands at n or above, in a frame as long as its map says */
     DAUNEROAD_ZERO_MULTIPLIER = 8, /* multiplier 0 under a standing bit */
     DAUNEROAD_CONFLICT = 9,        /* the frame contradicts the standing ones; mix says how */
     DAUNEROAD_WITHDRAWAL = 10,     /* more frames to withdraw than stand */
@@ -56,8 +56,8 @@ enum { DAUNEROAD_NEW = 0, DAUNEROAD_REPEAT = 100, DAUNEROAD_DONE = 200 };
 uint32_t dauneroad_open(uint32_t p, uint32_t n, uint32_t *board, size_t board_len);
 
 /* Takes a frame. 0: new, it stands now, mix untouched. 100: repeat, and 9: conflict; both write to the mix (n words) the
- * combination of the standing frames that the frame's multipliers are. Refuses 11, 3, then as read does of the frame's bytes,
- * then 9. */
+ * combination of the standing frames that the frame's multipliers are. Refuses 11, 3, then the frame's 6, 6, 7, 8 or 4
+ * (see dauneroad_read), then 9. */
 uint32_t dauneroad_take(uint32_t *board, size_t board_len, const uint8_t *frame, size_t frame_len, uint32_t *mix,
                         size_t mix_len);
 
@@ -71,9 +71,9 @@ uint32_t dauneroad_show(const uint32_t *board, size_t board_len, uint32_t *marks
 
 /* ---- frames ---- */
 
-/* Reads a frame: n multipliers and *value are written. 0; refuses 1, 2, 3, then as the frame's bytes say: 6 where they are fewer
- * than the map's, 6 where they are not map + 4 * standing bits + 4 (every bit of the map counts, those at n or above too), 7
- * where a bit stands at n or above, then the numbers in byte order, 8 or 4. */
+/* Reads a frame: n multipliers and *value are written. 0; refuses 1, 2, 3, then the frame's 6, 6, 7, 8 or 4: fewer bytes than
+ * the map has, 6; not map + 4 * standing bits + 4 bytes, where every bit of the map counts, those at n or above too, 6; a bit
+ * that stands at n or above, 7; then the numbers in byte order, a multiplier of 0, 8, a number of p or more, 4. */
 uint32_t dauneroad_read(uint32_t p, uint32_t n, const uint8_t *frame, size_t frame_len, uint32_t *multipliers,
                         size_t multipliers_len, uint32_t *value);
 

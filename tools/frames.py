@@ -90,10 +90,11 @@ def any_frame(rng, n):
 
 
 def damaged_frames(rng):
+    """With no answer beside them."""
     for n in range(1, 65):
         for k in range(10):
             p, frame = any_frame(rng, n)
-            yield p, n, damage(rng, p, n, frame) if k else frame
+            yield None, p, n, damage(rng, p, n, frame) if k else frame
 
 
 def ordered_frames(rng):
@@ -102,10 +103,10 @@ def ordered_frames(rng):
     for n in range(1, 65):
         p, frame = any_frame(rng, n)
         size = (n + 7) // 8
-        longest = bytes(rng.randrange(256) for _ in range(rng.randrange(269, 300)))
+        too_long = bytes(rng.randrange(256) for _ in range(rng.randrange(269, 300)))
         if n % 8 == 0:
             whole = frame_of(n, [1] * n, 0)
-            yield from ((answer, p, n, f) for answer, f in ((0, whole), (6, whole[:-1]), (6, whole[:-4]), (6, whole + longest)))
+            yield from ((answer, p, n, f) for answer, f in ((0, whole), (6, whole[:-1]), (6, whole[:-4]), (6, whole + too_long)))
             continue
         short = bytearray(frame)
         short[size - 1] |= 1 << rng.randrange(n % 8, 8)
@@ -113,16 +114,16 @@ def ordered_frames(rng):
         for number in (1, 0, p):
             yield 7, p, n, short[:-4] + struct.pack('>I', number) + short[-4:]
         whole = short[:-4] + struct.pack('>I', 1) + short[-4:]
-        yield from ((6, p, n, f) for f in (short, whole[:-1], short[:size], whole + b'\0', short[:size] + longest))
+        yield from ((6, p, n, f) for f in (short, whole[:-1], short[:size], whole + b'\0', short[:size] + too_long))
 
 
 def main():
     rng = random.Random(int(sys.argv[1]) if len(sys.argv) > 1 else 2027)
     out = bytearray()
     count = [0] * 12
-    for *expected, p, n, frame in [*damaged_frames(rng), *ordered_frames(rng)]:
+    for expected, p, n, frame in [*damaged_frames(rng), *ordered_frames(rng)]:
         answer = read(p, n, frame)
-        assert expected in ([], [answer[0]]), (expected, answer)
+        assert expected in (None, answer[0]), (expected, answer)
         count[answer[0]] += 1
         out += struct.pack('>IBH', p, n, len(frame)) + frame + struct.pack('>I', answer[0])
         if answer[0] == 0:

@@ -1,4 +1,4 @@
-//! The host tests: libdauneroad.a against the model of document 01 in model.rs, on seeded random, exhaustive and damaged
+//! The host tests: libdauneroad.a against the model of documents 01 and 02 in model.rs, on seeded random, exhaustive and damaged
 //! inputs. One line per group; ends with 0 only if no group disagrees.
 
 mod boards;

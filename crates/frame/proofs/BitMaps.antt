@@ -79,13 +79,17 @@ count-first n k bytes small clear =
 pub standing-first : (n : ℕ) (map : List ℕ) → n ≤ largest → ClearFrom n largest map → standing (mapBits map) ≡ standing (recordBits n map)
 standing-first n map small clear = rw (count-record-bits largest map, count-record-bits n map) (count-first n largest map small clear)
 
--- and those of a frame's whole map are those of its records, which the frame's length is then counted over
+-- and those of a frame's whole map are those of its records, so that they tell the same length
 unpadded-standing : (n : ℕ) (bytes : List ℕ) → Unpadded n bytes → standing (wholeMap n bytes) ≡ standing (recordBits n bytes)
 unfolding mapLength
 unpadded-standing n bytes clear =
     rw (count-whole-map, count-record-bits) (count-first n (8 * mapLength n) bytes (omega arith) (λ j h l. clear j (omega arith) l))
 
-pub unpadded-length : (n : ℕ) (bytes : List ℕ) → Unpadded n bytes → frameLength n bytes ≡ mapLength n + width * standing (recordBits n bytes) + width
+-- the length that the records' bits tell
+abbrev pub recordLength : ℕ → List ℕ → ℕ
+recordLength n bytes = mapLength n + width * standing (recordBits n bytes) + width
+
+pub unpadded-length : (n : ℕ) (bytes : List ℕ) → Unpadded n bytes → frameLength n bytes ≡ recordLength n bytes
 unfolding frameLength width
 unpadded-length n bytes clear = omega (arith, unpadded-standing n bytes clear)
 

@@ -1,6 +1,6 @@
 -- Request 101 moves what it says and nothing else: in its order and in that of 01 reading comes to the same, but for a frame with a
--- standing bit at n or above that is as long as its map and not of the length counted over it, which 01 refuses by 7 and the request
--- by 6. By cases of the three checks; without padding both count the same bits. Then of the call, behind the checks before these.
+-- standing bit at n or above that is at least as long as its map and not of the length counted over it, which 01 refuses by 7 and
+-- the request by 6. By cases of the three checks; without padding both count the same bits. Then of the call, behind the checks before these.
 use mathlib.Core.Path.{_≡_, refl, sym, ap, _∙_}
 use mathlib.Core.Logic.{_↔_}
 use mathlib.Core.Bool.{Bool, true, false, true≢false}
@@ -44,7 +44,7 @@ module _ {X M : Type 0} {seven six was is : X} where
 pub six-not-seven : {L : Type 0} (lent : L) → untouched lent FrameLength ≡ untouched lent Padding → ⊥
 six-not-seven {L} lent e = omega (arith, ap (λ (o : Outcome L). o .told .number) e)
 
--- behind checks that both have, with F for all of these
+-- behind checks that both have, all of which hold exactly if F does
 module _ {X F M : Type 0} {seven six : X} (front : Checks Refusal) (refuse : Refusal → X) (given : Given front → F) (holds : F → AllHold front) where
   pub behind : (was is : Given front → X) → ((hs : Given front) → MovesExactly M seven six (was hs) (is hs))
       → MovesExactly (F × M) seven six (inOrder front was refuse) (inOrder front is refuse)
@@ -107,14 +107,15 @@ module _ {X : Type 0} (p n : ℕ) (bytes : List ℕ) (done : X) (refuse : Refusa
   reading-moves = by-checks (decLe (mapLength n) (length bytes)) (long? bytes (frameLength n bytes)) (unpadded? n bytes)
     where
       stands : Moved n bytes → Unpadded n bytes → ⊥
-      stands m clear = let (j, a, b, c) = m .padded in true≢false (sym c ∙ clear j b a)
+      stands m clear = let (j, a, b, c) = m .padded in true≢false (sym c ∙ clear j b (omega arith))
 
       by-checks : Dec (mapLength n ≤ length bytes) → Dec (length bytes ≡ frameLength n bytes) → Dec (Unpadded n bytes)
           → MovesExactly (Moved n bytes) (refuse Padding) (refuse FrameLength) was is
       by-checks (no short) _ _ =
           kept (λ m. short (m .map-fits)) (in-order-refused _ _ (fails-here short) ∙ sym (in-order-refused _ _ (fails-here short)))
       by-checks (yes fits) (no other) (no padded) =
-          moved (record { padded = one-stands n (8 * mapLength n) bytes padded; map-fits = fits; other-length = other })
+          let (j, a, b, c) = one-stands n (8 * mapLength n) bytes padded in
+          moved (record { padded = (j, omega arith, b, c); map-fits = fits; other-length = other })
           (in-order-refused _ _ (fits then fails-here padded)) (in-order-refused _ _ (fits then fails-here other))
       by-checks (yes fits) (yes long) (no padded) =
           kept (λ m. m .other-length long)

@@ -41,6 +41,13 @@ module _ (p n : ℕ) (bytes : List ℕ) where
   frame-short h = fails-here (λ l. omega arith)
 
   module _ (map : List ℕ) (count : ℕ) (c : Counted n bytes map count) where
+    bits : recordBits n map ≡ recordBits n bytes
+    bits = rw (c .mapped .built) (map-record-bits n bytes (c .mapped .fits))
+
+    pub multipliers-read : multipliersFrom map bytes (mapLength n) 0 n ≡ frameMultipliers n bytes
+    unfolding multipliersFrom frameMultipliers frameNumbers recordBits
+    multipliers-read = ap (λ bs. spread bs (numbersIn (standing bs) (drop (mapLength n) bytes))) bits
+
     count-whole : count ≡ standing (wholeMap n bytes)
     count-whole = c .counted ∙ rw (c .mapped .built) (standing-whole n bytes (c .mapped .fits) (c .small))
 
@@ -63,9 +70,6 @@ module _ (p n : ℕ) (bytes : List ℕ) where
       unpadded : Unpadded n bytes
       unpadded = clear-unpadded n bytes (c .mapped .fits) (c .small) (rw (c .mapped .built) at clear)
 
-      bits : recordBits n map ≡ recordBits n bytes
-      bits = rw (c .mapped .built) (map-record-bits n bytes (c .mapped .fits))
-
       pub count-records : count ≡ standing (recordBits n map)
       count-records = c .counted ∙ standing-first n map (c .small) clear
 
@@ -84,10 +88,6 @@ module _ (p n : ℕ) (bytes : List ℕ) where
       pub value-read : valueAfter bytes (mapLength n) count ≡ frameValue n bytes
       unfolding frameValue valueAfter
       value-read = rw count-bytes
-
-      pub multipliers-read : multipliersFrom map bytes (mapLength n) 0 n ≡ frameMultipliers n bytes
-      unfolding multipliersFrom frameMultipliers frameNumbers recordBits
-      multipliers-read = ap (λ bs. spread bs (numbersIn (standing bs) (drop (mapLength n) bytes))) bits
 
 -- ---- what reading comes to
 

@@ -15,7 +15,7 @@ use Rattle.codec.proofs.BigEndian.{bytes-length, number-of-bytes, bytes-of-numb
 use Rattle.frame.specs.Format.{mapLength, longest, stands, mapBytes, valueBytes, frameOf}
 use Rattle.frame.specs.Bitmap.{standing, recordBits, Unpadded}
 use Rattle.frame.specs.Reading.{accepted, frameLength, frameNumbers, frameMultipliers, frameValue, readFrame}
-use Rattle.frame.proofs.BitMaps.{unpadded-length}
+use Rattle.frame.proofs.BitMaps.{recordLength, unpadded-length}
 use Rattle.frame.proofs.Bytes.{one-value, value-bytes-length, numbers-length, numbers-of-values, values-of-numbers}
 use Rattle.frame.proofs.RoundMap.{map-length, bits-of-map, map-unpadded, map-of-bits, record-bits-length}
 use Rattle.frame.proofs.RoundNumbers.{kept, Positive, packed-kept, standing-kept, stands-length, spread-kept, kept-below, kept-positive}
@@ -137,13 +137,9 @@ accepted-numbers p n bytes xs v e =
       value-below = rw (← (s .value)) (t .value-below);
     }
 
--- the length that the records' bits tell
-abbrev RecordLength : ℕ → List ℕ → Type 0
-RecordLength n bytes = length bytes ≡ mapLength n + width * standing (recordBits n bytes) + width
-
--- the last bytes of a frame of this length are those of its value
+-- the last bytes of a frame of the length that its records' bits tell are those of its value
 value-bytes :
-    (n : ℕ) (bytes : List ℕ) → Below 256 bytes → RecordLength n bytes
+    (n : ℕ) (bytes : List ℕ) → Below 256 bytes → length bytes ≡ recordLength n bytes
     → bytesOf width (frameValue n bytes) ≡ drop (mapLength n + width * standing (recordBits n bytes)) bytes
 unfolding frameValue
 value-bytes n bytes small e =
@@ -153,7 +149,7 @@ value-bytes n bytes small e =
 
 -- and the bytes between are those of its numbers
 number-bytes :
-    (n : ℕ) (bytes : List ℕ) → Below 256 bytes → RecordLength n bytes
+    (n : ℕ) (bytes : List ℕ) → Below 256 bytes → length bytes ≡ recordLength n bytes
     → valueBytes (frameNumbers n bytes) ≡ take (width * standing (recordBits n bytes)) (drop (mapLength n) bytes)
 unfolding frameNumbers
 number-bytes n bytes small e =

@@ -50,11 +50,11 @@ pub data MovesExactly {X : Type 0} (M : Type 0) (seven six was is : X) : Type 0 
   moved : M → was ≡ seven → is ≡ six → MovesExactly M seven six was is
   kept : (M → ⊥) → is ≡ was → MovesExactly M seven six was is
 
--- read comes as far as such a frame where 1, 2 and 3 are passed
+-- where the answer of read moved: 1, 2 and 3 are passed, and the frame is such a one
 abbrev pub ReadMoved : (p n : ℕ) (bytes multipliers : List ℕ) → Type 0
 ReadMoved p n bytes lent = (IsModulus p × FrameSize n × (length lent ≡ n)) × Moved n bytes
 
--- and then it is refused by the other number, with the lent memory as it was either way
+-- there read gave 7 and gives 6, with the lent memory as it was either way
 abbrev pub ReadMoves : (p n : ℕ) (bytes multipliers : List ℕ) → Type 0
 ReadMoves p n bytes lent =
     MovesExactly (ReadMoved p n bytes lent) (untouched lent Padding) (untouched lent FrameLength) (earlierRead p n bytes lent)

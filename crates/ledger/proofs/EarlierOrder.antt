@@ -81,7 +81,8 @@ step-leaves ws (Call.take frame mix) = go (take-moves ws frame mix)
 step-leaves ws (Call.withdraw t) = refl
 step-leaves ws (Call.show marks numbers) = refl
 
-pub run-leaves : (ws : List ℕ) (cs : List Call) → run boardStep ws cs .state ≡ run earlierStep ws cs .state
+-- nor have those that a list leaves
+run-leaves : (ws : List ℕ) (cs : List Call) → run boardStep ws cs .state ≡ run earlierStep ws cs .state
 unfolding run
 run-leaves ws [] = refl
 run-leaves ws (c ∷ cs) = run-leaves (boardStep ws c .state) cs ∙ ap (λ s. run earlierStep s cs .state) (step-leaves ws c)

@@ -37,11 +37,11 @@ earlierStep ws (Call.take frame mix) =
 earlierStep ws (Call.withdraw t) = boardStep ws (Call.withdraw t)
 earlierStep ws (Call.show marks numbers) = boardStep ws (Call.show marks numbers)
 
--- take comes as far as such a frame where 11 and 3 are passed
+-- where the answer of take moved: 11 and 3 are passed, and the frame is one of those that the request names
 abbrev pub TakeMoved : (ws frame mix : List ℕ) → Type 0
 TakeMoved ws frame mix = IsBoard ws × ((length mix ≡ sizeWord ws) × Moved (sizeWord ws) frame)
 
--- and then it is refused by the other number, with board and mix as they were either way
+-- there take gave 7 and gives 6, with board and mix as they were either way
 abbrev pub TakeMoves : (ws frame mix : List ℕ) → Type 0
 TakeMoves ws frame mix =
     MovesExactly (TakeMoved ws frame mix) (untouched (ws, mix) Padding) (untouched (ws, mix) FrameLength) (earlierTakeCall ws frame mix)

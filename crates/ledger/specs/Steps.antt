@@ -1,4 +1,4 @@
--- The ledger's step for each call: its checks in 01's order, what is told, what the ledger then holds, and what becomes of the
+-- The ledger's step for each call: its checks in the order that 01 and 02 give, what is told, what the ledger then holds, and what becomes of the
 -- memory lent to the call.
 use mathlib.Core.List.{List, [], _∷_, _++_}
 use Prim.Native.Nat.{ℕ, zero, suc, _-_}

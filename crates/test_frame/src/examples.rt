@@ -1,5 +1,5 @@
-// Document 01's examples of frames that are not starred, and the order of the checks: where a function here names an order,
-// what one check refuses the later ones would refuse too. The starred example is a theorem, in frame/proofs/Examples.antt.
+// Document 01's examples of frames that are not starred, examples of padding as document 02's #101 has it, and the order of the
+// checks: where a function here names an order, what one check refuses the later ones would refuse too. The starred example is a theorem, in frame/proofs/Examples.antt.
 ghost use Prim.Native.Nat.{_≤_};
 use super::memory;
 use super::report;

@@ -1,5 +1,5 @@
-// Runs the calls on frames on stored cases and on document 01's examples. The cases are those of tools/frames.py, whose own
-// reader says what each answers:
+// Runs the calls on frames on stored cases, on document 01's examples and on some of document 02's #101. The cases are those of
+// tools/frames.py, whose own reader says what each answers:
 //
 //     python3 tools/frames.py > crates/test_frame/stdin
 //

@@ -117,7 +117,7 @@ returns-4 c =
     let good = subst (Judged _ _) (v .value .given .1) (j .judged .ensures) in
     let s = l .before .before .before .before .before .before in
     frame-accepted _ _ _ _ (frame-good _ _ _ _ _ t (clear e) (l .if2 .left) (good .0)) (good .1 ∙ value-read (s .args .p) _ _ _ _ t (clear e))
-    (rw (s .pre .3) at (f .fill .ensures) ∙ multipliers-read (s .args .p) _ _ _ _ t (clear e))
+    (rw (s .pre .3) at (f .fill .ensures) ∙ multipliers-read (s .args .p) _ _ _ _ t)
 
 returns-5 : tie.Need-returns-5
 unfolding mapLength width
