@@ -23,7 +23,8 @@ use Rattle.ledger.specs.Board.{IsBoard, modulusWord, sizeWord, entriesOf, ledge
 use Rattle.ledger.specs.Calls.{laidOut, takeCall}
 use Rattle.ledger.proofs.Parse.{board-layout}
 use Rattle.frame.proofs.Round.{Numbers, accepted-numbers}
-use Rattle.ledger.proofs.LedgerLaws.{take-length-first, take-rejected, take-accepted}
+use Rattle.ledger.proofs.LedgerSteps.{take-length-first}
+use Rattle.ledger.proofs.LedgerLaws.{take-rejected, take-accepted}
 use Rattle.ledger.proofs.WordsCalls.{take-on-board}
 use Rattle.board_solve.specs.Combination.{RowFor}
 use Rattle.board_solve.specs.Taking.{TakesRow}
@@ -93,7 +94,7 @@ module _ (ws : List ℕ) (b : IsBoard ws) (frame mix : List ℕ) where
 
   -- 3
   pub take-no-length : (length mix ≡ sizeWord ws → ⊥) → untouched (ws, mix) Length ≡ takeCall ws frame mix
-  take-no-length h = by-refusal Length (take-length-first (modulusWord ws) (b .prime) (sizeWord ws) (entriesOf ws) frame mix h)
+  take-no-length h = by-refusal Length (take-length-first (modulusWord ws) (b .prime) (sizeWord ws) (ledgerOf ws) frame mix h)
 
   module _ (l : length mix ≡ sizeWord ws) (lent written : List ℕ) (r : ReadAnswer)
       (told : outcome (readTold r) written ≡ readOutcome lent (readFrame (modulusWord ws) (sizeWord ws) frame)) where

@@ -17,7 +17,7 @@ use Rattle.algebra.proofs.Choice.{pick-by-elim, pick-by-same, pick-by-no}
 use Rattle.algebra.proofs.Sums as sums
 use Rattle.checks.specs.Prime.{IsModulus}
 use Rattle.checks.specs.declared.Refusal.{Refusal}
-use Rattle.checks.specs.declared.Refusal.the-variants.{Length, Conflict}
+use Rattle.checks.specs.declared.Refusal.the-variants.{Conflict}
 use Rattle.checks.specs.Told.{refused, results}
 use Rattle.checks.specs.Outcome.{outcome, untouched}
 use Rattle.checks.proofs.InOrder.{none-left, fails-here, in-order-done, in-order-refused, _and-then_}
@@ -63,12 +63,6 @@ module _ (p : ℕ) (ok : IsModulus p) (n : ℕ) (es : List Entry) where
   F = residues-field p (ok .prime)
 
   -- ---- take, by what reading finds
-
-  -- a mix of another length is refused by 3, whatever the frame
-  pub take-length-first : (frame mix : List ℕ) → (length mix ≡ n → ⊥)
-      → ledgerTake p ok n (ledger es) frame mix ≡ untouched (ledger es, mix) Length
-  unfolding ledgerTake
-  take-length-first frame mix h = in-order-refused _ _ (fails-here h)
 
   pub take-rejected : (frame mix : List ℕ) (k : Refusal) → length mix ≡ n → readFrame p n frame ≡ rejected k
       → ledgerTake p ok n (ledger es) frame mix ≡ untouched (ledger es, mix) k

@@ -16,7 +16,7 @@ use Rattle.checks.specs.declared.Refusal.the-variants.{Length, Conflict, Withdr
 use Rattle.checks.specs.InOrder.{passed, _else_, _⨾_, inOrder}
 use Rattle.checks.specs.Decide.{long?}
 use Rattle.checks.proofs.InOrder.{none-left, fails-here, in-order-done, in-order-refused, in-order-elim, in-order-map, in-order-then, kind-of-list, _and-then_}
-use Rattle.frame.specs.Reading.{frameChecks, Found, accepted, rejected, readFrame}
+use Rattle.frame.specs.Reading.{frameMultipliers, frameValue, frameChecks, Found, accepted, rejected, readFrame}
 use Rattle.frame.proofs.ReadChecks.{reading-elim}
 use Rattle.ledger.specs.Ledger.{entry, Ledger, ledger, InSpan, GivesValue}
 use Rattle.ledger.specs.Decide.{inSpan?, givesValue?}
@@ -42,13 +42,20 @@ module _ (p : ℕ) (ok : IsModulus p) (n : ℕ) (l : Ledger) where
   takeFound (accepted xs v) mix = takeAccepted p ok n l xs v mix
   takeFound (rejected k) mix = untouched (l, mix) k
 
+  -- a mix of another length is refused by 3, whatever the frame
+  pub take-length-first : (frame mix : List ℕ) → (length mix ≡ n → ⊥) → ledgerTake p ok n l frame mix ≡ untouched (l, mix) Length
+  unfolding ledgerTake
+  take-length-first frame mix h = in-order-refused _ _ (fails-here h)
+
   -- past the length of the mix
   pub take-found : (frame mix : List ℕ)
       → ledgerTake p ok n l frame mix
       ≡ inOrder (long? mix n else Length ⨾ passed) (λ _. takeFound (readFrame p n frame) mix) (untouched (l, mix))
   unfolding ledgerTake readFrame takeFound
   take-found frame mix =
-      in-order-then (long? mix n else Length ⨾ passed) (frameChecks p n frame) _ (untouched (l, mix))
+      let o = takeAccepted p ok n l (frameMultipliers n frame) (frameValue n frame) mix in
+      let lent : Ledger × List ℕ = (l, mix) in
+      in-order-then (long? mix n else Length ⨾ passed) (frameChecks p n frame) o (untouched lent)
       ∙ ap (λ x. inOrder (long? mix n else Length ⨾ passed) (λ _. x) (untouched (l, mix)))
       (sym (in-order-map (λ f. takeFound f mix) (frameChecks p n frame) _ _))
 
