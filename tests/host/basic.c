@@ -1,4 +1,5 @@
-/* Document 01's examples, and frames with padding as document 02's #101 has them, through the header alone. One line per example group; ends with 0 only if all of them hold. */
+/* Document 01's examples, and frames with padding as document 02's #101 has them, through the header alone. One line per
+ * example group; ends with 0 only if all of them hold. */
 #include "dauneroad.h"
 
 #include <stdio.h>

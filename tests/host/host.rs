@@ -1,5 +1,5 @@
-//! The host tests: libdauneroad.a against the model of documents 01 and 02 in model.rs, on seeded random, exhaustive and damaged
-//! inputs. One line per group; ends with 0 only if no group disagrees.
+//! The host tests: libdauneroad.a against the model of documents 01 and 02 in model.rs, on seeded random, exhaustive and
+//! damaged inputs. One line per group; ends with 0 only if no group disagrees.
 
 mod boards;
 mod calls;

@@ -1,7 +1,7 @@
 //! The calls of document 01, with document 02's #101, written a second time from their words alone and as plainly as they
-//! allow: tables are lists of rows, residues are u64, and a board is a list of frames. Each function here gets the memory that a call is lent, changes
-//! it as the document says, and answers the number that C sees. What was met on the way is counted, so that the end of the
-//! run can ask whether every refusal and every order of two refusals was reached.
+//! allow: tables are lists of rows, residues are u64, and a board is a list of frames. Each function here gets the memory
+//! that a call is lent, changes it as the documents say, and answers the number that C sees. What was met on the way is
+//! counted, so that the end of the run can ask whether every refusal and every order of two refusals was reached.
 
 use crate::draw::{BAD, PRIMES};
 use std::cell::RefCell;

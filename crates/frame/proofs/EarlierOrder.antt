@@ -1,11 +1,12 @@
 -- Request 101 moves what it says and nothing else: in its order and in that of 01 reading comes to the same, but for a frame with a
 -- standing bit at n or above that is at least as long as its map and not of the length counted over it, which 01 refuses by 7 and
--- the request by 6. By cases of the three checks; without padding both count the same bits. Then of the call, behind the checks before these.
+-- the request by 6. By cases of the three checks; without padding both count the same bits. Then of the call, behind the checks that
+-- come before these.
 use mathlib.Core.Path.{_≡_, refl, sym, ap, _∙_}
 use mathlib.Core.Logic.{_↔_}
 use mathlib.Core.Bool.{Bool, true, false, true≢false}
 use mathlib.Core.List.{List}
-use Prim.Native.Nat.{ℕ, zero, suc, _*_, _≤_, _<_}
+use Prim.Native.Nat.{ℕ, zero, suc, _+_, _*_, _≤_, _<_}
 use native.Mathlib.Decide.{decLe, decLt}
 use native.Mathlib.Omega.{arith}
 use lib.IntN.{pos}
@@ -19,8 +20,9 @@ use Rattle.checks.specs.Decide.{long?}
 use Rattle.checks.specs.Sizes.{frameSizes}
 use Rattle.checks.proofs.InOrder.{none-left, fails-here, in-order-done, in-order-refused, in-order-elim, in-order-map, in-order-then, not-both}
 use Rattle.checks.proofs.InOrder.{_and-then_, _then_}
+use Rattle.codec.specs.BigEndian.{width}
 use Rattle.frame.specs.Format.{mapLength}
-use Rattle.frame.specs.Bitmap.{bitAt, ClearFrom, Unpadded}
+use Rattle.frame.specs.Bitmap.{bitAt, standing, wholeMap, ClearFrom, StandsFrom, Unpadded}
 use Rattle.frame.specs.Reading.{frameLength, frameMultipliers, frameValue, frameChecks}
 use Rattle.frame.specs.Decide.{unpadded?}
 use Rattle.frame.specs.Calls.{readCall}
@@ -67,16 +69,12 @@ module _ {X F M : Type 0} {seven six : X} (front : Checks Refusal) (refuse : Ref
 
 -- ---- the two orders
 
--- one of the first k bits stands at n or above
-abbrev OneStands : (n k : ℕ) → List ℕ → Type 0
-OneStands n k bytes = (j : ℕ) × (n ≤ j) × (j < k) × (bitAt bytes j ≡ true)
-
--- and it does where not all of them are clear
-one-stands : (n k : ℕ) (bytes : List ℕ) → (ClearFrom n k bytes → ⊥) → OneStands n k bytes
+-- where not all of the first k bits are clear from n on, one of them stands
+one-stands : (n k : ℕ) (bytes : List ℕ) → (ClearFrom n k bytes → ⊥) → StandsFrom n k bytes
 one-stands n zero bytes f = absurd (f (λ j h. absurd (omega arith)))
 one-stands n (suc k) bytes f = last (decLe n k) (bitAt bytes k) refl (one-stands n k bytes)
   where
-    up : OneStands n k bytes → OneStands n (suc k) bytes
+    up : StandsFrom n k bytes → StandsFrom n (suc k) bytes
     up (j, a, b, c) = (j, a, omega arith, c)
 
     one-more : (n ≤ k → bitAt bytes k ≡ false) → ClearFrom n k bytes → ClearFrom n (suc k) bytes
@@ -86,10 +84,15 @@ one-stands n (suc k) bytes f = last (decLe n k) (bitAt bytes k) refl (one-stands
         go (yes b) = g i b l
         go (no b) = let e : i ≡ k = omega arith in rw e (clear (omega arith))
 
-    last : Dec (n ≤ k) → (b : Bool) → bitAt bytes k ≡ b → ((ClearFrom n k bytes → ⊥) → OneStands n k bytes) → OneStands n (suc k) bytes
+    last : Dec (n ≤ k) → (b : Bool) → bitAt bytes k ≡ b → ((ClearFrom n k bytes → ⊥) → StandsFrom n k bytes) → StandsFrom n (suc k) bytes
     last (yes h) true e below = (k, h, omega arith, e)
     last (yes h) false e below = up (below (λ g. f (one-more (λ _. e) g)))
     last (no h) b e below = up (below (λ g. f (one-more (λ l. absurd (h l)) g)))
+
+-- the reader's length is the one that the request counts
+counted-length : (n : ℕ) (bytes : List ℕ) → frameLength n bytes ≡ mapLength n + width * standing (wholeMap n bytes) + width
+unfolding frameLength width
+counted-length n bytes = omega arith
 
 module _ {X : Type 0} (p n : ℕ) (bytes : List ℕ) (done : X) (refuse : Refusal → X) where
   abbrev was : X
@@ -115,10 +118,10 @@ module _ {X : Type 0} (p n : ℕ) (bytes : List ℕ) (done : X) (refuse : Refusa
           kept (λ m. short (m .map-fits)) (in-order-refused _ _ (fails-here short) ∙ sym (in-order-refused _ _ (fails-here short)))
       by-checks (yes fits) (no other) (no padded) =
           let (j, a, b, c) = one-stands n (8 * mapLength n) bytes padded in
-          moved (record { padded = (j, omega arith, b, c); map-fits = fits; other-length = other })
+          moved (record { padded = (j, omega arith, b, c); map-fits = fits; other-length = λ e. other (e ∙ sym (counted-length n bytes)) })
           (in-order-refused _ _ (fits then fails-here padded)) (in-order-refused _ _ (fits then fails-here other))
       by-checks (yes fits) (yes long) (no padded) =
-          kept (λ m. m .other-length long)
+          kept (λ m. m .other-length (long ∙ counted-length n bytes))
           (in-order-refused _ _ (fits then long then fails-here padded) ∙ sym (in-order-refused _ _ (fits then fails-here padded)))
       by-checks (yes fits) (no other) (yes clear) =
           kept (λ m. stands m clear)

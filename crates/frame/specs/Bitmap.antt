@@ -1,7 +1,7 @@
 -- 01, "Frame bytes": the bits of a bit map, and which of them stand. "The bit map is worked on as eight bytes, whichever n is
 -- given": such a map is built from the front of a frame or from multipliers.
 use mathlib.Core.Path.{_≡_}
-use mathlib.Core.Bool.{Bool, false}
+use mathlib.Core.Bool.{Bool, true, false}
 use mathlib.Core.List.{List, [], _∷_, _++_}
 use Prim.Native.Nat.{ℕ, zero, suc, _+_, _-_, _*_, _/_, _%_, _^_, _≤_, _<_}
 use lib.ListN.{getD, take, replicate}
@@ -36,6 +36,10 @@ standing (b ∷ bs) = choose b 1 0 + standing bs
 -- no bit of the first k stands at n or above
 abbrev pub ClearFrom : (n k : ℕ) → List ℕ → Type 0
 ClearFrom n k bytes = (j : ℕ) → j < k → n ≤ j → bitAt bytes j ≡ false
+
+-- a bit of the first k stands at n or above
+abbrev pub StandsFrom : (n k : ℕ) → List ℕ → Type 0
+StandsFrom n k bytes = (j : ℕ) × (n ≤ j) × (j < k) × (bitAt bytes j ≡ true)
 
 -- no bit of a frame's map stands at n or above
 abbrev pub Unpadded : ℕ → List ℕ → Type 0

@@ -2,9 +2,8 @@
 -- length, gave 7 and now gives 6. No other answer moves." Reading in the order of 01, as it was before that request, is defined here
 -- for this sentence and for nothing else.
 use mathlib.Core.Path.{_≡_}
-use mathlib.Core.Bool.{true}
 use mathlib.Core.List.{List}
-use Prim.Native.Nat.{ℕ, _+_, _*_, _≤_, _<_}
+use Prim.Native.Nat.{ℕ, _+_, _*_, _≤_}
 use native.Mathlib.Decide.{decLe}
 use lib.IntN.{pos}
 use lib.ListN.{length}
@@ -19,8 +18,8 @@ use Rattle.checks.specs.Decide.{long?}
 use Rattle.checks.specs.Sizes.{frameSizes}
 use Rattle.codec.specs.BigEndian.{width}
 use Rattle.frame.specs.Format.{mapLength}
-use Rattle.frame.specs.Bitmap.{bitAt, recordBits, standing}
-use Rattle.frame.specs.Reading.{frameLength, frameNumbers, frameMultipliers, frameValue, numberChecks}
+use Rattle.frame.specs.Bitmap.{recordBits, wholeMap, standing, StandsFrom}
+use Rattle.frame.specs.Reading.{frameNumbers, frameMultipliers, frameValue, numberChecks}
 use Rattle.frame.specs.Decide.{unpadded?}
 use Rattle.frame.specs.Calls.{readCall}
 
@@ -39,11 +38,12 @@ earlierRead p n bytes lent =
     inOrder (andThen (frameSizes p n) (λ _. long? lent n else Length ⨾ earlierChecks p n bytes))
     (λ _. outcome (gives (pos (frameValue n bytes))) (frameMultipliers n bytes)) (untouched lent)
 
--- the frames of which the request speaks
+-- the frames of which the request speaks. The length is written out as the request counts it, so that the theorem tells a reader's
+-- definition that counts otherwise
 pub record Moved (n : ℕ) (bytes : List ℕ) : Type 0 where
-  pub padded : (j : ℕ) × (n ≤ j) × (j < 8 * mapLength n) × (bitAt bytes j ≡ true)
+  pub padded : StandsFrom n (8 * mapLength n) bytes
   pub map-fits : mapLength n ≤ length bytes
-  pub other-length : length bytes ≡ frameLength n bytes → ⊥
+  pub other-length : length bytes ≡ mapLength n + width * standing (wholeMap n bytes) + width → ⊥
 
 -- "gave 7 and now gives 6. No other answer moves.": what was and what is differ exactly where M holds, and there by these two
 pub data MovesExactly {X : Type 0} (M : Type 0) (seven six was is : X) : Type 0 where
