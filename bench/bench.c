@@ -500,7 +500,7 @@ static uint32_t take(hall *h, const uint8_t *frame, size_t length) {
     return dauneroad_take(h->board, WORDS, frame, length, h->mix, MOST);
 }
 
-static uint32_t show(hall *h) { return dauneroad_show(h->board, WORDS, h->marks, MOST, h->numbers, MOST); }
+static uint32_t show(hall *h) { return dauneroad_show(h->board, WORDS, DAUNEROAD_LOW(h->p), h->marks, MOST, h->numbers, MOST); }
 
 /* FLINT's take from scratch. Composed: nmod_mat_rank tests that the k standing rows are independent, nmod_mat_can_solve tells
  * whether the new row is a combination of them and which; then the same combination of the values. Sparing: one LU tells the
@@ -664,7 +664,7 @@ static volatile int verdict;
 
 static void run_signed(void *data) {
     int32_t record;
-    verdict = dauneroad_signed(*(uint32_t *)data, 0, &record) == 0;
+    verdict = dauneroad_signed(*(uint32_t *)data, 0, 0, &record) == 0;
 }
 
 static void run_is_prime(void *data) { verdict = n_is_prime(*(uint32_t *)data); }
@@ -674,7 +674,7 @@ static void race_primes(double seconds) {
     for (int i = 0; i < 10; i++) {
         int32_t record;
         uint32_t p = EITHER[i];
-        must((dauneroad_signed(p, 0, &record) == 0) == n_is_prime(p), "the prime test");
+        must((dauneroad_signed(p, 0, 0, &record) == 0) == n_is_prime(p), "the prime test");
     }
     for (int i = 0; i < 4; i++) {
         uint32_t p = TESTED[i];
@@ -772,7 +772,7 @@ static int count(const char *call) {
         uint32_t multipliers[MOST];
         p = 251; /* whose test is next to nothing */
         for (int i = 0; i < MOST; i++) records[i] = i, multipliers[i] = below(p);
-        must(dauneroad_seal(p, MOST, records, MOST, multipliers, MOST, &value) == 0, call);
+        must(dauneroad_seal(p, MOST, DAUNEROAD_LOW(p), records, MOST, multipliers, MOST, &value) == 0, call);
     } else if (!strcmp(call, "take") || !strcmp(call, "repeat") || !strcmp(call, "show")) {
         furnish(&h, p, 0);
         lay_out(&h, MOST - 1);

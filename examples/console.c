@@ -12,6 +12,7 @@
  *
  *   console 1 | sheet
  *
+ * Records are sealed with the old low end, with which the sheet program shows them.
  * The line loses about a quarter of the frames. Some are doubled, and relays send sums of two frames that they have heard, also
  * of frames that the printer has not. What happened is told on standard error. */
 #include <errno.h>
@@ -66,7 +67,7 @@ static void draw_records(void) {
     for (uint32_t j = 0; j < n; j++) {
         uint32_t v = below(p);
         if (one_in(8)) v = one_in(2) ? p / 2 : p / 2 + 1 < p ? p / 2 + 1 : 0; /* now and then an end of the range */
-        accepted(dauneroad_signed(p, v, &records[j]), "signed");
+        accepted(dauneroad_signed(p, DAUNEROAD_LOW(p), v, &records[j]), "signed");
     }
 }
 
@@ -79,7 +80,7 @@ static void draw_frame(frame *f) {
             f->multipliers[j] = stands ? below(p) : 0;
             standing += f->multipliers[j] != 0;
         }
-    accepted(dauneroad_seal(p, n, records, n, f->multipliers, n, &f->value), "seal");
+    accepted(dauneroad_seal(p, n, DAUNEROAD_LOW(p), records, n, f->multipliers, n, &f->value), "seal");
 }
 
 /* What a relay sends that has heard two frames. */
@@ -138,7 +139,7 @@ int main(int argc, char **argv) {
     if (n == 0) stop("a heat has 1 to 64 records");
     if (frames == 0) frames = 4 * n + 32;
     int32_t zero;
-    accepted(dauneroad_signed(p, 0, &zero), "the modulus is");
+    accepted(dauneroad_signed(p, 0, 0, &zero), "the modulus is");
     draw_records();
 
     if (path) {

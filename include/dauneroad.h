@@ -33,7 +33,7 @@ enum {
     DAUNEROAD_MODULUS = 1,         /* p is no prime from 2 to 2147483647 */
     DAUNEROAD_SIZE = 2,            /* m or n above 64; n of 0 for frames and open */
     DAUNEROAD_LENGTH = 3,          /* a lent slice's length is not the one named */
-    DAUNEROAD_NUMBER = 4,          /* a number not below p, or a record out of range */
+    DAUNEROAD_NUMBER = 4,          /* a number or a low end not below p, or a record out of range */
     DAUNEROAD_INSOLUBLE = 5,       /* solve: no solution; u says why */
     DAUNEROAD_FRAME_LENGTH = 6,    /* the frame is shorter or longer than its map says */
     DAUNEROAD_PADDING = 7,         /* a bit of the map stands at n or above, in a frame as long as its map says */
@@ -50,6 +50,11 @@ enum { DAUNEROAD_NEW = 0, DAUNEROAD_REPEAT = 100, DAUNEROAD_DONE = 200 };
 #define DAUNEROAD_LONGEST_FRAME 268
 #define DAUNEROAD_BOARD_WORDS(n) (3 + (size_t)(n) * ((size_t)(n) + 1))
 
+/* A low end, from 0 to p - 1, says how far below 0 records go: with it they run from -low to p - 1 - low. Seal and show with the same
+ * one; docs/C.md says how to choose it. This is the one of document 01, (p - 1)/2 rounded down, with which records run from
+ * -(p - 1)/2 to p/2: code that passes it behaves as before there were others, and the sheet program prints with it. */
+#define DAUNEROAD_LOW(p) (((uint32_t)(p) - 1) / 2)
+
 /* ---- the board ---- */
 
 /* Writes a fresh board for n records modulo p; board_len is DAUNEROAD_BOARD_WORDS(n). 0 when done; refuses 1, 2, 3. */
@@ -64,10 +69,10 @@ uint32_t dauneroad_take(uint32_t *board, size_t board_len, const uint8_t *frame,
 /* Drops the last t frames that were taken as new. 200 + the count that still stands; refuses 11, 10. */
 uint32_t dauneroad_withdraw(uint32_t *board, size_t board_len, uint32_t t);
 
-/* Marks each record (n marks, 1 or 0) that the standing frames settle, and gives its signed number (n numbers; 0 where the
- * mark is 0). 200 + the frames still missing; refuses 11, 3. */
-uint32_t dauneroad_show(const uint32_t *board, size_t board_len, uint32_t *marks, size_t marks_len, int32_t *numbers,
-                        size_t numbers_len);
+/* Marks each record (n marks, 1 or 0) that the standing frames settle, and gives its signed number, from -low to p - 1 - low
+ * (n numbers; 0 where the mark is 0). 200 + the frames still missing; refuses 11, 3, then 4, low of p or more. */
+uint32_t dauneroad_show(const uint32_t *board, size_t board_len, uint32_t low, uint32_t *marks, size_t marks_len,
+                        int32_t *numbers, size_t numbers_len);
 
 /* ---- frames ---- */
 
@@ -82,17 +87,18 @@ uint32_t dauneroad_read(uint32_t p, uint32_t n, const uint8_t *frame, size_t fra
 uint32_t dauneroad_write(uint32_t p, uint32_t n, const uint32_t *multipliers, size_t multipliers_len, uint32_t value,
                          uint8_t *bytes, size_t bytes_len);
 
-/* The value of a frame: the sum of products of n records and n multipliers modulo p, to *value. 0; refuses 1, 2, 3, 4. */
-uint32_t dauneroad_seal(uint32_t p, uint32_t n, const int32_t *records, size_t records_len, const uint32_t *multipliers,
-                        size_t multipliers_len, uint32_t *value);
+/* The value of a frame: the sum of products of n records, from -low to p - 1 - low, and n multipliers modulo p, to *value. 0;
+ * refuses 1, 2, 3, 4 (the multipliers first, then low, then the records). */
+uint32_t dauneroad_seal(uint32_t p, uint32_t n, uint32_t low, const int32_t *records, size_t records_len,
+                        const uint32_t *multipliers, size_t multipliers_len, uint32_t *value);
 
 /* ---- signed readings ---- */
 
-/* The signed reading of the residue v, from -(p - 1)/2 to p/2, to *record. 0; refuses 1, 4. */
-uint32_t dauneroad_signed(uint32_t p, uint32_t v, int32_t *record);
+/* The signed reading of the residue v, to *record: v where v < p - low, else v - p. 0; refuses 1, 4 (low first, then v). */
+uint32_t dauneroad_signed(uint32_t p, uint32_t low, uint32_t v, int32_t *record);
 
-/* The residue that a record is read from, to *residue. 0; refuses 1, 4. */
-uint32_t dauneroad_residue(uint32_t p, int32_t record, uint32_t *residue);
+/* The residue that a record, from -low to p - 1 - low, is read from, to *residue. 0; refuses 1, 4 (low first, then the record). */
+uint32_t dauneroad_residue(uint32_t p, uint32_t low, int32_t record, uint32_t *residue);
 
 /* ---- tables: m rows of n numbers, stored row by row ---- */
 

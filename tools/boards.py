@@ -3,13 +3,15 @@
 
 A model of its own plays lists of take, withdraw and show calls: a ledger of frames, with Gaussian elimination on lists of
 Python numbers, straight from document 01's section "The board and its ledger", frames read as document 02's #101 has it. Frames
-are lost, doubled, summed, falsified and malformed, lent memory has wrong lengths now and then, boards are tampered with. Numbers
-are four bytes each, most significant first, signed ones in two's complement:
+are lost, doubled, summed, falsified and malformed, lent memory has wrong lengths now and then, boards are tampered with. The first
+40 lists show with the old low end, (p - 1)/2 rounded down; the others with any of 0, 1, the old one, p - 2, p - 1, p, 2^32 - 1 and
+others (document 02, #106), where a number is the one from -L to p - 1 - L that is congruent to the record. Numbers are four bytes
+each, most significant first, signed ones in two's complement:
 
     p n, then calls, then 0
     1 frame length, frame (one number a byte), mix length, mix; answer, count; the mix after; the board after
     2 t; answer; the board after
-    3 marks length, marks, numbers length, numbers; answer; marks after, numbers after
+    3 low end, marks length, marks, numbers length, numbers; answer; marks after, numbers after
     4 place, word: the test writes that word into the board (tampering), nothing is answered
     a p of 0 ends the file
 
@@ -162,12 +164,14 @@ class Board:
         self.lay(entries[:len(entries) - t])
         return 200 + len(entries) - t
 
-    def show(self, marks, numbers):
+    def show(self, low, marks, numbers):
         if not is_board(self.words):
             return 11, marks, numbers
         p, n, entries = self.ledger()
         if len(marks) != n or len(numbers) != n:
             return 3, marks, numbers
+        if low >= p:
+            return 4, marks, numbers
         rows = [r for r, _ in entries]
         out_marks, out_numbers = [], []
         for j in range(n):
@@ -179,7 +183,7 @@ class Board:
             else:
                 v = sum(x * w for x, (_, w) in zip(u, entries)) % p
                 out_marks.append(1)
-                out_numbers.append(v if 2 * v <= p else v - p)
+                out_numbers.append((v + low) % p - low)
         return 200 + n - len(entries), out_marks, out_numbers
 
 
@@ -187,7 +191,15 @@ def words_of(xs):
     return struct.pack('>%dI' % len(xs), *[x % 4294967296 for x in xs])
 
 
-def history(rng, p, n, calls, out, count):
+def old_low(rng, p):
+    return (p - 1) // 2
+
+
+def any_low(rng, p):
+    return rng.choice([0, 1, (p - 1) // 2, p - 2, p - 1, p, 4294967295, rng.randrange(p), rng.randrange(p), rng.randrange(2 ** 32)])
+
+
+def history(rng, p, n, calls, out, count, low_end=old_low):
     board = Board(p, n)
     out += words_of([p, n])
     records = [rng.randrange(p) for _ in range(n)]
@@ -238,8 +250,9 @@ def history(rng, p, n, calls, out, count):
             q = n if rng.random() < 0.9 else rng.randrange(n + 3)
             marks = [rng.randrange(2 ** 32) for _ in range(m)]
             numbers = [rng.randrange(-2 ** 31, 2 ** 31) for _ in range(q)]
-            out += words_of([3, m] + marks + [q] + numbers)
-            answer, marks, numbers = board.show(marks, numbers)
+            low = low_end(rng, p)
+            out += words_of([3, low, m] + marks + [q] + numbers)
+            answer, marks, numbers = board.show(low, marks, numbers)
             out += words_of([answer] + marks + numbers)
         else:
             # a word of the board is changed, one call sees it, and it is put back
@@ -269,6 +282,9 @@ def main():
     history(rng, 2147483647, 33, 24, out, count)
     history(rng, 251, 64, 12, out, count)
     history(rng, 2147483629, 64, 12, out, count)
+    for n in range(1, 9):
+        for p in PRIMES:
+            history(rng, p, n, 16 + 2 * n, out, count, any_low)
     out += words_of([0])
     sys.stdout.buffer.write(bytes(out))
     print('answers', dict(sorted(count.items())), file=sys.stderr)

@@ -10,6 +10,11 @@ significant byte first:
     p (4 bytes), n (1), length of the frame (2), the frame, answer (4): 0 or the refusal's number;
     where the answer is 0 the value (4) and n multipliers (4 each)
 
+n of 0 ends the frames. Behind them come cases of sealing with low ends (document 02, #106): 0, 1, the old one, p - 2, p - 1, p and
+2^32 - 1, with multipliers and records that are good, or of which some are not. Signed numbers are in two's complement:
+
+    p (4 bytes), n (1), low end (4), n records (4 each), n multipliers (4 each), answer (4), value (4), which is 0 where refused
+
 n of 0 ends the file.
 
   tools/frames.py [SEED]      (seed 2027 makes the stored file)
@@ -117,6 +122,24 @@ def ordered_frames(rng):
         yield from ((6, p, n, f) for f in (short, whole[:-1], short[:size], whole + b'\0', short[:size] + too_long))
 
 
+def seals(rng):
+    """One for each low end, p and some n: all numbers good, or one multiplier, one record or both bad, at any place."""
+    for n in (1, 2, 3, 8, 63, 64):
+        for p in PRIMES:
+            for low in sorted({0, 1, (p - 1) // 2, p - 2, p - 1, p, 2 ** 32 - 1}):
+                bad = rng.choice(['', '', 'multiplier', 'record', 'both'])
+                bottom = min(low, p - 1)
+                records = [rng.choice([-bottom, p - 1 - bottom, rng.randrange(-bottom, p - bottom)]) for _ in range(n)]
+                xs = [rng.randrange(p) for _ in range(n)]
+                if bad in ('record', 'both'):
+                    outside = [z for z in (-bottom - 1, p - bottom, -2 ** 31, 2 ** 31 - 1) if not -bottom <= z < p - bottom and z < 2 ** 31]
+                    records[rng.randrange(n)] = rng.choice(outside)
+                if bad in ('multiplier', 'both'):
+                    xs[rng.randrange(n)] = rng.choice([p, p + 1, 2 ** 32 - 1])
+                good = low < p and all(x < p for x in xs) and all(-low <= z < p - low for z in records)
+                yield p, n, low, records, xs, 0 if good else 4, sum(z * x for z, x in zip(records, xs)) % p if good else 0
+
+
 def main():
     rng = random.Random(int(sys.argv[1]) if len(sys.argv) > 1 else 2027)
     out = bytearray()
@@ -130,8 +153,14 @@ def main():
             assert frame_of(n, answer[2], answer[1]) == frame
             out += struct.pack('>I', answer[1]) + b''.join(struct.pack('>I', x) for x in answer[2])
     out += struct.pack('>IB', 0, 0)
+    sealed = [0] * 12
+    for p, n, low, records, xs, answer, value in seals(rng):
+        sealed[answer] += 1
+        out += struct.pack('>IBI%di%dIII' % (n, n), p, n, low, *records, *xs, answer, value)
+    out += struct.pack('>IB', 0, 0)
     sys.stdout.buffer.write(bytes(out))
     print('answers', {k: c for k, c in enumerate(count) if c}, file=sys.stderr)
+    print('sealed', {k: c for k, c in enumerate(sealed) if c}, file=sys.stderr)
 
 
 main()

@@ -96,12 +96,12 @@ static void moduli_and_sizes(void)
     static uint32_t a[65 * 65], d[65 * 65], columns[65], rows[65], board[DAUNEROAD_BOARD_WORDS(65)];
     int32_t record = 0;
     for (size_t i = 0; i < LEN(bad); i++) {
-        EXPECT(dauneroad_signed(bad[i], 0, &record) == DAUNEROAD_MODULUS);
+        EXPECT(dauneroad_signed(bad[i], 0, 0, &record) == DAUNEROAD_MODULUS);
         EXPECT(dauneroad_open(bad[i], 1, board, DAUNEROAD_BOARD_WORDS(1)) == DAUNEROAD_MODULUS);
         EXPECT(dauneroad_kernel(bad[i], 1, 1, a, 1, d, 1) == DAUNEROAD_MODULUS);
     }
-    EXPECT(dauneroad_signed(2, 0, &record) == 0);
-    EXPECT(dauneroad_signed(2147483647, 0, &record) == 0);
+    EXPECT(dauneroad_signed(2, 0, 0, &record) == 0);
+    EXPECT(dauneroad_signed(2147483647, 0, 0, &record) == 0);
     EXPECT(dauneroad_quasiinverse(7, 64, 64, a, 4096, d, 4096, columns, 64, rows, 64) == 200);
     EXPECT(dauneroad_quasiinverse(7, 65, 64, a, 4160, d, 4160, columns, 64, rows, 65) == DAUNEROAD_SIZE);
     EXPECT(dauneroad_quasiinverse(7, 64, 65, a, 4160, d, 4160, columns, 65, rows, 64) == DAUNEROAD_SIZE);
@@ -174,6 +174,28 @@ static uint32_t take(uint32_t *board, uint32_t a, uint32_t b, uint32_t c, uint32
     return dauneroad_take(board, DAUNEROAD_BOARD_WORDS(3), bytes, answer - DAUNEROAD_DONE, mix, 3);
 }
 
+/* The records 5, 0 and 6 of a full board modulo 7, with each low end; with 7 and more nothing is written, and 3 comes first. */
+static void shown_from_low_ends(const uint32_t *board)
+{
+    static const int32_t want[][3] = {{5, 0, 6}, {5, 0, -1}, {-2, 0, -1}, {-2, 0, -1}, {-2, 0, -1}, {-2, 0, -1}, {-2, 0, -1}};
+    static const uint32_t none[] = {7, 8, 4294967295};
+    uint32_t marks[3] = {9, 9, 9};
+    int32_t numbers[3] = {9, 9, 9};
+    for (uint32_t low = 0; low < 7; low++) {
+        EXPECT(dauneroad_show(board, DAUNEROAD_BOARD_WORDS(3), low, marks, 3, numbers, 3) == 200);
+        SAME(marks, {1, 1, 1});
+        EXPECT(memcmp(numbers, want[low], sizeof numbers) == 0);
+    }
+    for (size_t i = 0; i < LEN(none); i++) {
+        marks[0] = marks[1] = marks[2] = 9;
+        numbers[0] = numbers[1] = numbers[2] = 9;
+        EXPECT(dauneroad_show(board, DAUNEROAD_BOARD_WORDS(3), none[i], marks, 3, numbers, 3) == DAUNEROAD_NUMBER);
+        EXPECT(dauneroad_show(board, DAUNEROAD_BOARD_WORDS(3), none[i], marks, 3, numbers, 2) == DAUNEROAD_LENGTH);
+        SAME(marks, {9, 9, 9});
+        EXPECT(numbers[0] == 9 && numbers[1] == 9 && numbers[2] == 9);
+    }
+}
+
 static void sheet(void)
 {
     uint32_t board[DAUNEROAD_BOARD_WORDS(3)], before[DAUNEROAD_BOARD_WORDS(3)], mix[3] = {9, 9, 9}, marks[3];
@@ -183,7 +205,7 @@ static void sheet(void)
     EXPECT(take(board, 0, 1, 3, 4, mix) == DAUNEROAD_NEW);
     SAME(mix, {9, 9, 9});
     /* columns 0 and 1 are independent, and yet no record is settled */
-    EXPECT(dauneroad_show(board, LEN(board), marks, 3, numbers, 3) == 201);
+    EXPECT(dauneroad_show(board, LEN(board), DAUNEROAD_LOW(7), marks, 3, numbers, 3) == 201);
     SAME(marks, {0, 0, 0});
     EXPECT(numbers[0] == 0 && numbers[1] == 0 && numbers[2] == 0);
     EXPECT(take(board, 1, 3, 3, 2, mix) == DAUNEROAD_REPEAT);
@@ -192,29 +214,39 @@ static void sheet(void)
     SAME(mix, {1, 1, 0});
     memcpy(before, board, sizeof board);
     EXPECT(take(board, 0, 0, 1, 6, mix) == DAUNEROAD_NEW);
-    EXPECT(dauneroad_show(board, LEN(board), marks, 3, numbers, 3) == 200);
+    EXPECT(dauneroad_show(board, LEN(board), DAUNEROAD_LOW(7), marks, 3, numbers, 3) == 200);
     SAME(marks, {1, 1, 1});
     EXPECT(numbers[0] == -2 && numbers[1] == 0 && numbers[2] == -1);
     SAME(board, {7, 3, 3, 1, 2, 0, 5, 0, 1, 3, 4, 0, 0, 1, 6});
+    shown_from_low_ends(board);
     EXPECT(dauneroad_withdraw(board, LEN(board), 1) == 202);
     SAME_AS(board, before);
-    EXPECT(dauneroad_show(board, LEN(board), marks, 2, numbers, 3) == DAUNEROAD_LENGTH);
+    EXPECT(dauneroad_show(board, LEN(board), DAUNEROAD_LOW(7), marks, 2, numbers, 3) == DAUNEROAD_LENGTH);
     group("the sheet of five frames: -2, 0, -1, missing 0");
 }
 
 static void sealing(void)
 {
-    const int32_t records[] = {-2, 0, -1};
+    const int32_t records[] = {-2, 0, -1}, below[] = {-2, -7, -1};
     const uint32_t rows[][3] = {{1, 2, 0}, {0, 1, 3}, {1, 3, 3}, {0, 0, 1}}, values[] = {5, 4, 2, 6};
     uint32_t value = 99;
     for (size_t i = 0; i < LEN(values); i++) {
-        EXPECT(dauneroad_seal(7, 3, records, 3, rows[i], 3, &value) == 0);
+        EXPECT(dauneroad_seal(7, 3, DAUNEROAD_LOW(7), records, 3, rows[i], 3, &value) == 0);
+        EXPECT(value == values[i]);
+        /* -2 is a record from the low end 2 on, and the low end is not in the value */
+        EXPECT(dauneroad_seal(7, 3, 6, records, 3, rows[i], 3, &value) == 0);
+        EXPECT(value == values[i]);
+        EXPECT(dauneroad_seal(7, 3, 1, records, 3, rows[i], 3, &value) == DAUNEROAD_NUMBER);
+        /* 7 is no low end; if it were one, the records would be -7 to -1 */
+        EXPECT(dauneroad_seal(7, 3, 7, below, 3, rows[i], 3, &value) == DAUNEROAD_NUMBER);
         EXPECT(value == values[i]);
     }
     const int32_t outside[] = {-2, 4, -1};
     value = 99;
-    EXPECT(dauneroad_seal(7, 3, outside, 3, rows[0], 3, &value) == DAUNEROAD_NUMBER);
+    EXPECT(dauneroad_seal(7, 3, DAUNEROAD_LOW(7), outside, 3, rows[0], 3, &value) == DAUNEROAD_NUMBER);
     EXPECT(value == 99);
+    EXPECT(dauneroad_seal(7, 3, 2, outside, 3, rows[0], 3, &value) == 0);
+    EXPECT(value == 6); /* -2 + 2 * 4 */
     group("sealing the sheet's frames");
 }
 
@@ -233,19 +265,51 @@ static void readings(void)
     for (size_t i = 0; i < LEN(table); i++) {
         int32_t record = 55;
         uint32_t residue = 55;
-        EXPECT(dauneroad_signed(table[i].p, table[i].residue, &record) == 0);
+        const uint32_t p = table[i].p, low = DAUNEROAD_LOW(p);
+        EXPECT(dauneroad_signed(p, low, table[i].residue, &record) == 0);
         EXPECT(record == table[i].record);
-        EXPECT(dauneroad_residue(table[i].p, table[i].record, &residue) == 0);
+        EXPECT(dauneroad_residue(p, low, table[i].record, &residue) == 0);
         EXPECT(residue == table[i].residue);
-        EXPECT(dauneroad_signed(table[i].p, table[i].p, &record) == DAUNEROAD_NUMBER);
+        EXPECT(dauneroad_signed(p, low, p, &record) == DAUNEROAD_NUMBER);
+        EXPECT(dauneroad_signed(p, p, table[i].residue, &record) == DAUNEROAD_NUMBER);
         EXPECT(record == table[i].record);
     }
     for (size_t i = 0; i < LEN(outside); i++) {
         uint32_t residue = 55;
-        EXPECT(dauneroad_residue(outside[i].p, outside[i].record, &residue) == DAUNEROAD_NUMBER);
+        EXPECT(dauneroad_residue(outside[i].p, DAUNEROAD_LOW(outside[i].p), outside[i].record, &residue) == DAUNEROAD_NUMBER);
         EXPECT(residue == 55);
     }
     group("signed readings, both ends of the range");
+}
+
+static void low_ends(void)
+{
+    static const struct {
+        uint32_t p, low, residue;
+        int32_t record;
+    } table[] = {{2, 0, 1, 1}, {2, 1, 1, -1}, {2, 1, 0, 0}, {7, 0, 6, 6}, {7, 1, 5, 5}, {7, 1, 6, -1}, {7, 5, 1, 1}, {7, 5, 2, -5},
+                 {7, 6, 0, 0}, {7, 6, 1, -6}, {2147483647, 0, 2147483646, 2147483646}, {2147483647, 2147483646, 1, -2147483646},
+                 {2147483647, 2147483645, 1, 1}, {2147483647, 2147483645, 2, -2147483645}, {2147483647, 1, 2147483645, 2147483645}};
+    static const struct {
+        uint32_t p, low;
+        int32_t record;
+    } outside[] = {{2, 0, -1}, {2, 1, 1}, {7, 0, 7}, {7, 0, -1}, {7, 6, 1}, {7, 6, -7}, {7, 7, -1}, {7, 4294967295, -1},
+                   {2147483647, 0, -1}, {2147483647, 0, 2147483647}, {2147483647, 2147483646, 1},
+                   {2147483647, 2147483646, -2147483647}, {2147483647, 2147483646, INT32_MIN}, {2147483647, 2147483647, -1}};
+    for (size_t i = 0; i < LEN(table); i++) {
+        int32_t record = 55;
+        uint32_t residue = 55;
+        EXPECT(dauneroad_signed(table[i].p, table[i].low, table[i].residue, &record) == 0);
+        EXPECT(record == table[i].record);
+        EXPECT(dauneroad_residue(table[i].p, table[i].low, table[i].record, &residue) == 0);
+        EXPECT(residue == table[i].residue);
+    }
+    for (size_t i = 0; i < LEN(outside); i++) {
+        uint32_t residue = 55;
+        EXPECT(dauneroad_residue(outside[i].p, outside[i].low, outside[i].record, &residue) == DAUNEROAD_NUMBER);
+        EXPECT(residue == 55);
+    }
+    group("signed readings from 0, 1, p - 2 and p - 1");
 }
 
 int main(void)
@@ -260,6 +324,7 @@ int main(void)
     sheet();
     sealing();
     readings();
+    low_ends();
     printf("basic: done\n");
     return failures != 0;
 }

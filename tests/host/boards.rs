@@ -90,8 +90,14 @@ impl History {
         number
     }
 
-    fn show(&mut self, g: &mut Group, marks_len: usize, numbers_len: usize) -> (u32, Vec<u32>, Vec<i32>) {
-        calls::show(g, &self.words, Some(&self.ledger), marks_len, numbers_len)
+    fn show_from(&self, g: &mut Group, low: u32, marks_len: usize, numbers_len: usize) -> (u32, Vec<u32>, Vec<i32>) {
+        calls::show(g, &self.words, Some(&self.ledger), low, marks_len, numbers_len)
+    }
+
+    /// With any low end, seldom one that is none.
+    fn show(&self, g: &mut Group, marks_len: usize, numbers_len: usize) {
+        let low = any_low(&mut g.rng, self.ledger.p);
+        self.show_from(g, low, marks_len, numbers_len);
     }
 
     /// One call, whichever; after it the words are the ledger's.
@@ -130,12 +136,13 @@ impl History {
 
     /// Show, against a trial of all assignments.
     fn show_by_trial(&mut self, g: &mut Group) {
-        let (_, marks, numbers) = self.show(g, self.ledger.n, self.ledger.n);
-        let trial = self.ledger.settled_by_trial();
         let p = self.ledger.p;
+        let low = low_end(&mut g.rng, p);
+        let (_, marks, numbers) = self.show_from(g, low, self.ledger.n, self.ledger.n);
+        let trial = self.ledger.settled_by_trial();
         let agree = trial.iter().enumerate().all(|(j, settled)| match settled {
             None => marks[j] == 0 && numbers[j] == 0,
-            Some(v) => marks[j] == 1 && numbers[j] == model::reading(p, *v as u32),
+            Some(v) => marks[j] == 1 && numbers[j] == model::reading(p, low, *v as u32),
         });
         g.demand(agree, || format!("the board {:?} shows {marks:?} {numbers:?}, by trial {trial:?}", self.words));
     }
@@ -143,14 +150,15 @@ impl History {
     /// The missing count is enough, and no less is: of the single records exactly so many are new, and then all is settled.
     fn settle(&mut self, g: &mut Group) {
         let n = self.ledger.n;
-        let (answer, _, _) = self.show(g, n, n);
+        let low = low_end(&mut g.rng, self.ledger.p);
+        let (answer, _, _) = self.show_from(g, low, n, n);
         let mut new = 0;
         for j in 0..n {
             let unit: Vec<u32> = (0..n).map(|i| (i == j) as u32).collect();
             let frame = self.true_frame(&unit);
             new += (self.take(g, &frame, n) == 0) as u32;
         }
-        let (after, marks, _) = self.show(g, n, n);
+        let (after, marks, _) = self.show_from(g, low, n, n);
         g.demand(200 + new == answer && after == 200 && marks.iter().all(|x| *x == 1), || {
             format!("missing {answer}, but {new} new frames settled {marks:?}, then {after}: {:?}", self.words)
         });
@@ -204,7 +212,8 @@ pub fn boards(g: &mut Group) {
         let ledger = any_ledger(&mut g.rng, p, n, k);
         let records = (0..n).map(|_| g.rng.under(p) as u64).collect();
         let mut board = History { words: ledger.words(), ledger, records, sent: Vec::new() };
-        board.show(g, n, n);
+        let low = low_end(&mut g.rng, p);
+        board.show_from(g, low, n, n);
         let frames =
             [board.summed(&mut g.rng, 0), board.summed(&mut g.rng, 1), board.true_frame(&multipliers(&mut g.rng, p, n))];
         let answers = frames.map(|frame| board.take(g, &frame, n));
@@ -267,22 +276,24 @@ pub fn restored(g: &mut Group, rounds: usize) {
     }
 }
 
-/// A heat as the console and the printer play it, with the library alone: records are drawn, sealed, written, taken and shown.
+/// A heat as the console and the printer play it, with the library alone: records are drawn, sealed, written, taken and shown, with
+/// the low end that they were sealed with and with another one.
 pub fn heats(g: &mut Group, rounds: usize) {
     for round in 0..rounds {
         let p = any_p(&mut g.rng);
         let n = if round % 16 == 0 { 64 } else { 1 + g.rng.below(24) };
+        let low = low_end(&mut g.rng, p);
         let records: Vec<i32> = (0..n)
             .map(|_| {
                 let v = number(&mut g.rng, p);
-                calls::signed(g, p, v).1
+                calls::signed(g, p, low, v).1
             })
             .collect();
         let mut history = History::begin(g, p, n);
         let mut missing = n as u32;
         for _ in 0..20 * n + 40 {
             let numbers = multipliers(&mut g.rng, p, n);
-            let (_, value) = calls::seal(g, p, n as u32, &records, &numbers);
+            let (_, value) = calls::seal(g, p, n as u32, low, &records, &numbers);
             let (len, bytes) = calls::write(g, p, n as u32, &numbers, value, 268);
             let frame = &bytes[..len as usize - 200];
             if g.rng.once_in(3) {
@@ -294,10 +305,18 @@ pub fn heats(g: &mut Group, rounds: usize) {
                 missing -= (answer == 0) as u32;
             }
             if n <= 24 || missing < 2 {
-                let (answer, marks, numbers) = history.show(g, n, n);
+                let (answer, marks, numbers) = history.show_from(g, low, n, n);
                 let told = (0..n).all(|j| marks[j] == 0 || numbers[j] == records[j]);
                 g.demand(answer == 200 + missing && told, || {
-                    format!("shown {answer} {marks:?} {numbers:?} of {records:?} modulo {p}, missing {missing}")
+                    format!("shown {answer} {marks:?} {numbers:?} of {records:?} modulo {p}, low {low}, missing {missing}")
+                });
+                // with another low end: the number of its range that is congruent to the record
+                let other = low_end(&mut g.rng, p);
+                let (_, again, others) = history.show_from(g, other, n, n);
+                let congruent = |x: i32, y: i32| (x as i64 - y as i64) % p as i64 == 0;
+                let told = |j: usize| model::in_range(p, other, others[j]) && congruent(others[j], records[j]);
+                g.demand(again == marks && (0..n).all(|j| marks[j] == 0 || told(j)), || {
+                    format!("shown {again:?} {others:?} with low end {other}, of {records:?} modulo {p} with {low}")
                 });
             }
             if missing == 0 {
@@ -383,6 +402,7 @@ pub fn tampered(rng: &mut Rng, ledger: &Ledger) -> Vec<u32> {
 
 pub fn on_words(g: &mut Group, words: &[u32], frame: &[u8], mix_len: usize, t: u32, marks_len: usize) {
     let ledger = Ledger::from_words(words);
+    let low = any_low(&mut g.rng, words.first().map_or(7, |&p| p.max(1)));
     for call in ["take", "withdraw", "show"] {
         match &ledger {
             Err(why) => {
@@ -394,6 +414,9 @@ pub fn on_words(g: &mut Group, words: &[u32], frame: &[u8], mix_len: usize, t: u
                 if words.get(1).is_some_and(|&n| n as usize != if call == "take" { mix_len } else { marks_len }) {
                     met(call, "11 before 3");
                 }
+                if call == "show" && words.first().is_some_and(|&p| low >= p) {
+                    met(call, "11 before 4");
+                }
                 if words.get(2).is_some_and(|&k| t > k) {
                     met(call, "11 before 10");
                 }
@@ -402,7 +425,7 @@ pub fn on_words(g: &mut Group, words: &[u32], frame: &[u8], mix_len: usize, t: u
         }
     }
     let mut ledger = ledger.ok();
-    calls::show(g, words, ledger.as_ref(), marks_len, marks_len);
+    calls::show(g, words, ledger.as_ref(), low, marks_len, marks_len);
     calls::take(g, words, ledger.clone().as_mut(), frame, mix_len);
     calls::withdraw(g, words, ledger.as_mut(), t);
 }

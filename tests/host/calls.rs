@@ -11,7 +11,8 @@ extern "C" {
     ) -> u32;
     fn dauneroad_withdraw(board: *mut u32, board_len: usize, t: u32) -> u32;
     fn dauneroad_show(
-        board: *const u32, board_len: usize, marks: *mut u32, marks_len: usize, numbers: *mut i32, numbers_len: usize,
+        board: *const u32, board_len: usize, low: u32, marks: *mut u32, marks_len: usize, numbers: *mut i32,
+        numbers_len: usize,
     ) -> u32;
     fn dauneroad_read(
         p: u32, n: u32, frame: *const u8, frame_len: usize, multipliers: *mut u32, multipliers_len: usize, value: *mut u32,
@@ -20,11 +21,11 @@ extern "C" {
         p: u32, n: u32, multipliers: *const u32, multipliers_len: usize, value: u32, bytes: *mut u8, bytes_len: usize,
     ) -> u32;
     fn dauneroad_seal(
-        p: u32, n: u32, records: *const i32, records_len: usize, multipliers: *const u32, multipliers_len: usize,
+        p: u32, n: u32, low: u32, records: *const i32, records_len: usize, multipliers: *const u32, multipliers_len: usize,
         value: *mut u32,
     ) -> u32;
-    fn dauneroad_signed(p: u32, v: u32, record: *mut i32) -> u32;
-    fn dauneroad_residue(p: u32, record: i32, residue: *mut u32) -> u32;
+    fn dauneroad_signed(p: u32, low: u32, v: u32, record: *mut i32) -> u32;
+    fn dauneroad_residue(p: u32, low: u32, record: i32, residue: *mut u32) -> u32;
     fn dauneroad_quasiinverse(
         p: u32, m: u32, n: u32, a: *const u32, a_len: usize, d: *mut u32, d_len: usize, column_marks: *mut u32,
         column_marks_len: usize, row_marks: *mut u32, row_marks_len: usize,
@@ -134,6 +135,7 @@ pub fn show(
     g: &mut Group,
     words: &[u32],
     ledger: Option<&Ledger>,
+    low: u32,
     marks_len: usize,
     numbers_len: usize,
 ) -> (u32, Vec<u32>, Vec<i32>) {
@@ -143,16 +145,18 @@ pub fn show(
     let (mut want_marks, mut want_numbers) = (marks.entry().to_vec(), numbers.entry().to_vec());
     let want = match ledger {
         None => 11,
-        Some(ledger) => ledger.show(&mut want_marks, &mut want_numbers),
+        Some(ledger) => ledger.show(low, &mut want_marks, &mut want_numbers),
     };
-    let got =
-        unsafe { dauneroad_show(board.ptr(), board.len(), marks.mut_ptr(), marks.len(), numbers.mut_ptr(), numbers.len()) };
+    let got = unsafe {
+        let (marks, marks_len) = (marks.mut_ptr(), marks.len());
+        dauneroad_show(board.ptr(), board.len(), low, marks, marks_len, numbers.mut_ptr(), numbers.len())
+    };
     g.calls += 1;
     let good = got == want && board.untouched() && marks.holds(&want_marks) && numbers.holds(&want_numbers);
     g.demand(good, || {
         format!(
-            "show on {words:?} with {marks_len} marks and {numbers_len} numbers: library {got} {:?} {:?} guards {} {} {}, \
-             document {want} {want_marks:?} {want_numbers:?}",
+            "show on {words:?} with low end {low}, {marks_len} marks and {numbers_len} numbers: library {got} {:?} {:?} guards {} \
+             {} {}, document {want} {want_marks:?} {want_numbers:?}",
             marks.body(),
             numbers.body(),
             board.untouched(),
@@ -209,21 +213,21 @@ pub fn write(g: &mut Group, p: u32, n: u32, multipliers: &[u32], value: u32, byt
     (got, bytes.body().to_vec())
 }
 
-pub fn seal(g: &mut Group, p: u32, n: u32, records: &[i32], multipliers: &[u32]) -> (u32, u32) {
+pub fn seal(g: &mut Group, p: u32, n: u32, low: u32, records: &[i32], multipliers: &[u32]) -> (u32, u32) {
     let lent_records = Lent::read_only(&mut g.rng, records);
     let lent_multipliers = Lent::read_only(&mut g.rng, multipliers);
     let mut value = Lent::any(&mut g.rng, 1);
     let mut want_value = value.entry().to_vec();
-    let want = model::seal(p, n, records, multipliers, &mut want_value);
+    let want = model::seal(p, n, low, records, multipliers, &mut want_value);
     let got = unsafe {
         let (multipliers, len) = (lent_multipliers.ptr(), lent_multipliers.len());
-        dauneroad_seal(p, n, lent_records.ptr(), lent_records.len(), multipliers, len, value.mut_ptr())
+        dauneroad_seal(p, n, low, lent_records.ptr(), lent_records.len(), multipliers, len, value.mut_ptr())
     };
     g.calls += 1;
     let good = got == want && lent_records.untouched() && lent_multipliers.untouched() && value.holds(&want_value);
     g.demand(good, || {
         format!(
-            "seal(p {p}, n {n}, records {records:?}, multipliers {multipliers:?}): library {got} {:?} guards {} {} {}, \
+            "seal(p {p}, n {n}, low {low}, records {records:?}, multipliers {multipliers:?}): library {got} {:?} guards {} {} {}, \
              document {want} {want_value:?}",
             value.body(),
             lent_records.untouched(),
@@ -234,26 +238,29 @@ pub fn seal(g: &mut Group, p: u32, n: u32, records: &[i32], multipliers: &[u32])
     (got, value.body()[0])
 }
 
-pub fn signed(g: &mut Group, p: u32, v: u32) -> (u32, i32) {
+pub fn signed(g: &mut Group, p: u32, low: u32, v: u32) -> (u32, i32) {
     let mut record = Lent::any(&mut g.rng, 1);
     let mut want_record = record.entry().to_vec();
-    let want = model::signed(p, v, &mut want_record);
-    let got = unsafe { dauneroad_signed(p, v, record.mut_ptr()) };
+    let want = model::signed(p, low, v, &mut want_record);
+    let got = unsafe { dauneroad_signed(p, low, v, record.mut_ptr()) };
     g.calls += 1;
     g.demand(got == want && record.holds(&want_record), || {
-        format!("signed(p {p}, v {v}): library {got} {:?}, document {want} {want_record:?}", record.body())
+        format!("signed(p {p}, low {low}, v {v}): library {got} {:?}, document {want} {want_record:?}", record.body())
     });
     (got, record.body()[0])
 }
 
-pub fn residue(g: &mut Group, p: u32, record: i32) -> (u32, u32) {
+pub fn residue(g: &mut Group, p: u32, low: u32, record: i32) -> (u32, u32) {
     let mut residue = Lent::any(&mut g.rng, 1);
     let mut want_residue = residue.entry().to_vec();
-    let want = model::residue(p, record, &mut want_residue);
-    let got = unsafe { dauneroad_residue(p, record, residue.mut_ptr()) };
+    let want = model::residue(p, low, record, &mut want_residue);
+    let got = unsafe { dauneroad_residue(p, low, record, residue.mut_ptr()) };
     g.calls += 1;
     g.demand(got == want && residue.holds(&want_residue), || {
-        format!("residue(p {p}, record {record}): library {got} {:?}, document {want} {want_residue:?}", residue.body())
+        format!(
+            "residue(p {p}, low {low}, record {record}): library {got} {:?}, document {want} {want_residue:?}",
+            residue.body()
+        )
     });
     (got, residue.body()[0])
 }
@@ -372,10 +379,10 @@ pub fn empty_slices(g: &mut Group) {
             dauneroad_open(7, 1, none, 0),
             dauneroad_take(none, 0, bytes, 0, none, 0),
             dauneroad_withdraw(none, 0, 0),
-            dauneroad_show(none, 0, none, 0, signed, 0),
+            dauneroad_show(none, 0, 0, none, 0, signed, 0),
             dauneroad_read(7, 1, bytes, 0, none, 0, &mut value),
             dauneroad_write(7, 1, none, 0, 0, bytes, 0),
-            dauneroad_seal(7, 1, signed, 0, none, 0, &mut value),
+            dauneroad_seal(7, 1, 0, signed, 0, none, 0, &mut value),
         ]
     };
     let want = [200, 200, 200, 3, 11, 11, 11, 3, 3, 3];

@@ -49,6 +49,27 @@ pub fn number(rng: &mut Rng, p: u32) -> u32 {
     }
 }
 
+/// A low end: one of the ends, the old one, or anything between.
+pub fn low_end(rng: &mut Rng, p: u32) -> u32 {
+    match rng.below(8) {
+        0 => 0,
+        1 => 1 % p,
+        2 => p.saturating_sub(2),
+        3 => p - 1,
+        4 | 5 => model::old_low(p),
+        _ => rng.under(p),
+    }
+}
+
+/// The same, seldom one that is none.
+pub fn any_low(rng: &mut Rng, p: u32) -> u32 {
+    if rng.once_in(8) {
+        too_large(rng, p)
+    } else {
+        low_end(rng, p)
+    }
+}
+
 pub fn table(rng: &mut Rng, p: u32, m: usize, n: usize) -> Vec<u32> {
     let mut a = vec![0; m * n];
     if m * n == 0 {

@@ -26,54 +26,62 @@ pub fn moduli(g: &mut Group, rounds: usize) {
     }
     for p in list {
         let v = number(&mut g.rng, p.max(1));
-        calls::signed(g, p, v);
+        let low = low_end(&mut g.rng, p.max(1));
+        calls::signed(g, p, low, v);
         if g.rng.once_in(16) {
-            calls::residue(g, p, v as i32);
+            calls::residue(g, p, low, v as i32);
             calls::open(g, p, 1, 5);
         }
     }
 }
 
+/// A reading, and back.
+fn read_back(g: &mut Group, p: u32, low: u32, v: u32) {
+    let (number, record) = calls::signed(g, p, low, v);
+    if number == 0 {
+        let back = calls::residue(g, p, low, record);
+        g.demand(back == (0, v), || format!("p {p}, low {low}: {v} reads as {record}, which goes back as {back:?}"));
+    }
+}
+
+/// A record's residue, and back.
+fn back_read(g: &mut Group, p: u32, low: u32, record: i64) {
+    let record = record.clamp(i32::MIN as i64, i32::MAX as i64) as i32;
+    let (number, v) = calls::residue(g, p, low, record);
+    if number == 0 {
+        let back = calls::signed(g, p, low, v);
+        g.demand(back == (0, record), || format!("p {p}, low {low}: {record} goes to {v}, which reads as {back:?}"));
+    }
+}
+
 pub fn readings(g: &mut Group) {
-    // whole ranges and their surroundings
+    // whole ranges and their surroundings, for every low end of small moduli and some of others
     for p in [2u32, 3, 5, 7, 11, 13, 251, 257, 1009] {
-        for v in 0..p + 3 {
-            let (number, record) = calls::signed(g, p, v);
-            if number == 0 {
-                let back = calls::residue(g, p, record);
-                g.demand(back == (0, v), || format!("p {p}: {v} reads as {record}, which goes back as {back:?}"));
-            }
-        }
-        let (low, high) = (-((p as i32 - 1) / 2), p as i32 / 2);
-        for record in low - 3..=high + 3 {
-            let (number, v) = calls::residue(g, p, record);
-            if number == 0 {
-                let back = calls::signed(g, p, v);
-                g.demand(back == (0, record), || format!("p {p}: {record} goes to {v}, which reads as {back:?}"));
-            }
+        let lows: Vec<u32> = if p < 20 { (0..p + 3).collect() } else { vec![0, 1, p / 2, p / 2 - 1, p - 2, p - 1, p, p + 1] };
+        for low in lows {
+            (0..p + 3).for_each(|v| read_back(g, p, low, v));
+            (-(low as i64) - 3..p as i64 - low as i64 + 3).for_each(|record| back_read(g, p, low, record));
         }
     }
     for p in PRIMES.into_iter().chain(BAD) {
-        let half = p / 2;
-        for v in
-            [0, 1, 2, half.saturating_sub(1), half, half + 1, p.saturating_sub(1), p, p.saturating_add(1), 1 << 31, u32::MAX]
-        {
-            calls::signed(g, p, v);
-        }
-        let (low, high) = (-((p as i64 - 1) / 2), p as i64 / 2);
-        for record in [low - 1, low, low + 1, -1, 0, 1, high - 1, high, high + 1, i32::MIN as i64, i32::MAX as i64, -(p as i64)]
-        {
-            calls::residue(g, p, record.clamp(i32::MIN as i64, i32::MAX as i64) as i32);
+        let (wide, half) = (p as i64, p / 2);
+        let near = [0, 1, half.saturating_sub(1), half, p.saturating_sub(2), p.saturating_sub(1), p, p.saturating_add(1), u32::MAX];
+        for low in near {
+            let bound = p.saturating_sub(low);
+            let ends = [0, 1, bound.saturating_sub(1), bound, bound.saturating_add(1), p.saturating_sub(1), p, 1 << 31, u32::MAX];
+            ends.into_iter().for_each(|v| read_back(g, p, low, v));
+            let (least, most) = (-(low as i64), wide - 1 - low as i64);
+            let ends = [least - 1, least, least + 1, -1, 0, 1, most - 1, most, most + 1, i32::MIN as i64, i32::MAX as i64, -wide];
+            ends.into_iter().for_each(|record| back_read(g, p, low, record));
         }
     }
     for _ in 0..4000 {
         let p = any_p(&mut g.rng);
+        let low = any_low(&mut g.rng, p);
         let v = g.rng.under(p);
-        let (_, record) = calls::signed(g, p, v);
-        let back = calls::residue(g, p, record);
-        g.demand(back == (0, v), || format!("p {p}: {v} reads as {record}, which goes back as {back:?}"));
+        read_back(g, p, low, v);
         let any = g.rng.next() as i32;
-        calls::residue(g, p, any);
+        calls::residue(g, p, low, any);
     }
 }
 
@@ -123,7 +131,8 @@ pub fn frame_refusals(g: &mut Group, rounds: usize) {
         let mut n = 1 + g.rng.below(most);
         let mut numbers = multipliers(&mut g.rng, p, n);
         let mut value = number(&mut g.rng, p);
-        let mut records: Vec<i32> = (0..n).map(|_| model::reading(p, g.rng.under(p))).collect();
+        let low = any_low(&mut g.rng, p);
+        let mut records: Vec<i32> = (0..n).map(|_| model::reading(p, low, g.rng.under(p))).collect();
         let mut frame = model::frame_of(&numbers, value);
         if g.rng.once_in(2) {
             frame = damaged(&mut g.rng, p, n, &frame);
@@ -145,10 +154,9 @@ pub fn frame_refusals(g: &mut Group, rounds: usize) {
             numbers[at] = too_large(&mut g.rng, p);
         }
         if n > 0 && g.rng.once_in(3) {
-            let high = p as i64 / 2 + 1;
-            let low = -((p as i64 - 1) / 2) - 1;
+            let (above, below) = (p as i64 - low as i64, -(low as i64) - 1);
             let at = g.rng.below(n);
-            let record = g.rng.pick(&[high, low, i32::MIN as i64, i32::MAX as i64]);
+            let record = g.rng.pick(&[above, below, i32::MIN as i64, i32::MAX as i64]);
             records[at] = record.clamp(i32::MIN as i64, i32::MAX as i64) as i32;
         }
         if g.rng.once_in(4) {
@@ -158,7 +166,7 @@ pub fn frame_refusals(g: &mut Group, rounds: usize) {
         calls::read(g, p, told, &frame, len);
         calls::write(g, p, told, &resized(numbers.clone(), len, 0), value, bytes_len);
         let records_len = length(&mut g.rng, n);
-        calls::seal(g, p, told, &resized(records, records_len, 0), &resized(numbers, len, 0));
+        calls::seal(g, p, told, low, &resized(records, records_len, 0), &resized(numbers, len, 0));
     }
 }
 
@@ -215,13 +223,14 @@ pub fn seals(g: &mut Group, rounds: usize) {
         let p = any_p(&mut g.rng);
         let n = if round < 128 { 1 + round % 64 } else { 1 + g.rng.below(64) };
         let ends = g.rng.once_in(4);
+        let low = low_end(&mut g.rng, p);
         let records: Vec<i32> = (0..n)
             .map(|_| {
-                let v = if ends { g.rng.pick(&[p / 2, (p / 2 + 1) % p, p - 1, 0]) } else { number(&mut g.rng, p) };
-                model::reading(p, v)
+                let v = if ends { g.rng.pick(&[p - 1 - low, (p - low) % p, p - 1, 0]) } else { number(&mut g.rng, p) };
+                model::reading(p, low, v)
             })
             .collect();
         let numbers = if ends { vec![p - 1; n] } else { multipliers(&mut g.rng, p, n) };
-        calls::seal(g, p, n as u32, &records, &numbers);
+        calls::seal(g, p, n as u32, low, &records, &numbers);
     }
 }

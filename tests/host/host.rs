@@ -38,9 +38,11 @@ fn fenced(g: &mut Group) {
 
 fn readings_few(g: &mut Group) {
     for p in PRIMES.into_iter().chain(BAD) {
-        for v in [0, 1, p / 2, p.saturating_sub(1), p] {
-            calls::signed(g, p, v);
-            calls::residue(g, p, v as i32);
+        for low in [0, p / 2, p.saturating_sub(1), p] {
+            for v in [0, 1, p / 2, p.saturating_sub(1), p] {
+                calls::signed(g, p, low, v);
+                calls::residue(g, p, low, v as i32);
+            }
         }
     }
 }
@@ -66,12 +68,16 @@ fn at_once(g: &mut Group) {
     }
 }
 
-/// What must have been met, call by call; document 01 has no other refusal for these calls.
+/// What must have been met, call by call; documents 01 and 02 have no other refusal for these calls.
 fn required() -> Vec<String> {
     let mut labels = Vec::new();
     let mut of = |call: &str, list: &str| labels.extend(list.split(", ").map(|what| format!("{call} {what}")));
-    of("signed", "done, 1 alone, 4 alone, 1 before 4");
-    of("residue", "done, 1 alone, 4 alone, 1 before 4");
+    for call in ["signed", "residue"] {
+        of(call, "done, 1 alone, 4 alone, 1 before 4, 4 low, 4 number, 4 low and number");
+    }
+    for call in ["signed", "residue", "seal", "show"] {
+        of(call, "low 0, low 1, low old, low p - 2, low p - 1, low p, low most");
+    }
     of("open", "done, 1 alone, 2 alone, 3 alone, 1 before 2, 1 before 3, 2 before 3, 3 board below, 3 board above");
     let sizes = "1 alone, 2 alone, 3 alone, 4 alone, 1 before 2, 1 before 3, 1 before 4, 2 before 3, 2 before 4, 3 before 4";
     for call in ["write", "seal", "quasiinverse", "kernel", "solve"] {
@@ -81,16 +87,19 @@ fn required() -> Vec<String> {
     of("read", "done, 1 alone, 2 alone, 3 alone, 1 before 2, 1 before 3, 2 before 3, 3 multipliers below, 3 multipliers above");
     of(
         "write",
-        "all 268, 3 multipliers below, 3 multipliers above, 3 bytes below, 3 bytes above, 4 multipliers, 4 value, 4 both",
+        "all 268, 3 multipliers below, 3 multipliers above, 3 bytes below, 3 bytes above, 4 multipliers, 4 value, 4 multipliers and \
+         value",
     );
-    of("seal", "3 records below, 3 records above, 3 multipliers below, 3 multipliers above, 4 records, 4 multipliers, 4 both");
+    of("seal", "3 records below, 3 records above, 3 multipliers below, 3 multipliers above, 4 records, 4 multipliers, 4 low");
+    of("seal", "4 multipliers and low, 4 multipliers and records, 4 low and records, 4 multipliers and low and records");
     let frame = "6 cut map, 6 short, 6 long, 6 short with padding, 6 long with padding, 6 with a zero, 6 with a large number, \
                  7 alone, 7 with a bad number, 8 alone, 8 before 4, 4 before 8, 4 multiplier, 4 value";
     of("read", frame);
     of("take", frame);
     of("take", "new, repeat, 9, 3, 3 mix below, 3 mix above, 3 before the frame, 11, 11 before 3");
     of("withdraw", "done, all, 10, 10 by one, 11, 11 before 10");
-    of("show", "done, some settled, 3, 3 marks below, 3 marks above, 3 numbers below, 3 numbers above, 11, 11 before 3");
+    of("show", "done, some settled, 3 alone, 3 marks below, 3 marks above, 3 numbers below, 3 numbers above, 4 alone");
+    of("show", "3 before 4, 11, 11 before 3, 11 before 4");
     for call in ["take", "withdraw", "show"] {
         of(call, "11 no header, 11 modulus, 11 size, 11 length, 11 count, 11 entry, 11 later word, 11 dependent");
     }

@@ -1,4 +1,4 @@
-//! The calls of document 01, with document 02's #101, written a second time from their words alone and as plainly as they
+//! The calls of document 01, with document 02's #101 and #106, written a second time from their words alone and as plainly as they
 //! allow: tables are lists of rows, residues are u64, and a board is a list of frames. Each function here gets the memory
 //! that a call is lent, changes it as the documents say, and answers the number that C sees. What was met on the way is
 //! counted, so that the end of the run can ask whether every refusal and every order of two refusals was reached.
@@ -121,34 +121,64 @@ pub fn dot(p: u64, x: impl Iterator<Item = u64>, y: impl Iterator<Item = u64>) -
     (x.zip(y).map(|(a, b)| a as u128 * b as u128).sum::<u128>() % p as u128) as u64
 }
 
-pub fn reading(p: u32, v: u32) -> i32 {
-    if 2 * v as u64 <= p as u64 {
-        v as i32
-    } else {
-        (v as i64 - p as i64) as i32
+/// The low end that document 01 reads with.
+pub fn old_low(p: u32) -> u32 {
+    (p - 1) / 2
+}
+
+/// v if v < p - low, otherwise v - p.
+pub fn reading(p: u32, low: u32, v: u32) -> i32 {
+    let (p, low, v) = (p as i64, low as i64, v as i64);
+    (if v < p - low { v } else { v - p }) as i32
+}
+
+/// From -low to p - 1 - low.
+pub fn in_range(p: u32, low: u32, record: i32) -> bool {
+    let (p, low, record) = (p as i64, low as i64, record as i64);
+    -low <= record && record <= p - 1 - low
+}
+
+/// Notes the low ends that every call is to meet, behind all checks before 4 and with a modulus that tells them apart.
+fn note_low(call: &str, p: u32, low: u32, number: Option<u32>) {
+    if p > 7 && number.unwrap_or(4) == 4 {
+        let named = [("0", 0), ("1", 1), ("old", old_low(p)), ("p - 2", p - 2), ("p - 1", p - 1), ("p", p), ("most", u32::MAX)];
+        named.iter().filter(|named| named.1 == low).for_each(|named| met(call, &format!("low {}", named.0)));
     }
 }
 
-pub fn in_range(p: u32, record: i32) -> bool {
-    let (p, record) = (p as i64, record as i64);
-    -((p - 1) / 2) <= record && record <= p / 2
+/// Notes which of the numbers that a 4 is about are the bad ones.
+fn note_four(call: &str, numbers: &[(&str, bool)]) {
+    let bad: Vec<&str> = numbers.iter().filter(|number| number.1).map(|number| number.0).collect();
+    met(call, &format!("4 {}", bad.join(" and ")));
 }
 
 fn residue_of(p: u32, record: i32) -> u32 {
     (record as i64).rem_euclid(p as i64) as u32
 }
 
-pub fn signed(p: u32, v: u32, record: &mut [i32]) -> u32 {
-    if let Some(number) = first("signed", &[(1, no_modulus("signed", p)), (4, v >= p)]) {
+pub fn signed(p: u32, low: u32, v: u32, record: &mut [i32]) -> u32 {
+    let (bad_low, bad) = (low >= p, v >= p);
+    let refusal = first("signed", &[(1, no_modulus("signed", p)), (4, bad_low || bad)]);
+    note_low("signed", p, low, refusal);
+    if let Some(number) = refusal {
+        if number == 4 {
+            note_four("signed", &[("low", bad_low), ("number", bad)]);
+        }
         return number;
     }
     met("signed", "done");
-    record[0] = reading(p, v);
+    record[0] = reading(p, low, v);
     0
 }
 
-pub fn residue(p: u32, record: i32, residue: &mut [u32]) -> u32 {
-    if let Some(number) = first("residue", &[(1, no_modulus("residue", p)), (4, !in_range(p, record))]) {
+pub fn residue(p: u32, low: u32, record: i32, residue: &mut [u32]) -> u32 {
+    let (bad_low, bad) = (low >= p, !in_range(p, low, record));
+    let refusal = first("residue", &[(1, no_modulus("residue", p)), (4, bad_low || bad)]);
+    note_low("residue", p, low, refusal);
+    if let Some(number) = refusal {
+        if number == 4 {
+            note_four("residue", &[("low", bad_low), ("number", bad)]);
+        }
         return number;
     }
     met("residue", "done");
@@ -433,16 +463,7 @@ pub fn write(p: u32, n: u32, multipliers: &[u32], value: u32, bytes: &mut [u8]) 
         [(1, no_modulus("write", p)), (2, no_size("write", p, n)), (3, lengths("write", &slices)), (4, large || value >= p)];
     if let Some(number) = first("write", &checks) {
         if number == 4 {
-            met(
-                "write",
-                if large && value >= p {
-                    "4 both"
-                } else if large {
-                    "4 multipliers"
-                } else {
-                    "4 value"
-                },
-            );
+            note_four("write", &[("multipliers", large), ("value", value >= p)]);
         }
         return number;
     }
@@ -456,23 +477,18 @@ pub fn write(p: u32, n: u32, multipliers: &[u32], value: u32, bytes: &mut [u8]) 
     200 + frame.len() as u32
 }
 
-pub fn seal(p: u32, n: u32, records: &[i32], multipliers: &[u32], value: &mut [u32]) -> u32 {
+pub fn seal(p: u32, n: u32, low: u32, records: &[i32], multipliers: &[u32], value: &mut [u32]) -> u32 {
     let slices = [("records", records.len(), n as u128), ("multipliers", multipliers.len(), n as u128)];
     let large = multipliers.iter().any(|&x| x >= p);
-    let outside = records.iter().any(|&x| !in_range(p, x));
-    let checks = [(1, no_modulus("seal", p)), (2, no_size("seal", p, n)), (3, lengths("seal", &slices)), (4, large || outside)];
-    if let Some(number) = first("seal", &checks) {
+    let bad_low = low >= p;
+    let outside = records.iter().any(|&x| !in_range(p, low, x));
+    let numbers = large || bad_low || outside;
+    let checks = [(1, no_modulus("seal", p)), (2, no_size("seal", p, n)), (3, lengths("seal", &slices)), (4, numbers)];
+    let refusal = first("seal", &checks);
+    note_low("seal", p, low, refusal);
+    if let Some(number) = refusal {
         if number == 4 {
-            met(
-                "seal",
-                if large && outside {
-                    "4 both"
-                } else if large {
-                    "4 multipliers"
-                } else {
-                    "4 records"
-                },
-            );
+            note_four("seal", &[("multipliers", large), ("low", bad_low), ("records", outside)]);
         }
         return number;
     }
@@ -625,10 +641,12 @@ impl Ledger {
     }
 
     /// Show, from check 3 on.
-    pub fn show(&self, marks: &mut [u32], numbers: &mut [i32]) -> u32 {
-        if lengths("show", &[("marks", marks.len(), self.n as u128), ("numbers", numbers.len(), self.n as u128)]) {
-            met("show", "3");
-            return 3;
+    pub fn show(&self, low: u32, marks: &mut [u32], numbers: &mut [i32]) -> u32 {
+        let slices = [("marks", marks.len(), self.n as u128), ("numbers", numbers.len(), self.n as u128)];
+        let refusal = first("show", &[(3, lengths("show", &slices)), (4, low >= self.p)]);
+        note_low("show", self.p, low, refusal);
+        if let Some(number) = refusal {
+            return number;
         }
         met("show", "done");
         met("show", &format!("n {}", self.n));
@@ -641,7 +659,7 @@ impl Ledger {
         for (i, j) in reduce(self.p as u64, &mut t, self.n).into_iter().enumerate() {
             if t[i][..self.n].iter().filter(|x| **x != 0).count() == 1 {
                 marks[j] = 1;
-                numbers[j] = reading(self.p, t[i][self.n] as u32);
+                numbers[j] = reading(self.p, low, t[i][self.n] as u32);
             }
         }
         let shown = marks.iter().filter(|x| **x == 1).count();

@@ -175,14 +175,14 @@ static void multiply(const uint32_t *x, const uint32_t *y, uint32_t *to)
 
 static uint32_t call_open(void) { return dauneroad_open(P, N, board, WORDS); }
 static uint32_t call_take(void) { return dauneroad_take(board, WORDS, frame, frame_len, mix, N); }
-static uint32_t call_show(void) { return dauneroad_show(board, WORDS, marks, N, numbers, N); }
+static uint32_t call_show(void) { return dauneroad_show(board, WORDS, DAUNEROAD_LOW(P), marks, N, numbers, N); }
 static uint32_t call_withdraw_one(void) { return dauneroad_withdraw(board, WORDS, 1); }
 static uint32_t call_withdraw_all(void) { return dauneroad_withdraw(board, WORDS, N); }
 static uint32_t call_read(void) { return dauneroad_read(P, N, frame, frame_len, mix, N, &value); }
 static uint32_t call_write(void) { return dauneroad_write(P, N, rows[63], N, values[63], bytes, sizeof bytes); }
-static uint32_t call_seal(void) { return dauneroad_seal(P, N, records, N, rows[63], N, &value); }
-static uint32_t call_signed(void) { return dauneroad_signed(P, P / 2 + 1, &record); }
-static uint32_t call_residue(void) { return dauneroad_residue(P, -(int32_t)(P / 2), &value); }
+static uint32_t call_seal(void) { return dauneroad_seal(P, N, DAUNEROAD_LOW(P), records, N, rows[63], N, &value); }
+static uint32_t call_signed(void) { return dauneroad_signed(P, DAUNEROAD_LOW(P), P / 2 + 1, &record); }
+static uint32_t call_residue(void) { return dauneroad_residue(P, DAUNEROAD_LOW(P), -(int32_t)(P / 2), &value); }
 static uint32_t call_quasiinverse(void)
 {
     return dauneroad_quasiinverse(P, N, N, table, N * N, out, N * N, columns, N, marks, N);

@@ -86,9 +86,9 @@ pub fn withdraw(board: &mut [u32], t: u32) -> CountAnswer
     CountAnswer::Count(left)
 }
 
-// Marks the records that all assignments meeting the standing frames agree on, with their signed readings.
-pub fn show(board: &[u32], marks: &mut [u32], numbers: &mut [i32]) -> CountAnswer
-    ensures { λ r. ⌜ outcome (answerTold r) (now (marks .exit), now (numbers .exit)) ≡ showCall (now (board .entry)) (now (marks .entry)) (now (numbers .entry)) ⌝ }
+// Marks the records that all assignments meeting the standing frames agree on, with their signed readings from -low to p - 1 - low.
+pub fn show(board: &[u32], low: u32, marks: &mut [u32], numbers: &mut [i32]) -> CountAnswer
+    ensures { λ r. ⌜ outcome (answerTold r) (now (marks .exit), now (numbers .exit)) ≡ showCall (now (board .entry)) low (now (marks .entry)) (now (numbers .entry)) ⌝ }
 {
     if !test::is_laid_out(board) {
         return CountAnswer::Refused(Refusal::NotBoard);
@@ -105,7 +105,10 @@ pub fn show(board: &[u32], marks: &mut [u32], numbers: &mut [i32]) -> CountAnswe
     if numbers.len() != n {
         return CountAnswer::Refused(Refusal::Length);
     }
-    records::show_records(board, &e, &pivots, marks, numbers);
+    if board[layout::MODULUS] <= low {
+        return CountAnswer::Refused(Refusal::Number);
+    }
+    records::show_records(board, low, &e, &pivots, marks, numbers);
     let count = board[layout::COUNT];
     let missing = board[layout::SIZE] - count;
     CountAnswer::Count(missing)

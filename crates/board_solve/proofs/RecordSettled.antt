@@ -90,17 +90,17 @@ module _ (ws : List ℕ) (D : Matrix (residues (modulusWord ws))) (held : BoardI
         (λ x y s t. settled x y (solves-meets x s) (solves-meets y t))
 
     -- then the ledger marks it 1 and reads it from row j of D v
-    pub shown-at : (j : ℕ) → j < sizeWord ws → UnitIn ws D j
+    pub shown-at : (low j : ℕ) → j < sizeWord ws → UnitIn ws D j
         → (shownMark (modulusWord ws) ok (sizeWord ws) (entriesOf ws) j ≡ 1)
-        × (shownNumber (modulusWord ws) ok (sizeWord ws) (entriesOf ws) j ≡ reading (modulusWord ws) (valueIn ws D j .value))
-    shown-at j l row =
-        shown-exactly (modulusWord ws) ok (sizeWord ws) (entriesOf ws) (board-proper ws (held .board)) j .0 (unit-settled j l row)
+        × (shownNumber (modulusWord ws) ok (sizeWord ws) (entriesOf ws) low j ≡ reading (modulusWord ws) low (valueIn ws D j .value))
+    shown-at low j l row =
+        shown-exactly (modulusWord ws) ok (sizeWord ws) (entriesOf ws) (board-proper ws (held .board)) low j .0 (unit-settled j l row)
         (valueIn ws D) value-meets
 
     -- otherwise it gives 0 and 0
-    pub hidden-at : (j : ℕ) → (UnitIn ws D j → ⊥)
+    pub hidden-at : (low j : ℕ) → (UnitIn ws D j → ⊥)
         → (shownMark (modulusWord ws) ok (sizeWord ws) (entriesOf ws) j ≡ 0)
-        × (shownNumber (modulusWord ws) ok (sizeWord ws) (entriesOf ws) j ≡ pos 0)
-    hidden-at j no-row =
-        shown-exactly (modulusWord ws) ok (sizeWord ws) (entriesOf ws) (board-proper ws (held .board)) j .1
+        × (shownNumber (modulusWord ws) ok (sizeWord ws) (entriesOf ws) low j ≡ pos 0)
+    hidden-at low j no-row =
+        shown-exactly (modulusWord ws) ok (sizeWord ws) (entriesOf ws) (board-proper ws (held .board)) low j .1
         (λ settled. no-row (settled-unit j settled))

@@ -84,14 +84,15 @@ UnitAt n row j e = (0 < row) × ((c : ℕ) → c < n → getD e (workedPlace n r
 
 -- ---- all of them
 
-pub record Showable (ws e pivots marks : List ℕ) (zs : List ℤ) : Type 0 where
+pub record Showable (ws : List ℕ) (low : ℕ) (e pivots marks : List ℕ) (zs : List ℤ) : Type 0 where
   pub reduced : BoardReduced ws e pivots
+  pub low-below : low < modulusWord ws
   pub marks-long : length marks ≡ sizeWord ws
   pub numbers-long : length zs ≡ sizeWord ws
 
--- the marks and numbers are those of the ledger that the words hold, whatever proof that the modulus is one
-abbrev pub ShowsRecords : (ws marks : List ℕ) (zs : List ℤ) → Type 0
-ShowsRecords ws marks zs =
+-- the marks and numbers are those of the ledger that the words hold, with the low end, whatever proof that the modulus is one
+abbrev pub ShowsRecords : (ws : List ℕ) (low : ℕ) (marks : List ℕ) (zs : List ℤ) → Type 0
+ShowsRecords ws low marks zs =
     (ok : IsModulus (modulusWord ws))
     → (marks ≡ tabulate (sizeWord ws) (shownMark (modulusWord ws) ok (sizeWord ws) (entriesOf ws)))
-    × (zs ≡ tabulateℤ (sizeWord ws) (shownNumber (modulusWord ws) ok (sizeWord ws) (entriesOf ws)))
+    × (zs ≡ tabulateℤ (sizeWord ws) (shownNumber (modulusWord ws) ok (sizeWord ws) (entriesOf ws) low))

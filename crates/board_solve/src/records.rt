@@ -59,25 +59,26 @@ fn settled(n: usize, row: usize, e: &[u32], j: usize) -> bool
     is_unit(&e[at..end], j)
 }
 
-// The signed reading of the value behind a worked row.
-fn record_at(p: u32, n: usize, row: usize, e: &[u32]) -> i32
-    requires { ⌜ WorkedRow n row (now e) × (0 < row) × (0 < p) × (p ≤ largestModulus) × Below p (now e) ⌝ }
-    ensures { λ r. ⌜ r ≡ reading p (getD (now (e .entry)) (workedPlace n row n) 0) ⌝ }
+// The signed reading of the value behind a worked row, with the low end.
+fn record_at(p: u32, low: u32, n: usize, row: usize, e: &[u32]) -> i32
+    requires { ⌜ WorkedRow n row (now e) × (0 < row) × (low < p) × (p ≤ largestModulus) × Below p (now e) ⌝ }
+    ensures { λ r. ⌜ r ≡ reading p low (getD (now (e .entry)) (workedPlace n row n) 0) ⌝ }
 {
     let at = (row - 1) * (n + 1) + n;
-    signed::read_from(p, signed::low_end(p), e[at])
+    signed::read_from(p, low, e[at])
 }
 
-// Marks each settled record and gives its signed reading; 0 and 0 for the others.
+// Marks each settled record and gives its signed reading with the low end; 0 and 0 for the others.
 pub fn show_records(
     board: &[u32],
+    low: u32,
     e: &[u32],
     pivots: &[u32],
     marks: &mut [u32],
     numbers: &mut [i32],
 )
-    requires { ⌜ Showable (now board) (now e) (now pivots) (now marks) (now numbers) ⌝ }
-    ensures { λ _. ⌜ ShowsRecords (now (board .entry)) (now (marks .exit)) (now (numbers .exit)) ⌝ }
+    requires { ⌜ Showable (now board) low (now e) (now pivots) (now marks) (now numbers) ⌝ }
+    ensures { λ _. ⌜ ShowsRecords (now (board .entry)) low (now (marks .exit)) (now (numbers .exit)) ⌝ }
 {
     let p = board[MODULUS];
     let n = board[SIZE] as usize;
@@ -88,7 +89,7 @@ pub fn show_records(
         let row = at[j] as usize;
         if settled(n, row, e, j) {
             marks[j] = 1;
-            numbers[j] = record_at(p, n, row, e);
+            numbers[j] = record_at(p, low, n, row, e);
         } else {
             marks[j] = 0;
             numbers[j] = 0;

@@ -22,7 +22,7 @@ pub enum Refusal {
     Size,
     // 3: a lent slice's length is not the one named
     Length,
-    // 4: a number not below p, or a record out of range
+    // 4: a number or a low end not below p, or a record out of range
     Number,
     // 5: no solution
     Insoluble,

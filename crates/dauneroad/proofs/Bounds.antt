@@ -8,7 +8,7 @@ use lib.IntN.{ℤ}
 use lib.ListN.{length}
 use Rattle.algebra.proofs.Choice.{pick-elim}
 use Rattle.checks.specs.declared.Refusal.{Refusal}
-use Rattle.checks.specs.declared.Refusal.the-variants.{Length, Withdrawal}
+use Rattle.checks.specs.declared.Refusal.the-variants.{Withdrawal}
 use Rattle.checks.specs.Told.{refused}
 use Rattle.checks.specs.Outcome.{Outcome}
 use Rattle.checks.proofs.InOrder.{in-order-elim}
@@ -86,12 +86,15 @@ small-withdraw ws t o =
 
 showed-small : (n : ℕ) (l : Ledger) (r : Outcome (List ℕ × List ℤ)) → n ≤ 64 → Showed n l r → Small (r .told)
 showed-small n l r h (answered lent) = omega arith
-showed-small n l r h (unshown lent) = small-refusal Length
+showed-small n l r h (unshown lent k e) = small-refusal k
 
-pub small-show : (ws marks : List ℕ) (zs : List ℤ) (o : Outcome (List ℕ × List ℤ)) → o ≡ showCall ws marks zs → Small (o .told)
+pub small-show : (ws : List ℕ) (low : ℕ) (marks : List ℕ) (zs : List ℤ) (o : Outcome (List ℕ × List ℤ)) → o ≡ showCall ws low marks zs
+    → Small (o .told)
 unfolding showCall
-small-show ws marks zs o =
+small-show ws low marks zs o =
     carried
     (in-order-elim _ _ SmallOutcome
-    (λ hs. showed-small (sizeWord ws) (ledgerOf ws) _ (hs .0 .size .1) (showed (modulusWord ws) (hs .0 .prime) (sizeWord ws) (ledgerOf ws) marks zs))
+    (λ hs.
+    showed-small (sizeWord ws) (ledgerOf ws) _ (hs .0 .size .1)
+    (showed (modulusWord ws) (hs .0 .prime) (sizeWord ws) (ledgerOf ws) low marks zs))
     (λ k f. small-refusal k))

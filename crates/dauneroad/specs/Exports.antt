@@ -47,8 +47,8 @@ takeAnswer ws frame mix = exported (takeCall ws frame mix)
 abbrev pub withdrawAnswer : (board : List ℕ) (t : ℕ) → Answer (List ℕ)
 withdrawAnswer ws t = exported (withdrawCall ws t)
 
-abbrev pub showAnswer : (board marks : List ℕ) (numbers : List ℤ) → Answer (List ℕ × List ℤ)
-showAnswer ws marks zs = exported (showCall ws marks zs)
+abbrev pub showAnswer : (board : List ℕ) (low : ℕ) (marks : List ℕ) (numbers : List ℤ) → Answer (List ℕ × List ℤ)
+showAnswer ws low marks zs = exported (showCall ws low marks zs)
 
 -- ---- frames
 
@@ -59,16 +59,16 @@ readAnswer p n frame xs v =
 abbrev pub writeAnswer : (p n : ℕ) (multipliers : List ℕ) (value : ℕ) (bytes : List ℕ) → Answer (List ℕ)
 writeAnswer p n xs v bytes = exported (writeCall p n xs v bytes)
 
-abbrev pub sealAnswer : (p n : ℕ) (records : List ℤ) (multipliers : List ℕ) (value : ℕ) → Answer ℕ
-sealAnswer p n zs xs v = let r = sealCall p n zs xs in answer (r .told .number) (numberOr v (r .told .values))
+abbrev pub sealAnswer : (p n low : ℕ) (records : List ℤ) (multipliers : List ℕ) (value : ℕ) → Answer ℕ
+sealAnswer p n low zs xs v = let r = sealCall p n low zs xs in answer (r .told .number) (numberOr v (r .told .values))
 
 -- ---- signed readings
 
-abbrev pub signedAnswer : (p v : ℕ) (z : ℤ) → Answer ℤ
-signedAnswer p v z = let r = signedCall p v in answer (r .told .number) (valueOr z (r .told .values))
+abbrev pub signedAnswer : (p low v : ℕ) (z : ℤ) → Answer ℤ
+signedAnswer p low v z = let r = signedCall p low v in answer (r .told .number) (valueOr z (r .told .values))
 
-abbrev pub residueAnswer : (p : ℕ) (z : ℤ) (v : ℕ) → Answer ℕ
-residueAnswer p z v = let r = residueCall p z in answer (r .told .number) (numberOr v (r .told .values))
+abbrev pub residueAnswer : (p low : ℕ) (z : ℤ) (v : ℕ) → Answer ℕ
+residueAnswer p low z v = let r = residueCall p low z in answer (r .told .number) (numberOr v (r .told .values))
 
 -- ---- tables
 

@@ -90,11 +90,16 @@ pub extern "C" fn dauneroad_withdraw(board: &mut [u32], t: u32) -> u32
 }
 
 #[no_mangle]
-pub extern "C" fn dauneroad_show(board: &[u32], marks: &mut [u32], numbers: &mut [i32]) -> u32
+pub extern "C" fn dauneroad_show(
+    board: &[u32],
+    low: u32,
+    marks: &mut [u32],
+    numbers: &mut [i32],
+) -> u32
     ensures { λ r. ⌜ answer r (now (marks .exit), now (numbers .exit))
-        ≡ showAnswer (now (board .entry)) (now (marks .entry)) (now (numbers .entry)) ⌝ }
+        ≡ showAnswer (now (board .entry)) low (now (marks .entry)) (now (numbers .entry)) ⌝ }
 {
-    count_number(board_calls::show(board, marks, numbers))
+    count_number(board_calls::show(board, low, marks, numbers))
 }
 
 #[no_mangle]
@@ -134,13 +139,14 @@ pub extern "C" fn dauneroad_write(
 pub extern "C" fn dauneroad_seal(
     p: u32,
     n: u32,
+    low: u32,
     records: &[i32],
     multipliers: &[u32],
     value: &mut u32,
 ) -> u32
-    ensures { λ r. ⌜ answer r (now (value .exit)) ≡ sealAnswer p n (now (records .entry)) (now (multipliers .entry)) (now (value .entry)) ⌝ }
+    ensures { λ r. ⌜ answer r (now (value .exit)) ≡ sealAnswer p n low (now (records .entry)) (now (multipliers .entry)) (now (value .entry)) ⌝ }
 {
-    match frame_calls::seal(p, n, records, multipliers) {
+    match frame_calls::seal(p, n, low, records, multipliers) {
         frame_calls::SealAnswer::Value(v) => {
             *value = v;
             0
@@ -150,12 +156,12 @@ pub extern "C" fn dauneroad_seal(
 }
 
 #[no_mangle]
-pub extern "C" fn dauneroad_signed(p: u32, v: u32, number: &mut i32) -> u32
-    ensures { λ r. ⌜ answer r (now (number .exit)) ≡ signedAnswer p v (now (number .entry)) ⌝ }
+pub extern "C" fn dauneroad_signed(p: u32, low: u32, v: u32, record: &mut i32) -> u32
+    ensures { λ r. ⌜ answer r (now («record» .exit)) ≡ signedAnswer p low v (now («record» .entry)) ⌝ }
 {
-    match signed::signed(p, v) {
+    match signed::signed(p, low, v) {
         signed::SignedAnswer::Record(z) => {
-            *number = z;
+            *record = z;
             0
         }
         signed::SignedAnswer::Refused(kind) => checks::number_of(kind),
@@ -163,10 +169,10 @@ pub extern "C" fn dauneroad_signed(p: u32, v: u32, number: &mut i32) -> u32
 }
 
 #[no_mangle]
-pub extern "C" fn dauneroad_residue(p: u32, number: i32, residue: &mut u32) -> u32
-    ensures { λ r. ⌜ answer r (now (residue .exit)) ≡ residueAnswer p number (now (residue .entry)) ⌝ }
+pub extern "C" fn dauneroad_residue(p: u32, low: u32, record: i32, residue: &mut u32) -> u32
+    ensures { λ r. ⌜ answer r (now (residue .exit)) ≡ residueAnswer p low «record» (now (residue .entry)) ⌝ }
 {
-    match signed::residue(p, number) {
+    match signed::residue(p, low, record) {
         signed::ResidueAnswer::Residue(v) => {
             *residue = v;
             0

@@ -2,7 +2,7 @@
 -- what holds where a call told a value.
 use mathlib.Core.Path.{_≡_, refl, sym, ap, _∙_}
 use mathlib.Core.List.{List, [], _∷_}
-use Prim.Native.Nat.{ℕ}
+use Prim.Native.Nat.{ℕ, _≤_}
 use native.Mathlib.Omega.{arith}
 use lib.IntN.{ℤ, pos}
 use lib.ListN.{length}
@@ -12,13 +12,14 @@ use Rattle.checks.specs.Prime.{IsModulus}
 use Rattle.checks.specs.Refusal.{IsRefusal}
 use Rattle.checks.specs.Told.{gives}
 use Rattle.checks.specs.Outcome.{Outcome, outcome, untouched}
-use Rattle.checks.specs.declared.Refusal.the-variants.{Length}
+use Rattle.checks.specs.declared.Refusal.the-variants.{Length, Number}
 use Rattle.checks.specs.InOrder.{passed, _else_, _⨾_, andThen, AllHold, FirstFailing}
 use Rattle.checks.specs.Decide.{long?}
 use Rattle.checks.specs.Sizes.{frameSizes}
 use Rattle.checks.proofs.Refusals.{refusal-number, given-value, refused-gives-none}
 use Rattle.checks.proofs.InOrder.{none-left, in-order-done, in-order-refused, in-order-elim, in-order-accepted, in-order-map, in-order-then}
-use Rattle.checks.proofs.InOrder.{hold-and-then, fails-in-front, fails-then, _and-then_}
+use Rattle.checks.proofs.InOrder.{fails-here, hold-and-then, fails-in-front, fails-then, _and-then_, _then_}
+use Rattle.words.specs.Words.{Below}
 use Rattle.frame.specs.Format.{frameOf}
 use Rattle.frame.specs.Reading.{frameChecks, Found, accepted, rejected, readFrame}
 use Rattle.frame.specs.Sealing.{sealed}
@@ -63,19 +64,23 @@ module _ (p n : ℕ) (xs : List ℕ) (v : ℕ) (lent : List ℕ) where
     unfolding writeCall
     write-done a = sym (in-order-done _ _ _ (hold-and-then {cs = frameSizes p n} {more = λ _. writeRest p n xs v lent} sizes (λ _. a)) (λ _. refl))
 
-module _ (p n : ℕ) (zs : List ℤ) (xs : List ℕ) where
-  pub seal-no-sizes : {k : Refusal} → FirstFailing (frameSizes p n) k → untouched tt k ≡ sealCall p n zs xs
+module _ (p n low : ℕ) (zs : List ℤ) (xs : List ℕ) where
+  pub seal-no-sizes : {k : Refusal} → FirstFailing (frameSizes p n) k → untouched tt k ≡ sealCall p n low zs xs
   unfolding sealCall
-  seal-no-sizes f = sym (in-order-refused _ _ (fails-in-front (frameSizes p n) (λ _. sealRest p n zs xs) f))
+  seal-no-sizes f = sym (in-order-refused _ _ (fails-in-front (frameSizes p n) (λ _. sealRest p n low zs xs) f))
 
   module _ (sizes : AllHold (frameSizes p n)) where
-    pub seal-refused : {k : Refusal} → FirstFailing (sealRest p n zs xs) k → untouched tt k ≡ sealCall p n zs xs
+    pub seal-refused : {k : Refusal} → FirstFailing (sealRest p n low zs xs) k → untouched tt k ≡ sealCall p n low zs xs
     unfolding sealCall
-    seal-refused f = sym (in-order-refused _ _ (fails-then (frameSizes p n) (λ _. sealRest p n zs xs) sizes (λ _. f)))
+    seal-refused f = sym (in-order-refused _ _ (fails-then (frameSizes p n) (λ _. sealRest p n low zs xs) sizes (λ _. f)))
 
-    pub seal-done : AllHold (sealRest p n zs xs) → outcome (gives (pos (sealed p n zs xs))) tt ≡ sealCall p n zs xs
+    pub seal-done : AllHold (sealRest p n low zs xs) → outcome (gives (pos (sealed p n zs xs))) tt ≡ sealCall p n low zs xs
     unfolding sealCall
-    seal-done a = sym (in-order-done _ _ _ (hold-and-then {cs = frameSizes p n} {more = λ _. sealRest p n zs xs} sizes (λ _. a)) (λ _. refl))
+    seal-done a = sym (in-order-done _ _ _ (hold-and-then {cs = frameSizes p n} {more = λ _. sealRest p n low zs xs} sizes (λ _. a)) (λ _. refl))
+
+    -- "An L of p or more is 4, before the records in sealing" (02, #106): whatever the records
+    pub seal-low-refused : length zs ≡ n → length xs ≡ n → Below p xs → p ≤ low → sealCall p n low zs xs ≡ untouched tt Number
+    seal-low-refused h l b m = sym (seal-refused (h then l then b then fails-here (λ c. omega (arith, c))))
 
 -- ---- "All else is accepted"
 
@@ -92,9 +97,9 @@ write-accepted p n xs v lent all = in-order-accepted _ _ (λ (o : Outcome (List 
 -- ---- from what a call told
 
 -- a value that seal told is the sealed value
-pub seal-told : (p n : ℕ) (zs : List ℤ) (xs : List ℕ) (v : ℕ) → sealCall p n zs xs .told ≡ gives (pos v) → v ≡ sealed p n zs xs
+pub seal-told : (p n low : ℕ) (zs : List ℤ) (xs : List ℕ) (v : ℕ) → sealCall p n low zs xs .told ≡ gives (pos v) → v ≡ sealed p n zs xs
 unfolding sealCall
-seal-told p n zs xs v =
+seal-told p n low zs xs v =
     in-order-elim _ _ (λ (o : Outcome (Unit {0})). o .told ≡ gives (pos v) → v ≡ sealed p n zs xs)
     (λ hs e. same (given-value e))
     (λ k _ e. absurd (refused-gives-none k (pos v) e))

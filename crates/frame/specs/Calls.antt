@@ -1,5 +1,6 @@
 -- The checks of read, write and seal in order, and what each call comes to. 01: "For these, n is 1 to 64, and the order is 1, 2,
--- 3, then the checks above (writing: multipliers, then value; sealing: multipliers, then records)."
+-- 3, then the checks above (writing: multipliers, then value; sealing: multipliers, then records)." 02, #106: "An L of p or more is 4, before
+-- the records in sealing".
 use mathlib.Core.List.{List, [], _∷_}
 use Prim.Native.Nat.{ℕ}
 use native.Mathlib.Decide.{decLt}
@@ -53,17 +54,18 @@ written frame lent = outcome (results (length frame)) (placed 0 frame lent)
 unfoldable pub writeCall : (p n : ℕ) (multipliers : List ℕ) (value : ℕ) (bytes : List ℕ) → Outcome (List ℕ)
 writeCall p n xs v lent = inOrder (writeChecks p n xs v lent) (λ _. written (frameOf n xs (v ∷ [])) lent) (untouched lent)
 
--- sealing: nothing is lent to be written
-abbrev pub sealRest : (p n : ℕ) (records : List ℤ) (multipliers : List ℕ) → Checks Refusal
-sealRest p n zs xs =
+-- sealing records with a low end: nothing is lent to be written
+abbrev pub sealRest : (p n low : ℕ) (records : List ℤ) (multipliers : List ℕ) → Checks Refusal
+sealRest p n low zs xs =
     long? zs n else Length
     ⨾ long? xs n else Length
     ⨾ below? p xs else Number
-    ⨾ records? p zs else Number
+    ⨾ decLt low p else Number
+    ⨾ records? p low zs else Number
     ⨾ passed
 
-abbrev pub sealChecks : (p n : ℕ) (records : List ℤ) (multipliers : List ℕ) → Checks Refusal
-sealChecks p n zs xs = andThen (frameSizes p n) (λ _. sealRest p n zs xs)
+abbrev pub sealChecks : (p n low : ℕ) (records : List ℤ) (multipliers : List ℕ) → Checks Refusal
+sealChecks p n low zs xs = andThen (frameSizes p n) (λ _. sealRest p n low zs xs)
 
-unfoldable pub sealCall : (p n : ℕ) (records : List ℤ) (multipliers : List ℕ) → Outcome (Unit {0})
-sealCall p n zs xs = inOrder (sealChecks p n zs xs) (λ _. outcome (gives (pos (sealed p n zs xs))) tt) (untouched tt)
+unfoldable pub sealCall : (p n low : ℕ) (records : List ℤ) (multipliers : List ℕ) → Outcome (Unit {0})
+sealCall p n low zs xs = inOrder (sealChecks p n low zs xs) (λ _. outcome (gives (pos (sealed p n zs xs))) tt) (untouched tt)

@@ -27,5 +27,5 @@ clear? n bytes j = go (decLe n j) (false? (bitAt bytes j))
 pub unpadded? : (n : ℕ) (bytes : List ℕ) → Dec (Unpadded n bytes)
 unpadded? n bytes = all-below? (λ j. n ≤ j → bitAt bytes j ≡ false) (clear? n bytes) _
 
-pub records? : (p : ℕ) (zs : List ℤ) → Dec (Records p zs)
-records? p zs = all-below? (λ i. IsRecord p (getD zs i (pos 0))) (λ i. record? p (getD zs i (pos 0))) (length zs)
+pub records? : (p low : ℕ) (zs : List ℤ) → Dec (Records p low zs)
+records? p low zs = all-below? (λ i. IsRecord p low (getD zs i (pos 0))) (λ i. record? p low (getD zs i (pos 0))) (length zs)

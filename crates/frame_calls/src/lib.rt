@@ -57,10 +57,10 @@ pub fn write(p: u32, n: u32, multipliers: &[u32], value: u32, bytes: &mut [u8]) 
     WriteAnswer::Length(write_frame(n as usize, multipliers, value, bytes) as u32)
 }
 
-// The value of the frame of n records and n multipliers modulo p. Refused are 1, p no modulus; 2, n not 1 to 64; 3, not n
-// records or not n multipliers; 4, a multiplier not below p or then a record out of range.
-pub fn seal(p: u32, n: u32, records: &[i32], multipliers: &[u32]) -> SealAnswer
-    ensures { λ r. ⌜ outcome (sealTold r) tt ≡ sealCall p n (now (records .entry)) (now (multipliers .entry)) ⌝ }
+// The value of the frame of n records, from -low to p - 1 - low, and n multipliers modulo p. Refused are 1, p no modulus; 2, n not 1 to
+// 64; 3, not n records or not n multipliers; 4, a multiplier or then the low end not below p, or then a record out of range.
+pub fn seal(p: u32, n: u32, low: u32, records: &[i32], multipliers: &[u32]) -> SealAnswer
+    ensures { λ r. ⌜ outcome (sealTold r) tt ≡ sealCall p n low (now (records .entry)) (now (multipliers .entry)) ⌝ }
 {
     if let Verdict::Refused(kind) = checks::frame_sizes(p, n) {
         return SealAnswer::Refused(kind);
@@ -74,8 +74,11 @@ pub fn seal(p: u32, n: u32, records: &[i32], multipliers: &[u32]) -> SealAnswer
     if !all_below(p, multipliers) {
         return SealAnswer::Refused(Refusal::Number);
     }
-    if !all_records(p, records) {
+    if p <= low {
         return SealAnswer::Refused(Refusal::Number);
     }
-    SealAnswer::Value(sealer::value_of(p, records, multipliers))
+    if !all_records(p, low, records) {
+        return SealAnswer::Refused(Refusal::Number);
+    }
+    SealAnswer::Value(sealer::value_of(p, low, records, multipliers))
 }

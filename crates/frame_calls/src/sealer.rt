@@ -9,11 +9,10 @@ ghost use Rattle.signed.specs.Reading.{residueOf};
 ghost use Rattle.frame.specs.Sealing.{Records, sealed};
 
 // Writes the residue of each record to its place.
-fn put_residues(p: u32, records: &[i32], residues: &mut [u32])
-    requires { ⌜ (0 < p) × (p ≤ largestModulus) × Records p (now records) × (length (now records) ≤ length (now residues)) ⌝ }
+fn put_residues(p: u32, low: u32, records: &[i32], residues: &mut [u32])
+    requires { ⌜ (low < p) × (p ≤ largestModulus) × Records p low (now records) × (length (now records) ≤ length (now residues)) ⌝ }
     ensures { λ _. ⌜ ((i : ℕ) → i < length (now (records .entry)) → getD (now (residues .exit)) i 0 ≡ residueOf p (getD (now (records .entry)) i (pos 0))) ⌝ }
 {
-    let low = signed::low_end(p);
     let mut i = 0;
     while i < records.len() {
         residues[i] = signed::residue_from(p, low, records[i]);
@@ -22,12 +21,12 @@ fn put_residues(p: u32, records: &[i32], residues: &mut [u32])
 }
 
 // The value of the frame of records and multipliers that are known to be right.
-pub fn value_of(p: u32, records: &[i32], multipliers: &[u32]) -> u32
-    requires { ⌜ (0 < p) × (p ≤ largestModulus) × Records p (now records) × (length (now records) ≤ largest) × (length (now multipliers) ≡ length (now records)) ⌝ }
+pub fn value_of(p: u32, low: u32, records: &[i32], multipliers: &[u32]) -> u32
+    requires { ⌜ (low < p) × (p ≤ largestModulus) × Records p low (now records) × (length (now records) ≤ largest) × (length (now multipliers) ≡ length (now records)) ⌝ }
     ensures { λ r. ⌜ r ≡ sealed p (length (now (records .entry))) (now (records .entry)) (now (multipliers .entry)) ⌝ }
 {
     let n = records.len();
     let mut residues = words::row_room();
-    put_residues(p, records, &mut residues);
+    put_residues(p, low, records, &mut residues);
     field::sums::dot(p, &residues[..n], multipliers, 0, 1)
 }

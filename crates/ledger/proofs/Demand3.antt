@@ -98,14 +98,14 @@ module _ (p : ℕ) (ok : IsModulus p) (n : ℕ) (ws : List ℕ) (done : openCall
       subst₂ (λ (r : Reply) k. Counted n (t .call) (r .told) k) (sym (turn-replied t)) (sym (turn-count t))
       (step-counted p ok n (ledger (standing p ok n (t .before))) (t .call))
 
-  turn-shows : {cs : List Call} (t : Turn cs) (marks : List ℕ) (numbers : List ℤ) → t .call ≡ Call.show marks numbers
-      → (IsRefusal (replyAt p n ws t .told .number) → ⊥) → Shows p n (standing p ok n (t .before)) (replyAt p n ws t)
+  turn-shows : {cs : List Call} (t : Turn cs) (low : ℕ) (marks : List ℕ) (numbers : List ℤ) → t .call ≡ Call.show low marks numbers
+      → (IsRefusal (replyAt p n ws t .told .number) → ⊥) → Shows p n low (standing p ok n (t .before)) (replyAt p n ws t)
   unfolding ledgerStep
-  turn-shows t marks numbers e f =
+  turn-shows t low marks numbers e f =
       let es = standing p ok n (t .before) in
       let same = turn-replied t ∙ ap (λ c. replyOf (ledgerStep p ok n (ledger es) c)) e in
-      subst (Shows p n es) (sym same)
-      (show-shows p ok n es (standing-proper (t .before)) marks numbers
+      subst (Shows p n low es) (sym same)
+      (show-shows p ok n es (standing-proper (t .before)) low marks numbers
       (λ h. f (subst (λ (r : Reply). IsRefusal (r .told .number)) (sym same) h)))
 
   turn-mixes : {cs : List Call} (t : Turn cs) (frame mix : List ℕ) → t .call ≡ Call.take frame mix

@@ -65,7 +65,7 @@ earlier-once : RepliesOnce earlierStep
 unfolding earlierStep boardStep
 earlier-once ws (Call.take frame mix) = refl
 earlier-once ws (Call.withdraw t) = refl
-earlier-once ws (Call.show marks numbers) = refl
+earlier-once ws (Call.show low marks numbers) = refl
 
 -- the words that a call leaves have not moved
 step-leaves : (ws : List ℕ) (c : Call) → boardStep ws c .state ≡ earlierStep ws c .state
@@ -79,7 +79,7 @@ step-leaves ws (Call.take frame mix) = go (take-moves ws frame mix)
     go (moved m was is) = ap words is ∙ sym (ap words was)
     go (kept k e) = ap words e
 step-leaves ws (Call.withdraw t) = refl
-step-leaves ws (Call.show marks numbers) = refl
+step-leaves ws (Call.show low marks numbers) = refl
 
 -- nor have those that a list leaves
 run-leaves : (ws : List ℕ) (cs : List Call) → run boardStep ws cs .state ≡ run earlierStep ws cs .state
@@ -93,7 +93,7 @@ unfolding boardStep earlierStep
 step-replies ws (Call.take frame mix) =
     moves-map (λ (o : Outcome (List ℕ × List ℕ)). reply (o .told) (o .lent .1) []) (take-moves ws frame mix)
 step-replies ws (Call.withdraw t) = refl
-step-replies ws (Call.show marks numbers) = refl
+step-replies ws (Call.show low marks numbers) = refl
 
 -- "No other answer moves", in every list of calls, on whatever words
 pub answers-move : (ws : List ℕ) (cs : List Call) (t : Turn cs) → TurnMoves ws t

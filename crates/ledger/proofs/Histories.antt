@@ -65,9 +65,9 @@ module _ (p n : ℕ) (ok : IsModulus p) (size : FrameSize n) where
       (take-at-layout p n (l .entries) ok size proper frame mix)
   step-at-layout l proper (Call.withdraw t) =
       ap (λ (r : Outcome (List ℕ)). after (r .lent) (reply (r .told) [] [] ∷ [])) (withdraw-at-layout p n (l .entries) ok size proper t)
-  step-at-layout l proper (Call.show marks numbers) =
+  step-at-layout l proper (Call.show low marks numbers) =
       ap (λ (r : Outcome (List ℕ × List ℤ)). after (boardOf p n l) (reply (r .told) (r .lent .0) (r .lent .1) ∷ []))
-      (show-at-layout p n (l .entries) ok size proper marks numbers)
+      (show-at-layout p n (l .entries) ok size proper low marks numbers)
 
   -- and so is a list of calls
   pub history : (l : Ledger) → Proper p n (l .entries) → (cs : List Call)
@@ -126,7 +126,7 @@ pub refused-keeps : (ws : List ℕ) (c : Call) → IsRefusal (replyOf (boardStep
 unfolding boardStep
 refused-keeps ws (Call.take frame mix) h = take-refused-keeps ws frame mix h
 refused-keeps ws (Call.withdraw t) h = withdraw-refused-keeps ws t h
-refused-keeps ws (Call.show marks numbers) h = refl
+refused-keeps ws (Call.show low marks numbers) h = refl
 
 -- the entries behind others are dropped
 withdraw-behind : (es ds : List Entry) → ledgerWithdraw (ledger (es ++ ds)) (length ds) .lent ≡ ledger es

@@ -1,6 +1,6 @@
 -- The honest heat: where every frame taken comes from one set of records, the records' residues meet every frame that is read, so
 -- they meet the standing ones after every list of calls. A combination of standing frames then has the combination's value, so no
--- frame is refused by 9, and what all assignments agree on is the record. The other way round, a 9 shows that there are no such
+-- frame is refused by 9, and what all assignments agree on is the record's residue, which show reads. The other way round, a 9 shows that there are no such
 -- records.
 use mathlib.Core.Path.{_≡_, refl, sym, ap, _∙_, subst, subst₂}
 use mathlib.Core.List.{List, [], _∷_, List·Memᴰ, List·Memᴰ·head, List·Memᴰ·tail, Memᴰ·append-left, Memᴰ·append-right}
@@ -23,8 +23,9 @@ use Rattle.checks.specs.Outcome.{Outcome}
 use Rattle.field.specs.Residue.{reduce, residues, _⊗_}
 use Rattle.field.proofs.Residues.{reduce-small}
 use Rattle.field.proofs.Field.{residues-field}
-use Rattle.signed.specs.Reading.{reading, residueOf}
+use Rattle.signed.specs.Reading.{reading, residueOf, IsReading}
 use Rattle.signed.proofs.Readings.{reading-of-residue}
+use Rattle.signed.proofs.Congruences.{congruent-self, record-reads}
 use Rattle.frame.specs.Reading.{accepted, readFrame}
 use Rattle.frame.specs.Calls.{readCall, writeCall}
 use Rattle.frame.proofs.RoundCalls.{write-then-read}
@@ -43,9 +44,9 @@ use Rattle.ledger.proofs.Histories.{open-accepted}
 use Rattle.ledger.proofs.Demand3.{turn-replied, demand-3}
 
 -- what the console sends is honest: the frame that write leaves, for a value that seal gave, comes from the records
-pub written-comes-from : (p n : ℕ) (zs : List ℤ) (xs : List ℕ) (v : ℕ) → SealsAs p n zs xs v
-    → (lent : List ℕ) (k : ℕ) → writeCall p n xs v lent .told ≡ results k → ComesFrom p n zs (take k (writeCall p n xs v lent .lent))
-written-comes-from p n zs xs v seals lent k e ys w reads =
+pub written-comes-from : (p n low : ℕ) (zs : List ℤ) (xs : List ℕ) (v : ℕ) → SealsAs p n low zs xs v
+    → (lent : List ℕ) (k : ℕ) → writeCall p n xs v lent .told ≡ results k → ComesFrom p n low zs (take k (writeCall p n xs v lent .lent))
+written-comes-from p n low zs xs v seals lent k e ys w reads =
     let number = ap (λ (t : Told). t .number) e in
     let done = write-then-read p n xs v lent (λ r. omega arith) in
     let same : done .k ≡ k = omega (arith, ap (λ (t : Told). t .number) (done .told)) in
@@ -55,7 +56,7 @@ written-comes-from p n zs xs v seals lent k e ys w reads =
     ∙ done .reads (replicate n 0) (length-replicate n 0) in
     let value = given-value (ap (λ (o : Outcome (List ℕ)). o .told) read) in
     let w-is : v ≡ w = cc in
-    subst₂ (SealsAs p n zs) (sym (ap (λ (o : Outcome (List ℕ)). o .lent) read)) w-is seals
+    subst₂ (SealsAs p n low zs) (sym (ap (λ (o : Outcome (List ℕ)). o .lent) read)) w-is seals
 
 module _ (p : ℕ) (ok : IsModulus p) (n : ℕ) where
   L : IsCommutativeRing (residues p)
@@ -75,21 +76,21 @@ module _ (p : ℕ) (ok : IsModulus p) (n : ℕ) where
 
   -- ---- the records meet what comes from them
 
-  module _ (zs : List ℤ) where
+  module _ (low : ℕ) (zs : List ℤ) where
     -- a frame whose value seal gives is met by the records' residues
-    seals-met : (xs : List ℕ) (v : ℕ) → SealsAs p n zs xs v → Meets p n (entry xs v) (recordResidues p zs)
+    seals-met : (xs : List ℕ) (v : ℕ) → SealsAs p n low zs xs v → Meets p n (entry xs v) (recordResidues p zs)
     seals-met xs v e =
-        sealed-met p n zs xs (omega (arith, ok .prime .two-or-more)) ∙ ap (reduce p) (sym (seal-told p n zs xs v e))
+        sealed-met p n zs xs (omega (arith, ok .prime .two-or-more)) ∙ ap (reduce p) (sym (seal-told p n low zs xs v e))
 
     module _ (size : FrameSize n) where
       -- and so is what a frame that comes from them reads as
-      comes-met : (frame xs : List ℕ) (v : ℕ) → ComesFrom p n zs frame → readFrame p n frame ≡ accepted xs v
+      comes-met : (frame xs : List ℕ) (v : ℕ) → ComesFrom p n low zs frame → readFrame p n frame ≡ accepted xs v
           → Meets p n (entry xs v) (recordResidues p zs)
       comes-met frame xs v from e = seals-met xs v (from xs v (λ lent long. read-as-told p n frame lent xs v (sizes-hold p n ok size) long e))
 
       -- they meet the frames after a take, a withdrawal, a list of calls
       took-met : (l : Ledger) (frame mix : List ℕ) {r : Outcome (Ledger × List ℕ)} → Took p ok n l frame mix r
-          → ComesFrom p n zs frame → MeetsAll p n (l .entries) (recordResidues p zs)
+          → ComesFrom p n low zs frame → MeetsAll p n (l .entries) (recordResidues p zs)
           → MeetsAll p n (r .lent .0 .entries) (recordResidues p zs)
       took-met l frame mix (new xs v e f) from all =
           each-more (l .entries) (entry xs v) (λ a. Meets p n a (recordResidues p zs)) all (comes-met frame xs v from e)
@@ -105,17 +106,17 @@ module _ (p : ℕ) (ok : IsModulus p) (n : ℕ) where
           rw (getD-take k (l .entries) i noEntry (rw long at b)) (all i (omega arith))
       withdrew-met l t overlong all i b = all i b
 
-      run-met : (l : Ledger) (cs : List Call) → Honest p n zs cs → MeetsAll p n (l .entries) (recordResidues p zs)
+      run-met : (l : Ledger) (cs : List Call) → Honest p n low zs cs → MeetsAll p n (l .entries) (recordResidues p zs)
           → MeetsAll p n (ledgerRun p ok n l cs .state .entries) (recordResidues p zs)
       unfolding run ledgerStep
       run-met l [] honest all = all
       run-met l (c ∷ cs) honest all = run-met (ledgerStep p ok n l c .state) cs (λ f m i. honest f m (List·Memᴰ·tail i)) (one c honest)
         where
-          one : (c : Call) → Honest p n zs (c ∷ cs) → MeetsAll p n (ledgerStep p ok n l c .state .entries) (recordResidues p zs)
+          one : (c : Call) → Honest p n low zs (c ∷ cs) → MeetsAll p n (ledgerStep p ok n l c .state .entries) (recordResidues p zs)
           one (Call.take frame mix) h =
               took-met l frame mix (took p ok n l frame mix) (h frame mix (List·Memᴰ·head refl)) all
           one (Call.withdraw t) h = withdrew-met l t (withdrew l t) all
-          one (Call.show marks numbers) h = all
+          one (Call.show other marks numbers) h = all
 
   -- ---- refusal 9
 
@@ -135,7 +136,7 @@ module _ (p : ℕ) (ok : IsModulus p) (n : ℕ) where
 
   showed-nine : (l : Ledger) {r : Outcome (List ℕ × List ℤ)} → Showed n l r → r .told .number ≡ 9 → ⊥
   showed-nine l (answered lent) d = omega arith
-  showed-nine l (unshown lent) d = omega arith
+  showed-nine l (unshown lent k h) d = h .0 d
 
   -- ---- on the board
 
@@ -155,26 +156,26 @@ module _ (p : ℕ) (ok : IsModulus p) (n : ℕ) where
 
     pub nine-proves : {cs : List Call} (t : Turn cs) (frame mix : List ℕ) → t .call ≡ Call.take frame mix
         → replyAt p n ws t .told .number ≡ 9 → NoRecords p n (standing p ok n (t .before)) frame
-    nine-proves t frame mix e nine zs heat seals from =
-        nine-unmet t frame mix e nine (recordResidues p zs) (λ i h. seals-met zs _ _ (seals i h)) (λ xs v q. comes-met zs size frame xs v from q)
+    nine-proves t frame mix e nine low zs heat seals from =
+        nine-unmet t frame mix e nine (recordResidues p zs) (λ i h. seals-met low zs _ _ (seals i h)) (λ xs v q. comes-met low zs size frame xs v from q)
 
     -- the honest heat
-    module _ (zs : List ℤ) (heat : HeatRecords p n zs) where
-      honest-met : (cs : List Call) → Honest p n zs cs → MeetsAll p n (standing p ok n cs) (recordResidues p zs)
-      honest-met cs honest = run-met zs size (ledger []) cs honest (λ i h. absurd (not-suc-le-zero h))
+    module _ (low : ℕ) (zs : List ℤ) (heat : HeatRecords p n low zs) where
+      honest-met : (cs : List Call) → Honest p n low zs cs → MeetsAll p n (standing p ok n cs) (recordResidues p zs)
+      honest-met cs honest = run-met low zs size (ledger []) cs honest (λ i h. absurd (not-suc-le-zero h))
 
       -- the calls before a turn are honest, and so is the turn's own
-      honest-before : {cs : List Call} (t : Turn cs) → Honest p n zs cs → Honest p n zs (t .before)
+      honest-before : {cs : List Call} (t : Turn cs) → Honest p n low zs cs → Honest p n low zs (t .before)
       honest-before t honest frame mix m =
           honest frame mix (subst (List·Memᴰ (Call.take frame mix)) (sym (t .splits)) (Memᴰ·append-left _ m))
 
-      honest-turn : {cs : List Call} (t : Turn cs) → Honest p n zs cs → (frame mix : List ℕ) → t .call ≡ Call.take frame mix
-          → ComesFrom p n zs frame
+      honest-turn : {cs : List Call} (t : Turn cs) → Honest p n low zs cs → (frame mix : List ℕ) → t .call ≡ Call.take frame mix
+          → ComesFrom p n low zs frame
       honest-turn t honest frame mix e =
           honest frame mix
           (subst (List·Memᴰ (Call.take frame mix)) (sym (t .splits)) (Memᴰ·append-right (t .before) (List·Memᴰ·head (sym e))))
 
-      turn-not-nine : {cs : List Call} (t : Turn cs) → Honest p n zs cs → replyAt p n ws t .told .number ≡ 9 → ⊥
+      turn-not-nine : {cs : List Call} (t : Turn cs) → Honest p n low zs cs → replyAt p n ws t .told .number ≡ 9 → ⊥
       unfolding ledgerStep
       turn-not-nine t honest nine = go (t .call) refl
         where
@@ -188,25 +189,37 @@ module _ (p : ℕ) (ok : IsModulus p) (n : ℕ) where
           go : (c : Call) → t .call ≡ c → ⊥
           go (Call.take frame mix) e =
               nine-unmet t frame mix e nine (recordResidues p zs) (honest-met (t .before) (honest-before t honest))
-              (λ xs v q. comes-met zs size frame xs v (honest-turn t honest frame mix e) q)
+              (λ xs v q. comes-met low zs size frame xs v (honest-turn t honest frame mix e) q)
           go (Call.withdraw k) e = withdrew-nine l k (withdrew l k) (told (Call.withdraw k) e)
-          go (Call.show marks numbers) e = showed-nine l (showed p ok n l marks numbers) (told (Call.show marks numbers) e)
+          go (Call.show other marks numbers) e = showed-nine l (showed p ok n l other marks numbers) (told (Call.show other marks numbers) e)
 
-      -- a marked record is settled, so it is what the records have there
-      turn-shows-records : {cs : List Call} (t : Turn cs) → Honest p n zs cs → (marks : List ℕ) (numbers : List ℤ)
-          → t .call ≡ Call.show marks numbers → (IsRefusal (replyAt p n ws t .told .number) → ⊥) → (j : ℕ) → j < n
-          → getD (replyAt p n ws t .words) j 0 ≡ 1 → getD (replyAt p n ws t .numbers) j (pos 0) ≡ getD zs j (pos 0)
-      turn-shows-records {cs} t honest marks numbers e f j b mark =
-          let shows = demand-3 p ok n ws done cs .shows t marks numbers e f in
+      -- a marked record is settled, so its number is read from the record's residue, and that is what the record reads as
+      turn-shows-readings : {cs : List Call} (t : Turn cs) → Honest p n low zs cs → (other : ℕ) (marks : List ℕ) (numbers : List ℤ)
+          → t .call ≡ Call.show other marks numbers → (IsRefusal (replyAt p n ws t .told .number) → ⊥) → (j : ℕ) → j < n
+          → getD (replyAt p n ws t .words) j 0 ≡ 1 → IsReading p other (getD zs j (pos 0)) (getD (replyAt p n ws t .numbers) j (pos 0))
+      turn-shows-readings {cs} t honest other marks numbers e f j b mark =
+          let shows = demand-3 p ok n ws done cs .shows t other marks numbers e f in
           let settled = shows .marked-exactly j b .0 mark in
           let given = shows .gives j b .0 settled (recordResidues p zs) (honest-met (t .before) (honest-before t honest)) .1 in
-          let own = reading-of-residue p (getD zs j (pos 0)) (omega (arith, ok .prime .two-or-more)) (heat .in-range j (rw (heat .many) b)) in
-          given ∙ ap (reading p) (reduce-small p (residueOf p (getD zs j (pos 0))) (own .0)) ∙ own .1
+          let z = getD zs j (pos 0) in
+          let r = heat .in-range j (rw (heat .many) b) in
+          let small = reduce-small p (residueOf p z) (reading-of-residue p low z (heat .low-below) r .0) in
+          subst (IsReading p other z) (sym (given ∙ ap (reading p other) small))
+          (record-reads p other (shows .low-below) z low (heat .low-below) r)
 
-      pub honest-heat : (cs : List Call) → Honest p n zs cs → HonestHeat p ok n ws zs cs
+      -- in the range of its own low end that is the record
+      turn-shows-records : {cs : List Call} (t : Turn cs) → Honest p n low zs cs → (marks : List ℕ) (numbers : List ℤ)
+          → t .call ≡ Call.show low marks numbers → (IsRefusal (replyAt p n ws t .told .number) → ⊥) → (j : ℕ) → j < n
+          → getD (replyAt p n ws t .words) j 0 ≡ 1 → getD (replyAt p n ws t .numbers) j (pos 0) ≡ getD zs j (pos 0)
+      turn-shows-records t honest marks numbers e f j b mark =
+          let z = getD zs j (pos 0) in
+          sym (turn-shows-readings t honest low marks numbers e f j b mark .only z (heat .in-range j (rw (heat .many) b)) (congruent-self p z))
+
+      pub honest-heat : (cs : List Call) → Honest p n low zs cs → HonestHeat p ok n ws low zs cs
       honest-heat cs honest =
           record {
             never-nine = λ t. turn-not-nine t honest;
             records-meet = honest-met cs honest;
+            shows-readings = λ t. turn-shows-readings t honest;
             shows-records = λ t. turn-shows-records t honest;
           }

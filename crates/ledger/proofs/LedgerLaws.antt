@@ -23,9 +23,11 @@ use Rattle.checks.specs.Outcome.{outcome, untouched}
 use Rattle.checks.proofs.InOrder.{none-left, fails-here, in-order-done, in-order-refused, _and-then_}
 use Rattle.field.specs.Residue.{Residue, reduce, residues, _⊗_}
 use Rattle.field.specs.Written.{tabulate, numbers}
+use Rattle.field.proofs.Residues.{value-below}
 use Rattle.field.proofs.Field.{residues-field}
 use Rattle.field.proofs.Written.{length-tabulate, getD-tabulate, is-tabulate}
-use Rattle.signed.specs.Reading.{reading}
+use Rattle.signed.specs.Reading.{reading, IsRecord}
+use Rattle.signed.proofs.Readings.{reading-is-record, zero-is-record}
 use Rattle.frame.specs.Reading.{accepted, rejected, readFrame}
 use Rattle.ledger.specs.Ledger.{Entry, entry, ledger, Assignment, InSpan, GivesValue, MeetsAll, Settled, Agreed, multiplierRows, valueColumn}
 use Rattle.ledger.specs.Decide.{inSpan?, agreed?}
@@ -144,40 +146,48 @@ module _ (p : ℕ) (ok : IsModulus p) (n : ℕ) (es : List Entry) where
     settled? : (j : ℕ) → Dec (Settled p n es j)
     settled? j = map-dec (agreed-settled j) (settled-agreed j) (agreed? p ok n es j)
 
-    shown-settled : (j : ℕ) → Settled p n es j → (x : Assignment p) → MeetsAll p n es x
-        → (shownMark p ok n es j ≡ 1) × (shownNumber p ok n es j ≡ reading p (x j .value))
+    shown-settled : (low j : ℕ) → Settled p n es j → (x : Assignment p) → MeetsAll p n es x
+        → (shownMark p ok n es j ≡ 1) × (shownNumber p ok n es low j ≡ reading p low (x j .value))
     unfolding shownMark shownNumber
-    shown-settled j s x met =
+    shown-settled low j s x met =
         let a : Agreed p n es j = (x j, λ y m. s y x m met) in (
           pick-by-same (agreed? p ok n es j) (λ _. 1) 0 (λ _ _. refl) a,
-          pick-by-same (agreed? p ok n es j) (λ b. reading p (b .0 .value)) (pos 0)
-              (λ b c. ap (λ (r : Residue p). reading p (r .value)) (sym (b .1 x met) ∙ c .1 x met)) a,
+          pick-by-same (agreed? p ok n es j) (λ b. reading p low (b .0 .value)) (pos 0)
+              (λ b c. ap (λ (r : Residue p). reading p low (r .value)) (sym (b .1 x met) ∙ c .1 x met)) a,
         )
 
-    shown-unsettled : (j : ℕ) → (Settled p n es j → ⊥) → (shownMark p ok n es j ≡ 0) × (shownNumber p ok n es j ≡ pos 0)
+    shown-unsettled : (low j : ℕ) → (Settled p n es j → ⊥) → (shownMark p ok n es j ≡ 0) × (shownNumber p ok n es low j ≡ pos 0)
     unfolding shownMark shownNumber
-    shown-unsettled j s = (
+    shown-unsettled low j s = (
       pick-by-no (agreed? p ok n es j) (λ _. 1) 0 (λ a. s (agreed-settled j a)),
-      pick-by-no (agreed? p ok n es j) (λ b. reading p (b .0 .value)) (pos 0) (λ a. s (agreed-settled j a)),
+      pick-by-no (agreed? p ok n es j) (λ b. reading p low (b .0 .value)) (pos 0) (λ a. s (agreed-settled j a)),
     )
 
     -- 01: "Record j is marked 1 and its signed reading given exactly if all assignments of residues meeting the ledger's frames
     -- agree at j; otherwise 0 and 0."
-    pub shown-exactly : (j : ℕ) → Gives p n es j (shownMark p ok n es j) (shownNumber p ok n es j)
-    shown-exactly j = (shown-settled j, shown-unsettled j)
+    pub shown-exactly : (low j : ℕ) → Gives p n low es j (shownMark p ok n es j) (shownNumber p ok n es low j)
+    shown-exactly low j = (shown-settled low j, shown-unsettled low j)
+
+    -- whichever it is, it is in the range that the low end gives
+    pub shown-in-range : (low j : ℕ) → low < p → IsRecord p low (shownNumber p ok n es low j)
+    unfolding shownNumber
+    shown-in-range low j b =
+        pick-by-elim (IsRecord p low) (agreed? p ok n es j) (λ a. reading p low (a .0 .value)) (pos 0)
+        (λ a. reading-is-record p low (a .0 .value) b (value-below (omega arith) (a .0)))
+        (λ _. zero-is-record p low)
 
     -- so a record is marked 1 exactly if it is settled
     pub marked-exactly : (j : ℕ) → (shownMark p ok n es j ≡ 1) ↔ Settled p n es j
-    marked-exactly j = (only (settled? j), λ s. let (x, met) = standing-met in shown-settled j s x met .0)
+    marked-exactly j = (only (settled? j), λ s. let (x, met) = standing-met in shown-settled 0 j s x met .0)
       where
         only : Dec (Settled p n es j) → shownMark p ok n es j ≡ 1 → Settled p n es j
         only (yes s) e = s
-        only (no s) e = absurd (omega (arith, shown-unsettled j s .0))
+        only (no s) e = absurd (omega (arith, shown-unsettled 0 j s .0))
 
     -- and this is what a show that is not refused leaves in the memory lent to it, with n minus the count for an answer
-    pub show-accepted : (marks : List ℕ) (zs : List ℤ) → length marks ≡ n → length zs ≡ n
-        → ledgerShow p ok n (ledger es) marks zs
-        ≡ outcome (results (n - length es)) (tabulate n (shownMark p ok n es), tabulateℤ n (shownNumber p ok n es))
+    pub show-accepted : (low : ℕ) (marks : List ℕ) (zs : List ℤ) → length marks ≡ n → length zs ≡ n → low < p
+        → ledgerShow p ok n (ledger es) low marks zs
+        ≡ outcome (results (n - length es)) (tabulate n (shownMark p ok n es), tabulateℤ n (shownNumber p ok n es low))
     unfolding ledgerShow
-    show-accepted marks zs h l =
-        in-order-done _ _ _ (h and-then l and-then none-left) (λ _. refl)
+    show-accepted low marks zs h l b =
+        in-order-done _ _ _ (h and-then l and-then b and-then none-left) (λ _. refl)

@@ -10,7 +10,7 @@ use lib.IntN.{ℤ, pos}
 use lib.ListN.{length}
 use lib.Seq.{length-take-le}
 use Rattle.checks.specs.Prime.{IsModulus}
-use Rattle.checks.specs.declared.Refusal.the-variants.{Length, Conflict, Withdrawal}
+use Rattle.checks.specs.declared.Refusal.the-variants.{Conflict, Withdrawal}
 use Rattle.checks.specs.Refusal.{IsRefusal}
 use Rattle.checks.specs.Told.{results}
 use Rattle.checks.proofs.Refusals.{refusal-number}
@@ -67,7 +67,7 @@ module _ (p : ℕ) (ok : IsModulus p) (n : ℕ) where
       let (ds′, e′) = only-appends (r .lent .0) cs h in
       (ds ++ ds′, e′ ∙ ap (λ es. es ++ ds′) e ∙ append-assoc (l .entries) ds ds′)
   only-appends l (Call.withdraw t ∷ cs) h = absurd h
-  only-appends l (Call.show marks numbers ∷ cs) h = only-appends l cs h
+  only-appends l (Call.show low marks numbers ∷ cs) h = only-appends l cs h
 
   -- ---- no reply tells 11
 
@@ -84,13 +84,13 @@ module _ (p : ℕ) (ok : IsModulus p) (n : ℕ) where
 
   showed-not-eleven : (l : Ledger) {r : Outcome (List ℕ × List ℤ)} → Showed n l r → r .told .number ≡ 11 → ⊥
   showed-not-eleven l (answered lent) d = omega arith
-  showed-not-eleven l (unshown lent) d = omega arith
+  showed-not-eleven l (unshown lent k h) d = h .1 d
 
   pub step-not-eleven : (l : Ledger) (c : Call) → replyOf (ledgerStep p ok n l c) .told .number ≡ 11 → ⊥
   unfolding ledgerStep
   step-not-eleven l (Call.take frame mix) d = took-not-eleven l frame mix (took p ok n l frame mix) d
   step-not-eleven l (Call.withdraw t) d = withdrew-not-eleven l t (withdrew l t) d
-  step-not-eleven l (Call.show marks numbers) d = showed-not-eleven l (showed p ok n l marks numbers) d
+  step-not-eleven l (Call.show low marks numbers) d = showed-not-eleven l (showed p ok n l low marks numbers) d
 
   -- ---- how the entries change
 
@@ -113,7 +113,7 @@ module _ (p : ℕ) (ok : IsModulus p) (n : ℕ) where
   unfolding ledgerStep
   step-changes l (Call.take frame mix) = took-changes l frame mix (took p ok n l frame mix)
   step-changes l (Call.withdraw t) = withdrew-changes l t (withdrew l t)
-  step-changes l (Call.show marks numbers) = refl
+  step-changes l (Call.show low marks numbers) = refl
 
   -- ---- what is told of the count
 
@@ -130,17 +130,17 @@ module _ (p : ℕ) (ok : IsModulus p) (n : ℕ) where
       ap results (sym (length-take-le (length (l .entries) - t) (l .entries) (sub-le (length (l .entries)) t)))
   withdrew-counted l t overlong f = absurd (f (refusal-number Withdrawal))
 
-  showed-counted : (l : Ledger) (marks : List ℕ) (zs : List ℤ) {r : Outcome (List ℕ × List ℤ)} → Showed n l r
-      → Counted n (Call.show marks zs) (r .told) (length (l .entries))
-  showed-counted l marks zs (answered lent) f = refl
-  showed-counted l marks zs (unshown lent) f = absurd (f (refusal-number Length))
+  showed-counted : (l : Ledger) (low : ℕ) (marks : List ℕ) (zs : List ℤ) {r : Outcome (List ℕ × List ℤ)} → Showed n l r
+      → Counted n (Call.show low marks zs) (r .told) (length (l .entries))
+  showed-counted l low marks zs (answered lent) f = refl
+  showed-counted l low marks zs (unshown lent k h) f = absurd (f (refusal-number k))
 
   pub step-counted : (l : Ledger) (c : Call)
       → Counted n c (replyOf (ledgerStep p ok n l c) .told) (length (ledgerStep p ok n l c .state .entries))
   unfolding ledgerStep
   step-counted l (Call.take frame mix) = took-counted l frame mix (took p ok n l frame mix)
   step-counted l (Call.withdraw t) = withdrew-counted l t (withdrew l t)
-  step-counted l (Call.show marks numbers) = showed-counted l marks numbers (showed p ok n l marks numbers)
+  step-counted l (Call.show low marks numbers) = showed-counted l low marks numbers (showed p ok n l low marks numbers)
 
   -- ---- what is left as it was lent
 
@@ -151,19 +151,19 @@ module _ (p : ℕ) (ok : IsModulus p) (n : ℕ) where
   took-untouched l frame mix (conflict xs v e c g) h i = absurd (i refl)
   took-untouched l frame mix (refusal k j) h i = refl
 
-  show-untouched : (l : Ledger) (marks : List ℕ) (zs : List ℤ) →
-      let r = ledgerShow p ok n l marks zs in
-      Untouched (Call.show marks zs) (reply (r .told) (r .lent .0) (r .lent .1))
+  show-untouched : (l : Ledger) (low : ℕ) (marks : List ℕ) (zs : List ℤ) →
+      let r = ledgerShow p ok n l low marks zs in
+      Untouched (Call.show low marks zs) (reply (r .told) (r .lent .0) (r .lent .1))
   unfolding ledgerShow
-  show-untouched l marks zs =
-      in-order-elim _ _ (λ (o : Outcome (List ℕ × List ℤ)). Untouched (Call.show marks zs) (reply (o .told) (o .lent .0) (o .lent .1)))
+  show-untouched l low marks zs =
+      in-order-elim _ _ (λ (o : Outcome (List ℕ × List ℤ)). Untouched (Call.show low marks zs) (reply (o .told) (o .lent .0) (o .lent .1)))
       (λ _ h. absurd (omega arith)) (λ k _ _. (refl, refl))
 
   pub step-untouched : (l : Ledger) (c : Call) → Untouched c (replyOf (ledgerStep p ok n l c))
   unfolding ledgerStep
   step-untouched l (Call.take frame mix) = took-untouched l frame mix (took p ok n l frame mix)
   step-untouched l (Call.withdraw t) = tt
-  step-untouched l (Call.show marks numbers) = show-untouched l marks numbers
+  step-untouched l (Call.show low marks numbers) = show-untouched l low marks numbers
 
 -- ---- a refused call leaves the ledger as it is
 

@@ -12,17 +12,17 @@ use Rattle.checks.specs.Refusal.{refusalNumber}
 use Rattle.checks.specs.Told.{refused, results}
 use Rattle.checks.specs.Outcome.{Outcome, outcome, untouched}
 use Rattle.checks.specs.Prime.{IsModulus}
-use Rattle.checks.specs.declared.Refusal.the-variants.{Length, Conflict, Withdrawal}
+use Rattle.checks.specs.declared.Refusal.the-variants.{Length, Number, Conflict, Withdrawal}
 use Rattle.checks.specs.InOrder.{passed, _else_, _⨾_, inOrder}
 use Rattle.checks.specs.Decide.{long?}
-use Rattle.checks.proofs.InOrder.{none-left, fails-here, in-order-done, in-order-refused, in-order-elim, in-order-map, in-order-then, kind-of-list, _and-then_}
+use Rattle.checks.proofs.InOrder.{none-left, fails-here, or-later, in-order-done, in-order-refused, in-order-elim, in-order-map, in-order-then, kind-of-list, _and-then_}
 use Rattle.frame.specs.Reading.{frameMultipliers, frameValue, frameChecks, Found, accepted, rejected, readFrame}
 use Rattle.frame.proofs.ReadChecks.{reading-elim}
 use Rattle.ledger.specs.Ledger.{entry, Ledger, ledger, InSpan, GivesValue}
 use Rattle.ledger.specs.Decide.{inSpan?, givesValue?}
 use Rattle.ledger.specs.Steps.{newTold, repeatTold, mixWords, takeInSpan, takeAccepted, ledgerTake, ledgerWithdraw, ledgerShow}
 
--- a kind that take refuses by before it looks at the standing frames: not 9, and not 11, which is for words that hold no ledger
+-- a kind that take and show refuse by before they look at the standing frames: not 9, and not 11, which is for words that hold no ledger
 abbrev pub EarlyKind : Refusal → Type 0
 EarlyKind k = (refusalNumber k ≡ 9 → ⊥) × (refusalNumber k ≡ 11 → ⊥)
 
@@ -105,16 +105,26 @@ withdrew l t =
 
 -- ---- show
 
--- what is told: n minus the count, or a refusal
+-- marks or numbers of another length are refused by 3, whatever the low end
+pub show-lengths-first : (p : ℕ) (ok : IsModulus p) (n : ℕ) (l : Ledger) (low : ℕ) (marks : List ℕ) (zs : List ℤ)
+    → (length marks ≡ n → length zs ≡ n → ⊥) → ledgerShow p ok n l low marks zs ≡ untouched (marks, zs) Length
+unfolding ledgerShow
+show-lengths-first p ok n l low marks zs bad = in-order-refused _ _ (or-later (λ h. fails-here (bad h)))
+
+-- what is told: n minus the count, or a refusal that is neither 9 nor 11
 pub data Showed (n : ℕ) (l : Ledger) : Outcome (List ℕ × List ℤ) → Type 0 where
   answered : (lent : List ℕ × List ℤ) → Showed n l (outcome (results (n - length (l .entries))) lent)
-  unshown : (lent : List ℕ × List ℤ) → Showed n l (untouched lent Length)
+  unshown : (lent : List ℕ × List ℤ) (k : Refusal) → EarlyKind k → Showed n l (untouched lent k)
 
-pub showed : (p : ℕ) (ok : IsModulus p) (n : ℕ) (l : Ledger) (marks : List ℕ) (zs : List ℤ)
-    → Showed n l (ledgerShow p ok n l marks zs)
+pub showed : (p : ℕ) (ok : IsModulus p) (n : ℕ) (l : Ledger) (low : ℕ) (marks : List ℕ) (zs : List ℤ)
+    → Showed n l (ledgerShow p ok n l low marks zs)
 unfolding ledgerShow
-showed p ok n l marks zs =
+showed p ok n l low marks zs =
     in-order-elim _ _ (Showed n l) (λ _. answered _)
-    (λ k f.
-    subst (λ q. Showed n l (untouched (marks, zs) q)) (sym (kind-of-list (λ q. q ≡ Length) (refl, λ _. (refl, λ _. tt)) f))
-    (unshown (marks, zs)))
+    (λ k f. unshown (marks, zs) k (kind-of-list EarlyKind (three, λ _. (three, λ _. (four, λ _. tt))) f))
+  where
+    three : EarlyKind Length
+    three = (λ e. omega arith, λ e. omega arith)
+
+    four : EarlyKind Number
+    four = (λ e. omega arith, λ e. omega arith)

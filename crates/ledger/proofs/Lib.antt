@@ -20,3 +20,4 @@ pub mod EarlierOrder
 pub mod Demand3
 pub mod Honest
 pub mod SumOfFrames
+pub mod LowEnds

@@ -60,7 +60,7 @@ module _ (p : ℕ) (ok : IsModulus p) (n : ℕ) where
   count-rises l (Call.withdraw t ∷ cs) =
       let r = ledgerWithdraw l t in
       omega (arith, withdrew-falls l t (withdrew l t), count-rises (r .lent) cs)
-  count-rises l (Call.show marks numbers ∷ cs) = omega (arith, count-rises l cs)
+  count-rises l (Call.show low marks numbers ∷ cs) = omega (arith, count-rises l cs)
 
   -- where all are settled there are n entries
   pub settled-full : (es : List Entry) → Proper p n es → AllSettled p n es → length es ≡ n

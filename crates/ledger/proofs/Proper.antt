@@ -116,4 +116,4 @@ module _ (p n : ℕ) (es : List Entry) (proper : Proper p n es) where
     unfolding ledgerStep
     step-proper (Call.take frame mix) = took-proper frame mix (took p ok n (ledger es) frame mix)
     step-proper (Call.withdraw t) = withdrew-proper t (withdrew (ledger es) t)
-    step-proper (Call.show marks numbers) = proper
+    step-proper (Call.show low marks numbers) = proper

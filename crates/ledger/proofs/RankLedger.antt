@@ -183,7 +183,7 @@ module _ (p : ℕ) (ok : IsModulus p) (n : ℕ) where
       (run-heard (r .lent .0) cs h xs)
       (List·Memᴰ·append-cases (heardIn p n (Call.take frame mix) (reply (r .told) (r .lent .1) [])) m)
   run-heard l (Call.withdraw t ∷ cs) h xs m = absurd h
-  run-heard l (Call.show marks numbers ∷ cs) h xs m = run-heard l cs h xs m
+  run-heard l (Call.show low marks numbers ∷ cs) h xs m = run-heard l cs h xs m
 
   -- the entries at the end stood at the start or were heard
   run-stands : (l : Ledger) (cs : List Call) → NoWithdrawal cs → (e : Entry) → List·Memᴰ e (ledgerRun p ok n l cs .state .entries)
@@ -196,7 +196,7 @@ module _ (p : ℕ) (ok : IsModulus p) (n : ℕ) where
       ⊎-elim (λ k. ⊎-elim inl (λ i. inr (Memᴰ·append-left _ i)) (took-stands l frame mix (took p ok n l frame mix) e k))
       (λ k. inr (Memᴰ·append-right now k)) (run-stands (r .lent .0) cs h e m)
   run-stands l (Call.withdraw t ∷ cs) h e m = absurd h
-  run-stands l (Call.show marks numbers ∷ cs) h e m = run-stands l cs h e m
+  run-stands l (Call.show low marks numbers ∷ cs) h e m = run-stands l cs h e m
 
   -- 01: "in a history without withdrawals that is also the rank of the multipliers of all frames answered new or repeat, in
   -- whatever order they came": hs is any order of them

@@ -15,7 +15,7 @@ use Rattle.checks.specs.Refusal.{IsRefusal}
 use Rattle.checks.specs.Told.{Told}
 use Rattle.checks.specs.Outcome.{Outcome}
 use Rattle.checks.proofs.Refusals.{refusal-number}
-use Rattle.checks.proofs.InOrder.{none-left, fails-here, or-later, in-order-done, in-order-refused, in-order-elim, _and-then_}
+use Rattle.checks.proofs.InOrder.{none-left, fails-here, in-order-done, in-order-refused, in-order-elim, _and-then_, _then_}
 use Rattle.words.proofs.Zeros.{zeros-at}
 use Rattle.field.specs.Residue.{reduce, residues}
 use Rattle.field.specs.Written.{numbers}
@@ -29,9 +29,9 @@ use Rattle.ledger.specs.History.{Call, Reply, reply, ledgerStep}
 use Rattle.ledger.specs.Turns.{replyOf}
 use Rattle.ledger.specs.Proper.{Proper}
 use Rattle.ledger.specs.Answers.{TakeAnswers, WithdrawAnswers, ShowAnswers, Answers, Shows, IsMix}
-use Rattle.ledger.proofs.LedgerSteps.{Took, new, repeat, conflict, refusal}
+use Rattle.ledger.proofs.LedgerSteps.{Took, new, repeat, conflict, refusal, show-lengths-first}
 use Rattle.ledger.proofs.LedgerLaws.{length-tabulateℤ, getD-tabulateℤ, combination-once, take-new, take-repeat, take-conflict}
-use Rattle.ledger.proofs.LedgerLaws.{shown-exactly, marked-exactly, show-accepted}
+use Rattle.ledger.proofs.LedgerLaws.{shown-exactly, shown-in-range, marked-exactly, show-accepted}
 
 -- a mix has n words
 mix-words-long : (p n : ℕ) (es : List Entry) (u : Vector (residues p)) → length es ≤ n → length (mixWords p n es u) ≡ n
@@ -77,47 +77,53 @@ module _ (p : ℕ) (ok : IsModulus p) (n : ℕ) (es : List Entry) (proper : Prop
         overlong = λ f. ap (λ (r : Outcome Ledger). r .told) (in-order-refused _ _ (fails-here f));
       }
 
-  show-answers : (marks : List ℕ) (zs : List ℤ) → ShowAnswers n es marks zs (ledgerShow p ok n (ledger es) marks zs .told)
+  show-answers : (low : ℕ) (marks : List ℕ) (zs : List ℤ)
+      → ShowAnswers p n es low marks zs (ledgerShow p ok n (ledger es) low marks zs .told)
   unfolding ledgerShow
-  show-answers marks zs =
+  show-answers low marks zs =
       record {
-        shows = λ h l. ap (λ (r : Outcome (List ℕ × List ℤ)). r .told) (show-accepted p ok n es proper marks zs h l);
-        lengths = λ bad. ap (λ (r : Outcome (List ℕ × List ℤ)). r .told) (in-order-refused _ _ (or-later (λ h. fails-here (bad h))));
+        shows = λ h l b. ap (λ (r : Outcome (List ℕ × List ℤ)). r .told) (show-accepted p ok n es proper low marks zs h l b);
+        lengths = λ bad. ap (λ (r : Outcome (List ℕ × List ℤ)). r .told) (show-lengths-first p ok n (ledger es) low marks zs bad);
+        low-end = λ h l b.
+            ap (λ (r : Outcome (List ℕ × List ℤ)). r .told) (in-order-refused _ _ (h then l then fails-here (λ c. omega arith)));
       }
 
   pub step-answers : (c : Call) → Answers p n es c (replyOf (ledgerStep p ok n (ledger es) c) .told)
   unfolding ledgerStep
   step-answers (Call.take frame mix) = take-answers frame mix
   step-answers (Call.withdraw t) = withdraw-answers t
-  step-answers (Call.show marks numbers) = show-answers marks numbers
+  step-answers (Call.show low marks numbers) = show-answers low marks numbers
 
   -- ---- show
 
-  -- a show that is not refused was lent n marks and n numbers
-  shown-lengths : (marks : List ℕ) (zs : List ℤ) → (IsRefusal (ledgerShow p ok n (ledger es) marks zs .told .number) → ⊥)
-      → (length marks ≡ n) × (length zs ≡ n)
+  -- a show that is not refused was lent n marks and n numbers, and its low end is below p
+  pub shown-given : (low : ℕ) (marks : List ℕ) (zs : List ℤ) → (IsRefusal (ledgerShow p ok n (ledger es) low marks zs .told .number) → ⊥)
+      → (length marks ≡ n) × (length zs ≡ n) × (low < p)
   unfolding ledgerShow
-  shown-lengths marks zs =
-      in-order-elim _ _ (λ (o : Outcome (List ℕ × List ℤ)). (IsRefusal (o .told .number) → ⊥) → (length marks ≡ n) × (length zs ≡ n))
-      (λ hs _. (hs .0, hs .1 .0))
+  shown-given low marks zs =
+      in-order-elim _ _
+      (λ (o : Outcome (List ℕ × List ℤ)). (IsRefusal (o .told .number) → ⊥) → (length marks ≡ n) × (length zs ≡ n) × (low < p))
+      (λ hs _. (hs .0, hs .1 .0, hs .1 .1 .0))
       (λ k _ f. absurd (f (refusal-number k)))
 
   -- a show's outcome as a reply
   abbrev pub showReply : Outcome (List ℕ × List ℤ) → Reply
   showReply r = reply (r .told) (r .lent .0) (r .lent .1)
 
-  pub show-shows : (marks : List ℕ) (zs : List ℤ) → (IsRefusal (ledgerShow p ok n (ledger es) marks zs .told .number) → ⊥)
-      → Shows p n es (showReply (ledgerShow p ok n (ledger es) marks zs))
-  show-shows marks zs f =
-      let (h, l) = shown-lengths marks zs f in
-      subst (λ r. Shows p n es (showReply r)) (sym (show-accepted p ok n es proper marks zs h l))
+  pub show-shows : (low : ℕ) (marks : List ℕ) (zs : List ℤ) → (IsRefusal (ledgerShow p ok n (ledger es) low marks zs .told .number) → ⊥)
+      → Shows p n low es (showReply (ledgerShow p ok n (ledger es) low marks zs))
+  show-shows low marks zs f =
+      let (h, l, b) = shown-given low marks zs f in
+      subst (λ r. Shows p n low es (showReply r)) (sym (show-accepted p ok n es proper low marks zs h l b))
       (record {
+        low-below = b;
         missing = refl;
         marks-long = length-tabulate n (shownMark p ok n es);
-        numbers-long = length-tabulateℤ n (shownNumber p ok n es);
+        numbers-long = length-tabulateℤ n (shownNumber p ok n es low);
         marked-exactly = λ j b. rw (getD-tabulate n (shownMark p ok n es) j b) (marked-exactly p ok n es proper j);
         gives = λ j b.
-            rw (getD-tabulate n (shownMark p ok n es) j b, getD-tabulateℤ n (shownNumber p ok n es) j b) (shown-exactly p ok n es proper j);
+            rw (getD-tabulate n (shownMark p ok n es) j b, getD-tabulateℤ n (shownNumber p ok n es low) j b) (shown-exactly p ok n es proper low j);
+        in-range = λ j c. rw (getD-tabulateℤ n (shownNumber p ok n es low) j c) (shown-in-range p ok n es proper low j b);
       })
 
   -- ---- the mix

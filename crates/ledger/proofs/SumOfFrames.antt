@@ -125,26 +125,26 @@ module _ (p : ℕ) (ok : IsModulus p) (n : ℕ) where
       ∙ sums.sum-plus (residues p) L n (λ t. z t ⊗ reduce p (getD xs t 0)) (λ t. z t ⊗ reduce p (getD ys t 0)))
 
   -- what seal gives for the sum of two frames' multipliers is the sum of what it gives for theirs
-  pub seals-sum : FrameSize n → (zs : List ℤ) → HeatRecords p n zs → (xs ys summed : List ℕ) (v w : ℕ)
-      → SealsAs p n zs xs v → SealsAs p n zs ys w → IsSum p n xs ys summed → SealsAs p n zs summed ((v + w) % p)
-  seals-sum size zs heat xs ys summed v w e f s =
+  pub seals-sum : FrameSize n → (low : ℕ) (zs : List ℤ) → HeatRecords p n low zs → (xs ys summed : List ℕ) (v w : ℕ)
+      → SealsAs p n low zs xs v → SealsAs p n low zs ys w → IsSum p n xs ys summed → SealsAs p n low zs summed ((v + w) % p)
+  seals-sum size low zs heat xs ys summed v w e f s =
       ap (λ (o : Outcome (Unit {0})). o .told)
-      (sym (seal-done p n zs summed (sizes-hold p n ok size)
-      (heat .many and-then s .long and-then below and-then heat .in-range and-then none-left)))
+      (sym (seal-done p n low zs summed (sizes-hold p n ok size)
+      (heat .many and-then s .long and-then below and-then heat .low-below and-then heat .in-range and-then none-left)))
       ∙ ap (λ (k : ℕ). gives (pos k))
-      (sealed-sum zs xs ys summed s ∙ ap₂ (λ a b. (a + b) % p) (sym (seal-told p n zs xs v e)) (sym (seal-told p n zs ys w f)))
+      (sealed-sum zs xs ys summed s ∙ ap₂ (λ a b. (a + b) % p) (sym (seal-told p n low zs xs v e)) (sym (seal-told p n low zs ys w f)))
     where
       below : Below p summed
       below i h = rw (s .sums i (rw (s .long) at h)) (mod-lt (getD xs i 0 + getD ys i 0) (omega (arith, ok .prime .two-or-more)))
 
   -- so a frame that reads as the sum of two frames that come from records comes from those records
-  pub sum-comes-from : FrameSize n → (zs : List ℤ) → HeatRecords p n zs → (frame₁ frame₂ frame xs ys summed : List ℕ) (v w : ℕ)
-      → ReadsAs p n frame₁ xs v → ComesFrom p n zs frame₁ → ReadsAs p n frame₂ ys w → ComesFrom p n zs frame₂
-      → ReadsAs p n frame summed ((v + w) % p) → IsSum p n xs ys summed → ComesFrom p n zs frame
-  sum-comes-from size zs heat frame₁ frame₂ frame xs ys summed v w r from s from′ t sums us u q =
+  pub sum-comes-from : FrameSize n → (low : ℕ) (zs : List ℤ) → HeatRecords p n low zs → (frame₁ frame₂ frame xs ys summed : List ℕ) (v w : ℕ)
+      → ReadsAs p n frame₁ xs v → ComesFrom p n low zs frame₁ → ReadsAs p n frame₂ ys w → ComesFrom p n low zs frame₂
+      → ReadsAs p n frame summed ((v + w) % p) → IsSum p n xs ys summed → ComesFrom p n low zs frame
+  sum-comes-from size low zs heat frame₁ frame₂ frame xs ys summed v w r from s from′ t sums us u q =
       let room : List ℕ = replicate n 0 in
       let read = sym (t room (length-replicate n 0)) ∙ q room (length-replicate n 0) in
       let value = given-value (ap (λ (o : Outcome (List ℕ)). o .told) read) in
       let u-is : (v + w) % p ≡ u = cc in
-      subst₂ (SealsAs p n zs) (ap (λ (o : Outcome (List ℕ)). o .lent) read) u-is
-      (seals-sum size zs heat xs ys summed v w (from xs v r) (from′ ys w s) sums)
+      subst₂ (SealsAs p n low zs) (ap (λ (o : Outcome (List ℕ)). o .lent) read) u-is
+      (seals-sum size low zs heat xs ys summed v w (from xs v r) (from′ ys w s) sums)

@@ -31,9 +31,9 @@ module _ (ws : List ℕ) (none : IsBoard ws → ⊥) where
   unfolding withdrawCall
   withdraw-off-board t = in-order-refused _ _ off-board
 
-  pub show-off-board : (marks : List ℕ) (zs : List ℤ) → showCall ws marks zs ≡ untouched (marks, zs) NotBoard
+  pub show-off-board : (low : ℕ) (marks : List ℕ) (zs : List ℤ) → showCall ws low marks zs ≡ untouched (marks, zs) NotBoard
   unfolding showCall
-  show-off-board marks zs = in-order-refused _ _ off-board
+  show-off-board low marks zs = in-order-refused _ _ off-board
 
 module _ (ws : List ℕ) (b : IsBoard ws) where
   on-board : AllHold (boardChecks ws)
@@ -53,13 +53,13 @@ module _ (ws : List ℕ) (b : IsBoard ws) where
   unfolding withdrawCall
   withdraw-on-board t = in-order-done _ _ _ on-board (λ _. refl)
 
-  pub show-on-board : (marks : List ℕ) (zs : List ℤ)
-      → showCall ws marks zs ≡ ledgerShow (modulusWord ws) (b .prime) (sizeWord ws) (ledgerOf ws) marks zs
+  pub show-on-board : (low : ℕ) (marks : List ℕ) (zs : List ℤ)
+      → showCall ws low marks zs ≡ ledgerShow (modulusWord ws) (b .prime) (sizeWord ws) (ledgerOf ws) low marks zs
   unfolding showCall
-  show-on-board marks zs =
+  show-on-board low marks zs =
       in-order-done _ _ _ on-board
       (λ hs.
-      ap (λ ok. ledgerShow (modulusWord ws) ok (sizeWord ws) (ledgerOf ws) marks zs)
+      ap (λ ok. ledgerShow (modulusWord ws) ok (sizeWord ws) (ledgerOf ws) low marks zs)
       (modulus-prop (modulusWord ws) (hs .0 .prime) (b .prime)))
 
 -- ---- on the layout of a proper ledger
@@ -78,8 +78,9 @@ module _ (p n : ℕ) (es : List Entry) (ok : IsModulus p) (size : FrameSize n) (
       withdraw-on-board (layout p n es) (layout-board p n es ok size P) t
       ∙ ap (λ ds. wordsOf p n (ledgerWithdraw (ledger ds) t)) (layout-entries p n es (P .wide))
 
-  pub show-at-layout : (marks : List ℕ) (zs : List ℤ) → showCall (layout p n es) marks zs ≡ ledgerShow p ok n (ledger es) marks zs
+  pub show-at-layout : (low : ℕ) (marks : List ℕ) (zs : List ℤ)
+      → showCall (layout p n es) low marks zs ≡ ledgerShow p ok n (ledger es) low marks zs
   unfolding layout
-  show-at-layout marks zs =
-      show-on-board (layout p n es) (layout-board p n es ok size P) marks zs
-      ∙ ap₂ (λ k ds. ledgerShow p k n (ledger ds) marks zs) (modulus-prop p _ ok) (layout-entries p n es (P .wide))
+  show-at-layout low marks zs =
+      show-on-board (layout p n es) (layout-board p n es ok size P) low marks zs
+      ∙ ap₂ (λ k ds. ledgerShow p k n (ledger ds) low marks zs) (modulus-prop p _ ok) (layout-entries p n es (P .wide))

@@ -10,11 +10,12 @@ use lib.ListN as lists
 use Rattle.algebra.specs.Matrix.{Vector}
 use Rattle.algebra.specs.Span.{Combines}
 use Rattle.checks.specs.declared.Refusal.{Refusal}
-use Rattle.checks.specs.declared.Refusal.the-variants.{Length, Conflict, Withdrawal}
+use Rattle.checks.specs.declared.Refusal.the-variants.{Length, Number, Conflict, Withdrawal}
 use Rattle.checks.specs.Refusal.{IsRefusal}
 use Rattle.checks.specs.Told.{Told, refused, results}
 use Rattle.checks.specs.InOrder.{AllHold, FirstFailing}
 use Rattle.field.specs.Residue.{reduce, residues}
+use Rattle.signed.specs.Reading.{IsRecord}
 use Rattle.frame.specs.Reading.{frameMultipliers, frameValue}
 use Rattle.ledger.specs.Ledger.{Entry, entry, InSpan, GivesValue, Settled, multiplierRows}
 use Rattle.ledger.specs.Steps.{newTold, repeatTold, takeChecks}
@@ -39,15 +40,17 @@ pub record WithdrawAnswers (es : List Entry) (t : ℕ) (told : Told) : Type 0 wh
   pub drops : t ≤ length es → told ≡ results (length es - t)
   pub overlong : (t ≤ length es → ⊥) → told ≡ refused Withdrawal
 
--- "Show: checks .. 3. Lent: n marks, n signed numbers. .. The answer is n minus the count."
-pub record ShowAnswers (n : ℕ) (es : List Entry) (marks : List ℕ) (numbers : List ℤ) (told : Told) : Type 0 where
-  pub shows : length marks ≡ n → length numbers ≡ n → told ≡ results (n - length es)
+-- "Show: checks .. 3. Lent: n marks, n signed numbers. .. The answer is n minus the count." 02, #106: "An L of p or more is 4, .. last of
+-- all in show".
+pub record ShowAnswers (p n : ℕ) (es : List Entry) (low : ℕ) (marks : List ℕ) (numbers : List ℤ) (told : Told) : Type 0 where
+  pub shows : length marks ≡ n → length numbers ≡ n → low < p → told ≡ results (n - length es)
   pub lengths : (length marks ≡ n → length numbers ≡ n → ⊥) → told ≡ refused Length
+  pub low-end : length marks ≡ n → length numbers ≡ n → p ≤ low → told ≡ refused Number
 
 abbrev pub Answers : (p n : ℕ) → List Entry → Call → Told → Type 0
 Answers p n es (take frame mix) told = TakeAnswers p n es frame mix told
 Answers p n es (withdraw t) told = WithdrawAnswers es t told
-Answers p n es (show marks numbers) told = ShowAnswers n es marks numbers told
+Answers p n es (show low marks numbers) told = ShowAnswers p n es low marks numbers told
 
 -- ---- the standing frames
 
@@ -58,18 +61,21 @@ Changes n (take frame mix) told es fs =
     (told .number ≡ 0 → fs ≡ es ++ (entry (frameMultipliers n frame) (frameValue n frame) ∷ [])) × ((told .number ≡ 0 → ⊥) → fs ≡ es)
 Changes n (withdraw t) told es fs =
     ((IsRefusal (told .number) → ⊥) → fs ≡ lists.take (length es - t) es) × (IsRefusal (told .number) → fs ≡ es)
-Changes n (show marks numbers) told es fs = fs ≡ es
+Changes n (show low marks numbers) told es fs = fs ≡ es
 
 -- ---- what is written
 
--- what a show that is not refused replies where the frames es stand: the answer is n minus their number; record j is marked 1
--- exactly if it is settled, and given as `Gives` says; there are n marks and n numbers
-pub record Shows (p n : ℕ) (es : List Entry) (r : Reply) : Type 0 where
+-- what a show with the low end that is not refused replies where the frames es stand: the answer is n minus their number; record j is
+-- marked 1 exactly if it is settled, and given as `Gives` says; there are n marks and n numbers, and every number is in the range that
+-- the low end gives, 0 for a record that is not settled included
+pub record Shows (p n low : ℕ) (es : List Entry) (r : Reply) : Type 0 where
+  pub low-below : low < p
   pub missing : r .told ≡ results (n - length es)
   pub marks-long : length (r .words) ≡ n
   pub numbers-long : length (r .numbers) ≡ n
   pub marked-exactly : (j : ℕ) → j < n → (getD (r .words) j 0 ≡ 1) ↔ Settled p n es j
-  pub gives : (j : ℕ) → j < n → Gives p n es j (getD (r .words) j 0) (getD (r .numbers) j (pos 0))
+  pub gives : (j : ℕ) → j < n → Gives p n low es j (getD (r .words) j 0) (getD (r .numbers) j (pos 0))
+  pub in-range : (j : ℕ) → j < n → IsRecord p low (getD (r .numbers) j (pos 0))
 
 -- the mix of a frame with the multipliers xs where the frames es stand: "the combination is unique; its multipliers are written
 -- to the mix, the rest 0"
@@ -88,11 +94,11 @@ pub record IsMix (p n : ℕ) (es : List Entry) (xs mix : List ℕ) : Type 0 wher
 abbrev pub Counted : (n : ℕ) → Call → Told → ℕ → Type 0
 Counted n (take frame mix) told k = (IsRefusal (told .number) → ⊥) → told .values ≡ pos k ∷ []
 Counted n (withdraw t) told k = (IsRefusal (told .number) → ⊥) → told ≡ results k
-Counted n (show marks numbers) told k = (IsRefusal (told .number) → ⊥) → told ≡ results (n - k)
+Counted n (show low marks numbers) told k = (IsRefusal (told .number) → ⊥) → told ≡ results (n - k)
 
 -- what a call leaves of the memory lent to it that it does not write: "answer new, with the count; mix untouched", and so every take
 -- that is neither answered repeat, 100, nor refused by 9; a show that is refused
 abbrev pub Untouched : Call → Reply → Type 0
 Untouched (take frame mix) r = (r .told .number ≡ 100 → ⊥) → (r .told .number ≡ 9 → ⊥) → r .words ≡ mix
 Untouched (withdraw t) r = Unit {0}
-Untouched (show marks numbers) r = IsRefusal (r .told .number) → (r .words ≡ marks) × (r .numbers ≡ numbers)
+Untouched (show low marks numbers) r = IsRefusal (r .told .number) → (r .words ≡ marks) × (r .numbers ≡ numbers)

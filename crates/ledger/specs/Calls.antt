@@ -45,7 +45,7 @@ unfoldable pub withdrawCall : (ws : List ℕ) (t : ℕ) → Outcome (List ℕ)
 withdrawCall ws t =
     inOrder (boardChecks ws) (λ _. wordsOf (modulusWord ws) (sizeWord ws) (ledgerWithdraw (ledgerOf ws) t)) (untouched ws)
 
-unfoldable pub showCall : (ws marks : List ℕ) (zs : List ℤ) → Outcome (List ℕ × List ℤ)
-showCall ws marks zs =
-    inOrder (boardChecks ws) (λ hs. ledgerShow (modulusWord ws) (hs .0 .prime) (sizeWord ws) (ledgerOf ws) marks zs)
+unfoldable pub showCall : (ws : List ℕ) (low : ℕ) (marks : List ℕ) (zs : List ℤ) → Outcome (List ℕ × List ℤ)
+showCall ws low marks zs =
+    inOrder (boardChecks ws) (λ hs. ledgerShow (modulusWord ws) (hs .0 .prime) (sizeWord ws) (ledgerOf ws) low marks zs)
     (untouched (marks, zs))

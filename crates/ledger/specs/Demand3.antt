@@ -80,8 +80,8 @@ module _ (p : ℕ) (ok : IsModulus p) (n : ℕ) (ws : List ℕ) where
         → rowsRank p ok n hs ≡ countWord (wordsAfter p n ws cs)
     -- "A show not refused gives a record exactly when all assignments meeting the frames then standing agree on it, and gives
     -- what they agree on."
-    pub shows : (t : Turn cs) (marks : List ℕ) (numbers : List ℤ) → t .call ≡ show marks numbers
-        → (IsRefusal (replyAt p n ws t .told .number) → ⊥) → Shows p n (standing p ok n (t .before)) (replyAt p n ws t)
+    pub shows : (t : Turn cs) (low : ℕ) (marks : List ℕ) (numbers : List ℤ) → t .call ≡ show low marks numbers
+        → (IsRefusal (replyAt p n ws t .told .number) → ⊥) → Shows p n low (standing p ok n (t .before)) (replyAt p n ws t)
     -- the standing frames have a common assignment, after the list and after every front of it
     pub common : (before behind : List Call) → cs ≡ before ++ behind → (x : Assignment p) × MeetsAll p n (standing p ok n before) x
     -- "Otherwise the combination is unique; its multipliers are written to the mix, the rest 0.": of a frame that is answered

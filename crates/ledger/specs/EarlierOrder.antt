@@ -35,7 +35,7 @@ unfoldable pub earlierStep : List ℕ → Call → After (List ℕ)
 earlierStep ws (Call.take frame mix) =
     let r = earlierTakeCall ws frame mix in after (r .lent .0) (reply (r .told) (r .lent .1) [] ∷ [])
 earlierStep ws (Call.withdraw t) = boardStep ws (Call.withdraw t)
-earlierStep ws (Call.show marks numbers) = boardStep ws (Call.show marks numbers)
+earlierStep ws (Call.show low marks numbers) = boardStep ws (Call.show low marks numbers)
 
 -- where the answer of take moved: 11 and 3 are passed, and the frame is one of those that the request names
 abbrev pub TakeMoved : (ws frame mix : List ℕ) → Type 0
@@ -52,7 +52,7 @@ abbrev pub ReplyMoves : (ws : List ℕ) → Call → (was is : Reply) → Type 0
 ReplyMoves ws (Call.take frame mix) was is =
     MovesExactly (TakeMoved ws frame mix) (reply (refused Padding) mix []) (reply (refused FrameLength) mix []) was is
 ReplyMoves ws (Call.withdraw t) was is = is ≡ was
-ReplyMoves ws (Call.show marks numbers) was is = is ≡ was
+ReplyMoves ws (Call.show low marks numbers) was is = is ≡ was
 
 -- a call of a list gets and leaves the words that it got and left before, and its reply moves so
 pub record TurnMoves (ws : List ℕ) {cs : List Call} (t : Turn cs) : Type 0 where

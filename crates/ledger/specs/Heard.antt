@@ -21,7 +21,7 @@ abbrev pub NoWithdrawal : List Call → Type 0
 NoWithdrawal [] = Unit {0}
 NoWithdrawal (take frame mix ∷ cs) = NoWithdrawal cs
 NoWithdrawal (withdraw t ∷ cs) = ⊥
-NoWithdrawal (show marks numbers ∷ cs) = NoWithdrawal cs
+NoWithdrawal (show low marks numbers ∷ cs) = NoWithdrawal cs
 
 -- ---- takes answered new
 
@@ -29,7 +29,7 @@ NoWithdrawal (show marks numbers ∷ cs) = NoWithdrawal cs
 unfoldable pub newIn : Call → Reply → ℕ
 newIn (take frame mix) r = choose (eqb (r .told .number) 0) 1 0
 newIn (withdraw t) r = 0
-newIn (show marks numbers) r = 0
+newIn (show low marks numbers) r = 0
 
 unfoldable pub news : List Call → List Reply → ℕ
 news [] rs = 0
@@ -49,7 +49,7 @@ heardIn p n (take frame mix) r =
     choose (eqb (r .told .number) 0) (multipliersOf (readFrame p n frame))
     (choose (eqb (r .told .number) 100) (multipliersOf (readFrame p n frame)) [])
 heardIn p n (withdraw t) r = []
-heardIn p n (show marks numbers) r = []
+heardIn p n (show low marks numbers) r = []
 
 unfoldable pub heard : (p n : ℕ) → List Call → List Reply → List (List ℕ)
 heard p n [] rs = []

@@ -14,7 +14,7 @@ use Rattle.ledger.specs.Calls.{takeCall, withdrawCall, showCall}
 pub data Call : Type 0 where
   take : (frame mix : List ℕ) → Call
   withdraw : (t : ℕ) → Call
-  show : (marks : List ℕ) (numbers : List ℤ) → Call
+  show : (low : ℕ) (marks : List ℕ) (numbers : List ℤ) → Call
 
 -- what a call answered, and what it left in the words (mix or marks) and the numbers lent to it
 pub record Reply : Type 0 where
@@ -38,15 +38,15 @@ unfoldable pub ledgerStep : (p : ℕ) → IsModulus p → (n : ℕ) → Ledger �
 ledgerStep p ok n l (take frame mix) =
     let r = ledgerTake p ok n l frame mix in after (r .lent .0) (reply (r .told) (r .lent .1) [] ∷ [])
 ledgerStep p ok n l (withdraw t) = let r = ledgerWithdraw l t in after (r .lent) (reply (r .told) [] [] ∷ [])
-ledgerStep p ok n l (show marks numbers) =
-    let r = ledgerShow p ok n l marks numbers in after l (reply (r .told) (r .lent .0) (r .lent .1) ∷ [])
+ledgerStep p ok n l (show low marks numbers) =
+    let r = ledgerShow p ok n l low marks numbers in after l (reply (r .told) (r .lent .0) (r .lent .1) ∷ [])
 
 -- one call on the board
 unfoldable pub boardStep : List ℕ → Call → After (List ℕ)
 boardStep ws (take frame mix) = let r = takeCall ws frame mix in after (r .lent .0) (reply (r .told) (r .lent .1) [] ∷ [])
 boardStep ws (withdraw t) = let r = withdrawCall ws t in after (r .lent) (reply (r .told) [] [] ∷ [])
-boardStep ws (show marks numbers) =
-    let r = showCall ws marks numbers in after ws (reply (r .told) (r .lent .0) (r .lent .1) ∷ [])
+boardStep ws (show low marks numbers) =
+    let r = showCall ws low marks numbers in after ws (reply (r .told) (r .lent .0) (r .lent .1) ∷ [])
 
 -- a list of calls, each on what the last one left
 unfoldable pub run : {S : Type 0} → (S → Call → After S) → S → List Call → After S

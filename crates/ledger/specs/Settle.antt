@@ -14,11 +14,11 @@ use Rattle.ledger.specs.Ledger.{Entry, Ledger, Assignment, MeetsAll, Set
 use Rattle.ledger.specs.History.{Call, take, Reply, After}
 use Rattle.ledger.specs.Heard.{news}
 
--- record j is marked 1 and its signed reading given exactly if all assignments meeting the ledger's frames agree at j;
--- otherwise 0 and 0
-abbrev pub Gives : (p n : ℕ) → List Entry → (j mark : ℕ) → ℤ → Type 0
-Gives p n es j mark number =
-    (Settled p n es j → (x : Assignment p) → MeetsAll p n es x → (mark ≡ 1) × (number ≡ reading p (x j .value)))
+-- record j is marked 1 and its signed reading with the low end given exactly if all assignments meeting the ledger's frames agree at j;
+-- otherwise 0 and 0. The low end is in the number alone: "What counts as a settled record is untouched" (02, #106)
+abbrev pub Gives : (p n low : ℕ) → List Entry → (j mark : ℕ) → ℤ → Type 0
+Gives p n low es j mark number =
+    (Settled p n es j → (x : Assignment p) → MeetsAll p n es x → (mark ≡ 1) × (number ≡ reading p low (x j .value)))
     × ((Settled p n es j → ⊥) → (mark ≡ 0) × (number ≡ pos 0))
 
 -- all records are settled

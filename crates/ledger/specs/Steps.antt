@@ -2,12 +2,13 @@
 -- memory lent to the call.
 use mathlib.Core.List.{List, [], _∷_, _++_}
 use Prim.Native.Nat.{ℕ, zero, suc, _-_}
+use native.Mathlib.Decide.{decLt}
 use lib.IntN.{ℤ, pos}
 use lib.ListN.{length, take, replicate}
 use Rattle.algebra.specs.Choice.{pickBy}
 use Rattle.algebra.specs.Matrix.{Vector}
 use Rattle.checks.specs.declared.Refusal.{Refusal}
-use Rattle.checks.specs.declared.Refusal.the-variants.{Length, Conflict, Withdrawal}
+use Rattle.checks.specs.declared.Refusal.the-variants.{Length, Number, Conflict, Withdrawal}
 use Rattle.checks.specs.InOrder.{Checks, passed, _else_, _⨾_, inOrder}
 use Rattle.checks.specs.Told.{Told, refused, gives, results}
 use Rattle.checks.specs.Outcome.{Outcome, outcome, untouched}
@@ -75,23 +76,24 @@ unfoldable pub tabulateℤ : ℕ → (ℕ → ℤ) → List ℤ
 tabulateℤ zero f = []
 tabulateℤ (suc n) f = f 0 ∷ tabulateℤ n (λ k. f (suc k))
 
--- record j is marked 1 and its signed reading given exactly if all assignments meeting the ledger's frames agree at j;
+-- record j is marked 1 and its signed reading with the low end given exactly if all assignments meeting the ledger's frames agree at j;
 -- otherwise 0 and 0
 module _ (p : ℕ) (ok : IsModulus p) (n : ℕ) (es : List Entry) where
   unfoldable pub shownMark : ℕ → ℕ
   shownMark j = pickBy (agreed? p ok n es j) (λ a. 1) 0
 
-  unfoldable pub shownNumber : ℕ → ℤ
-  shownNumber j = pickBy (agreed? p ok n es j) (λ a. reading p (a .0 .value)) (pos 0)
+  unfoldable pub shownNumber : (low j : ℕ) → ℤ
+  shownNumber low j = pickBy (agreed? p ok n es j) (λ a. reading p low (a .0 .value)) (pos 0)
 
-abbrev pub showChecks : (n : ℕ) (marks : List ℕ) (zs : List ℤ) → Checks Refusal
-showChecks n marks zs = long? marks n else Length ⨾ long? zs n else Length ⨾ passed
+-- 3, then 4: "An L of p or more is 4, .. last of all in show" (02, #106)
+abbrev pub showChecks : (p n low : ℕ) (marks : List ℕ) (zs : List ℤ) → Checks Refusal
+showChecks p n low marks zs = long? marks n else Length ⨾ long? zs n else Length ⨾ decLt low p else Number ⨾ passed
 
 -- the answer is n minus the count
-unfoldable pub ledgerShow : (p : ℕ) → IsModulus p → (n : ℕ) → Ledger → List ℕ → List ℤ → Outcome (List ℕ × List ℤ)
-ledgerShow p ok n l marks zs =
-    inOrder (showChecks n marks zs)
+unfoldable pub ledgerShow : (p : ℕ) → IsModulus p → (n : ℕ) → Ledger → (low : ℕ) → List ℕ → List ℤ → Outcome (List ℕ × List ℤ)
+ledgerShow p ok n l low marks zs =
+    inOrder (showChecks p n low marks zs)
     (λ _.
     outcome (results (n - length (l .entries)))
-    (tabulate n (shownMark p ok n (l .entries)), tabulateℤ n (shownNumber p ok n (l .entries))))
+    (tabulate n (shownMark p ok n (l .entries)), tabulateℤ n (shownNumber p ok n (l .entries) low)))
     (untouched (marks, zs))

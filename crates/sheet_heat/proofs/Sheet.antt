@@ -24,11 +24,12 @@ use Rattle.checks.proofs.InOrder.{in-order-elim}
 use Rattle.codec.specs.BigEndian.{width, numberFrom, numberAt}
 use Rattle.ledger.specs.Ledger.{Ledger, ledger}
 use Rattle.ledger.specs.Steps.{ledgerTake}
+use Rattle.signed.specs.Balanced.{balancedLow}
 use Rattle.ledger.specs.Board.{boardLength, countWord, boardOf}
 use Rattle.ledger.specs.Calls.{openCall, takeCall, showCall}
 use Rattle.ledger.specs.History.{Call, ledgerStep}
 use Rattle.ledger.specs.Proper.{Proper}
-use Rattle.ledger.proofs.LayoutBoard.{layout-size, layout-count}
+use Rattle.ledger.proofs.LayoutBoard.{layout-modulus, layout-size, layout-count}
 use Rattle.ledger.proofs.Proper.{empty-proper, step-proper}
 use Rattle.ledger.proofs.WordsCalls.{take-at-layout, show-at-layout}
 use Rattle.ledger.proofs.Histories.{open-done}
@@ -89,8 +90,8 @@ module _ (p n : ℕ) (ok : IsModulus p) (small : FrameSize n) where
   unfolding endingOf ledgerEnding
   ending-by-calls l P =
       let ws = boardOf p n l in
-      ap (λ m. endingFrom m (showCall ws (replicate m 0) (replicate m (pos 0)))) (layout-size p n (l .entries))
-      ∙ ap (endingFrom n) (show-at-layout p n (l .entries) ok small P (replicate n 0) (replicate n (pos 0)))
+      ap₂ (λ q m. endingFrom m (showCall ws (balancedLow q) (replicate m 0) (replicate m (pos 0)))) (layout-modulus p n (l .entries)) (layout-size p n (l .entries))
+      ∙ ap (endingFrom n) (show-at-layout p n (l .entries) ok small P (balancedLow p) (replicate n 0) (replicate n (pos 0)))
 
   cut-by-calls : (l : Ledger) → Proper p n (l .entries) → cutLine ++ endingOf (boardOf p n l) ≡ cutEnding p ok n l
   unfolding cutEnding

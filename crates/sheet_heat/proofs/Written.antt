@@ -13,14 +13,15 @@ use Rattle.checks.specs.Outcome.{Outcome, outcome}
 use Rattle.checks.proofs.Refusals.{refusal-number}
 use Rattle.codec.specs.Placed.{Put}
 use Rattle.codec.proofs.Placed.{placed-none, put-then}
-use Rattle.ledger.specs.Board.{IsBoard, sizeWord, countWord}
+use Rattle.signed.specs.Balanced.{balancedLow}
+use Rattle.ledger.specs.Board.{IsBoard, modulusWord, sizeWord, countWord}
 use Rattle.ledger.specs.Calls.{takeCall, showCall}
 use Rattle.sheet_text.specs.Lines.{frameLine, recordLine, recordLines, missingLine}
 use Rattle.sheet_text.specs.Written.{Printed}
 use Rattle.sheet_text.proofs.Written.{put-line}
 use Rattle.sheet_heat.specs.Sheet.{endingFrom}
 use Rattle.sheet_heat.specs.Calls.{takenLine, FrameWritten, endingOf}
-use Rattle.sheet_heat.proofs.Boards.{take-keeps-board, show-board, show-same}
+use Rattle.sheet_heat.proofs.Boards.{take-keeps-board, show-board, show-same, board-low}
 
 -- ---- a frame
 
@@ -55,17 +56,17 @@ record-lines-more k marks zs p q = rw add-one (put-then (omega arith) p q)
 
 -- the memory as it is lent makes no difference
 pub ending-lent : (ws : List ℕ) → IsBoard ws → (marks : List ℕ) (zs : List ℤ) → length marks ≡ sizeWord ws → length zs ≡ sizeWord ws
-    → endingOf ws ≡ endingFrom (sizeWord ws) (showCall ws marks zs)
+    → endingOf ws ≡ endingFrom (sizeWord ws) (showCall ws (balancedLow (modulusWord ws)) marks zs)
 unfolding endingOf
 ending-lent ws b marks zs h l =
     let n = sizeWord ws in
     ap (endingFrom n)
-    (show-same ws b (replicate n 0) marks (replicate n (pos 0)) zs (length-replicate n 0) (length-replicate n (pos 0)) h l)
+    (show-same ws b (balancedLow (modulusWord ws)) (replicate n 0) marks (replicate n (pos 0)) zs (board-low b) (length-replicate n 0) (length-replicate n (pos 0)) h l)
 
 -- what show told and left is the ending
 pub ending-shown : (ws : List ℕ) → IsBoard ws → (marks ks : List ℕ) (zs ys : List ℤ) (missing : ℕ)
     → length marks ≡ sizeWord ws → length zs ≡ sizeWord ws
-    → outcome (results missing) (ks, ys) ≡ showCall ws marks zs
+    → outcome (results missing) (ks, ys) ≡ showCall ws (balancedLow (modulusWord ws)) marks zs
     → endingOf ws ≡ recordLines (sizeWord ws) ks ys ++ missingLine missing
 unfolding endingFrom
 ending-shown ws b marks ks zs ys missing h l e = ending-lent ws b marks zs h l ∙ ap (endingFrom (sizeWord ws)) (sym e)
@@ -73,7 +74,7 @@ ending-shown ws b marks ks zs ys missing h l e = ending-lent ws b marks zs h l �
 -- so the lines written are it
 pub ending-written : {ws : List ℕ} → IsBoard ws → (marks : List ℕ) (zs : List ℤ) {ks : List ℕ} {ys : List ℤ} {missing : ℕ}
     → length marks ≡ sizeWord ws → length zs ≡ sizeWord ws → length ks ≡ sizeWord ws
-    → outcome (results missing) (ks, ys) ≡ showCall ws marks zs
+    → outcome (results missing) (ks, ys) ≡ showCall ws (balancedLow (modulusWord ws)) marks zs
     → {out mid out′ : List ℕ} {at answer : ℕ} → Put 0 (recordLines (length ks) ks ys) out mid at → Put at (missingLine missing) mid out′ answer
     → Printed (endingOf ws) out out′ answer
 ending-written {ws} b marks zs {ks} {ys} {missing} h l g e p q =
@@ -82,6 +83,6 @@ ending-written {ws} b marks zs {ks} {ys} {missing} h l g e p q =
 -- and it told no refusal
 pub show-not-refused : (ws : List ℕ) → IsBoard ws → (marks ks : List ℕ) (zs ys : List ℤ) (k : Refusal)
     → length marks ≡ sizeWord ws → length zs ≡ sizeWord ws
-    → outcome (refused k) (ks, ys) ≡ showCall ws marks zs → ⊥
+    → outcome (refused k) (ks, ys) ≡ showCall ws (balancedLow (modulusWord ws)) marks zs → ⊥
 show-not-refused ws b marks ks zs ys k h l e =
-    omega (arith, refusal-number k, ap (λ (r : Outcome (List ℕ × List ℤ)). r .told .number) (e ∙ show-board ws b marks zs h l))
+    omega (arith, refusal-number k, ap (λ (r : Outcome (List ℕ × List ℤ)). r .told .number) (e ∙ show-board ws b (balancedLow (modulusWord ws)) marks zs (board-low b) h l))

@@ -8,7 +8,8 @@ use lib.IntN.{ℤ, pos, natAbs}
 use lib.ListN.{length, take, drop, replicate}
 use Rattle.algebra.specs.Choice.{choose}
 use Rattle.checks.specs.Told.{Told}
-use Rattle.ledger.specs.Board.{sizeWord, countWord}
+use Rattle.signed.specs.Balanced.{balancedLow}
+use Rattle.ledger.specs.Board.{modulusWord, sizeWord, countWord}
 use Rattle.ledger.specs.Calls.{openCall, takeCall, showCall}
 use Rattle.sheet_text.specs.Lines.{frameLine, refusedLine}
 use Rattle.sheet_text.specs.Written.{Printed}
@@ -25,9 +26,10 @@ pub record FrameWritten (ws frame mix out ws′ mix′ out′ : List ℕ) (answe
   pub mix-left : mix′ ≡ takeCall ws frame mix .lent .1
   pub line : Printed (takenLine ws frame mix) out out′ answer
 
--- the records and the missing line of a board; what is lent to show is any marks and numbers of the board's own n
+-- the records and the missing line of a board, with the old low end; what is lent to show is any marks and numbers of the board's own n
 unfoldable pub endingOf : List ℕ → List ℕ
-endingOf ws = let n = sizeWord ws in endingFrom n (showCall ws (replicate n 0) (replicate n (pos 0)))
+endingOf ws =
+    let n = sizeWord ws in endingFrom n (showCall ws (balancedLow (modulusWord ws)) (replicate n 0) (replicate n (pos 0)))
 
 -- ---- a program that reads, calls and writes
 

@@ -14,6 +14,7 @@ use Rattle.checks.specs.Outcome.{Outcome}
 use Rattle.checks.specs.Prime.{IsModulus}
 use Rattle.checks.specs.Sizes.{frameSizes}
 use Rattle.codec.specs.BigEndian.{width, numberFrom, numberAt}
+use Rattle.signed.specs.Balanced.{balancedLow}
 use Rattle.ledger.specs.Ledger.{Ledger, ledger}
 use Rattle.ledger.specs.Steps.{ledgerTake, ledgerShow}
 use Rattle.sheet_text.specs.Lines.{frameLine, refusedLine, recordLines, missingLine}
@@ -31,9 +32,10 @@ unfoldable pub endingFrom : ℕ → Outcome (List ℕ × List ℤ) → List ℕ
 endingFrom n shown = recordLines n (shown .lent .0) (shown .lent .1) ++ missingLine (carried 0 (shown .told))
 
 module _ (p : ℕ) (ok : IsModulus p) (n : ℕ) where
-  -- the records and the missing line of a ledger; what is lent to show is any n marks and n numbers
+  -- the records and the missing line of a ledger; what is lent to show is any n marks and n numbers. 02, #106: "The sheet program passes
+  -- the old L", with which records are read as 01 says (signed/specs/Balanced.antt).
   unfoldable pub ledgerEnding : Ledger → List ℕ
-  ledgerEnding l = endingFrom n (ledgerShow p ok n l (replicate n 0) (replicate n (pos 0)))
+  ledgerEnding l = endingFrom n (ledgerShow p ok n l (balancedLow p) (replicate n 0) (replicate n (pos 0)))
 
   -- "a last frame cut in its length or its bytes is one `refused 6` line, then the records and the missing line"
   unfoldable pub cutEnding : Ledger → List ℕ

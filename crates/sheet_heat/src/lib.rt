@@ -44,12 +44,14 @@ fn record_lines(marks: &[u32], numbers: &[i32], out: &mut [u8]) -> usize
     at
 }
 
-// Shows the board with the marks and numbers lent. On a board, with as many of them as it has records, show is not refused.
+// Shows the board with the old low end and the marks and numbers lent. On a board, with as many of them as it has records, show is not
+// refused.
 fn show_lines(board: &[u32], marks: &mut [u32], numbers: &mut [i32], out: &mut [u8]) -> usize
     requires { ⌜ IsBoard (now board) × (length (now marks) ≡ sizeWord (now board)) × (length (now numbers) ≡ sizeWord (now board)) × (1024 ≤ length (now out)) ⌝ }
     ensures { λ r. ⌜ Printed (endingOf (now (board .entry))) (now (out .entry)) (now (out .exit)) r ⌝ }
 {
-    match board_calls::show(board, marks, numbers) {
+    let low = signed::balanced_low(board[layout::MODULUS]);
+    match board_calls::show(board, low, marks, numbers) {
         CountAnswer::Count(missing) => {
             let at = record_lines(marks, numbers, out);
             sheet_text::missing_line(out, at, missing)

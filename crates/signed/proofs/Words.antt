@@ -14,7 +14,7 @@ use mir.Val.{SFits, toZ, ofZ}
 use mir.ValLaws.{toZ-pos, toZ-ofZ}
 use Rattle.algebra.specs.Answers.{Tells}
 use Rattle.algebra.proofs.Answers.{tells-yes, tells-no}
-use Rattle.signed.specs.Reading.{residueOf, InRange}
+use Rattle.signed.specs.Reading.{residueOf, IsRecord}
 use Rattle.signed.proofs.Readings.{le-of-pos, le-of-neg}
 
 -- ---- a u32 as an i32, and its negation
@@ -62,7 +62,7 @@ pub record Below (p : ℕ) (z : ℤ) : Type 0 where
   pub size : (0 < natAbs (negℤ z)) × (natAbs (negℤ z) < p)
   pub residue : p - natAbs (negℤ z) ≡ residueOf p z
 
-pub below-zero : (p low : ℕ) (z : ℤ) → InRange p low z → low < p → p ≤ 2147483647 → ltZ z (pos 0) ≡ true → Below p z
+pub below-zero : (p low : ℕ) (z : ℤ) → IsRecord p low z → low < p → p ≤ 2147483647 → ltZ z (pos 0) ≡ true → Below p z
 unfolding residueOf
 below-zero p low (pos n) r k b e = let h : n < 0 = ltb-true n 0 e in absurd (omega arith)
 below-zero p low (negsuc n) r k b e =
@@ -75,7 +75,7 @@ pub record From (p : ℕ) (z : ℤ) : Type 0 where
   pub size : natAbs z < p
   pub residue : natAbs z ≡ residueOf p z
 
-pub from-zero : (p low : ℕ) (z : ℤ) → InRange p low z → low < p → ltZ z (pos 0) ≡ false → From p z
+pub from-zero : (p low : ℕ) (z : ℤ) → IsRecord p low z → low < p → ltZ z (pos 0) ≡ false → From p z
 unfolding residueOf
 from-zero p low (pos n) r k e =
     let h : n ≤ p - 1 - low = le-of-pos (r .greatest) in

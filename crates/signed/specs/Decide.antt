@@ -1,6 +1,6 @@
 -- Whether a number is a signed record is decided; the type says what is decided.
 use mathlib.Core.Bool.{Bool, true, false}
-use Prim.Native.Nat.{ℕ, _-_, _/_}
+use Prim.Native.Nat.{ℕ, _-_}
 use lib.Dec.{T}
 use lib.IntN.{ℤ, pos, negℤ}
 use lib.Signed.{_≤ℤ_, leZ}
@@ -17,10 +17,17 @@ le? a b = go (T? (leZ a b))
     go (yes t) = yes (record { le = t })
     go (no f) = no (λ h. f (h .le))
 
-pub record? : (p : ℕ) (z : ℤ) → Dec (IsRecord p z)
-record? p z = go (le? (negℤ (pos ((p - 1) / 2))) z) (le? z (pos (p / 2)))
+pub between? : (a b z : ℤ) → Dec ((a ≤ℤ z) × (z ≤ℤ b))
+between? a b z = go (le? a z) (le? z b)
   where
-    go : Dec (negℤ (pos ((p - 1) / 2)) ≤ℤ z) → Dec (z ≤ℤ pos (p / 2)) → Dec (IsRecord p z)
-    go (no f) g = no (λ h. f (h .least))
-    go (yes l) (no f) = no (λ h. f (h .greatest))
-    go (yes l) (yes g) = yes (record { least = l; greatest = g })
+    go : Dec (a ≤ℤ z) → Dec (z ≤ℤ b) → Dec ((a ≤ℤ z) × (z ≤ℤ b))
+    go (no f) g = no (λ h. f (h .0))
+    go (yes l) (no f) = no (λ h. f (h .1))
+    go (yes l) (yes g) = yes (l, g)
+
+pub record? : (p low : ℕ) (z : ℤ) → Dec (IsRecord p low z)
+record? p low z = go (between? (negℤ (pos low)) (pos (p - 1 - low)) z)
+  where
+    go : Dec ((negℤ (pos low) ≤ℤ z) × (z ≤ℤ pos (p - 1 - low))) → Dec (IsRecord p low z)
+    go (yes (l, g)) = yes (record { least = l; greatest = g })
+    go (no f) = no (λ h. f (h .least, h .greatest))

@@ -5,6 +5,7 @@ use mathlib.Core.Path.{_≡_, refl, sym, ap, ap₂, _∙_, subst}
 use mathlib.Core.Bool.{Bool, true}
 use mathlib.Core.List.{List, [], _∷_, _++_, append-nil, append-assoc, Memᴰ·of-map, List·Memᴰ, List·Memᴰ·head}
 use Prim.Native.Nat.{ℕ, suc, _-_, _<_}
+use native.Mathlib.Omega.{arith}
 use lib.Dec.{eqb, ltb}
 use lib.IntN.{ℤ, pos}
 use lib.ListN.{length, getD, replicate, length-replicate}
@@ -21,6 +22,8 @@ use Rattle.frame.specs.Format.{mapLength, stands, mapByte, mapBytes, packed, va
 use Rattle.frame.specs.Reading.{accepted, readFrame}
 use Rattle.frame.proofs.Round.{written-reads-back}
 use Rattle.signed.specs.Reading.{reading}
+use Rattle.signed.specs.Balanced.{balancedLow}
+use Rattle.signed.proofs.Balanced.{balanced-low-below}
 use Rattle.matrix.proofs.Checker.{_and_, every, everyBelow, both, every-below, every-member}
 use Rattle.matrix.proofs.CheckedTables.{areBelow, all-below, areSame, all-same, isPrime, same}
 use Rattle.ledger.specs.Ledger.{Entry, Ledger, ledger, multiplierRows, valueColumn}
@@ -138,14 +141,14 @@ module _ (p n : ℕ) (ok : IsModulus p) where
 
   pub records-shown : (ws : List Witness) (es : List Entry) → Proper p n es → (ms : List ℕ) (zs : List ℤ) → areShown p n ws es ms zs ≡ true
       → (marks : List ℕ) (numbers : List ℤ) → length marks ≡ n → length numbers ≡ n
-      → ledgerShow p ok n (ledger es) marks numbers ≡ outcome (results (n - length es)) (ms, zs)
+      → ledgerShow p ok n (ledger es) (balancedLow p) marks numbers ≡ outcome (results (n - length es)) (ms, zs)
   unfolding areShown
   records-shown ws es proper ms zs t marks numbers marks-long numbers-long =
       let (t, each) = both _ _ t in
       let (ms-long, zs-long) = both _ _ t in
-      let so : (j : ℕ) → j < n → (getD ms j 0 ≡ shownMark p ok n es j) × (getD zs j (pos 0) ≡ shownNumber p ok n es j) = λ j l.
+      let so : (j : ℕ) → j < n → (getD ms j 0 ≡ shownMark p ok n es j) × (getD zs j (pos 0) ≡ shownNumber p ok n es (balancedLow p) j) = λ j l.
       record-shown p n es ok proper j _ _ _ l (every-below n _ each j l) in
-      show-accepted p ok n es proper marks numbers marks-long numbers-long
+      show-accepted p ok n es proper (balancedLow p) marks numbers marks-long numbers-long (balanced-low-below p (omega (arith, ok .prime .two-or-more)))
       ∙ sym
       (ap₂ (λ xs ys. outcome (results (n - length es)) (xs, ys)) (is-tabulate n _ ms (eqb-true _ _ ms-long) (λ j l. so j l .0))
       (is-tabulateℤ n _ zs (eqb-true _ _ zs-long) (λ j l. so j l .1)))
@@ -155,15 +158,15 @@ module _ (p n : ℕ) (ok : IsModulus p) where
   frames-and-show : (xs : List (List ℕ)) (ws : List Witness) (fs : List HeatFrame) (ms : List ℕ) (zs : List ℤ)
       → areTaken p n xs [] fs ≡ true → areShown p n ws (keptEntries fs) ms zs ≡ true
       → (mixes : ℕ → List ℕ) (marks : List ℕ) (numbers : List ℤ) → ((i : ℕ) → length (mixes i) ≡ n) → length marks ≡ n → length numbers ≡ n
-      → ledgerRun p ok n (ledger []) (takes fs mixes ++ (Call.show marks numbers ∷ []))
+      → ledgerRun p ok n (ledger []) (takes fs mixes ++ (Call.show (balancedLow p) marks numbers ∷ []))
       ≡ after (ledger (keptEntries fs)) (replies fs mixes ++ (reply (results (n - length (keptEntries fs))) ms zs ∷ []))
   unfolding run ledgerStep
   frames-and-show xs ws fs ms zs taken shown mixes marks numbers mixes-long marks-long numbers-long =
       let ran = frames-taken xs [] (empty-proper p n) fs taken mixes mixes-long in
-      run-append (ledgerStep p ok n) (ledger []) (takes fs mixes) (Call.show marks numbers ∷ [])
+      run-append (ledgerStep p ok n) (ledger []) (takes fs mixes) (Call.show (balancedLow p) marks numbers ∷ [])
       ∙ ap
       (λ (a : After Ledger).
-      let last = run (ledgerStep p ok n) (a .state) (Call.show marks numbers ∷ []) in after (last .state) (a .replies ++ last .replies)) ran
+      let last = run (ledgerStep p ok n) (a .state) (Call.show (balancedLow p) marks numbers ∷ []) in after (last .state) (a .replies ++ last .replies)) ran
       ∙ ap (λ (r : Outcome (List ℕ × List ℤ)). after (ledger (keptEntries fs)) (replies fs mixes ++ (reply (r .told) (r .lent .0) (r .lent .1) ∷ [])))
       (records-shown ws (keptEntries fs) (frames-proper xs fs taken) ms zs shown marks numbers marks-long numbers-long)
 
@@ -179,7 +182,7 @@ passed-holds h w t =
     record {
       opens = λ ws long. ap (λ (o : Outcome (List ℕ)). o .told) (open-done (h .modulus) (h .size) ws ok size long);
       goes = λ ws mixes marks numbers room.
-          let cs = takes (h .frames) mixes ++ (Call.show marks numbers ∷ []) in
+          let cs = takes (h .frames) mixes ++ (Call.show (balancedLow (h .modulus)) marks numbers ∷ []) in
           ap (λ (o : Outcome (List ℕ)). boardRun (o .lent) cs) (open-done (h .modulus) (h .size) ws ok size (room .ws-long))
           ∙ history (h .modulus) (h .size) ok size (ledger []) (empty-proper (h .modulus) (h .size)) cs
           ∙ ap (onBoard (h .modulus) (h .size))
@@ -214,7 +217,7 @@ witnessed = (sheetHeat, sheetWitnesses) ∷ (unsettledHeat, unsettledWitnesses) 
 all-pass : every (λ (q : HeatExample × Witnesses). passes (q .0) (q .1)) witnessed ≡ true
 unfolding every witnessed sheetHeat sheetWitnesses unsettledHeat unsettledWitnesses firstFrames keptEntries passes areSizes isPrime
     areTaken isTaken isWritten isAnswer isMix areShown isShown sendToZero isCombination areBelow areSame everyBelow _and_ same sameℤ
-    multiplierRows valueColumn mixWords sum unit apply mixed tabulate reduce _⊕_ _⊗_ reading
+    multiplierRows valueColumn mixWords sum unit apply mixed tabulate reduce _⊕_ _⊗_ reading balancedLow
     frameOf mapBytes mapByte mapLength stands packed valueBytes bytesOf width
 all-pass = refl
 

@@ -25,6 +25,7 @@ use Rattle.field.specs.Residue.{Residue, reduce, residues, _⊕_, _⊗_, negate
 use Rattle.field.proofs.Field.{residues-ring}
 use Rattle.field.proofs.Residues.{residue-path}
 use Rattle.signed.specs.Reading.{reading}
+use Rattle.signed.specs.Balanced.{balancedLow}
 use Rattle.matrix.proofs.Checker.{_and_, everyBelow, both, every-below}
 use Rattle.matrix.proofs.CheckedTables.{areSame, all-same, same}
 use Rattle.ledger.specs.Ledger.{Entry, entry, ledger, Assignment, MeetsAll, Settled, multiplierRows, valueColumn}
@@ -97,10 +98,10 @@ module _ (p n : ℕ) (es : List Entry) where
   isAnswer xs v x (repeat count mix) = eqb (length es) count and isMix xs mix and same (valueBy (vector p mix)) (reduce p v)
   isAnswer xs v x (conflict mix) = isMix xs mix and not (same (valueBy (vector p mix)) (reduce p v))
 
-  -- show gives the mark and the number of record j
+  -- show with the old low end gives the mark and the number of record j
   unfoldable pub isShown : (j mark : ℕ) (number : ℤ) → Witness → Bool
   isShown j mark number (settledBy u) =
-      eqb 1 mark and sameℤ (reading p (valueBy (vector p u) .value)) number and isCombination (vector p u) (unit (residues p) j)
+      eqb 1 mark and sameℤ (reading p (balancedLow p) (valueBy (vector p u) .value)) number and isCombination (vector p u) (unit (residues p) j)
   isShown j mark number (freeBy x) =
       eqb 0 mark and sameℤ (pos 0) number and sendToZero (vector p x) and not (same (vector p x j) (reduce p 0))
 
@@ -186,23 +187,23 @@ module _ (p n : ℕ) (es : List Entry) where
 
       -- the mark and the number that pass are show's
       pub record-shown : (j mark : ℕ) (number : ℤ) (w : Witness) → j < n → isShown j mark number w ≡ true
-          → (mark ≡ shownMark p ok n es j) × (number ≡ shownNumber p ok n es j)
+          → (mark ≡ shownMark p ok n es j) × (number ≡ shownNumber p ok n es (balancedLow p) j)
       unfolding isShown
       record-shown j mark number (settledBy u) l t =
           let (t, combination) = both _ _ t in
           let (marked, read) = both _ _ t in
           let at = settled-at (vector p u) j l (combined _ _ combination) in
           let (x, met) = standing-met p ok n es proper in
-          let (one, read-off) = shown-exactly p ok n es proper j .0 (λ y z m k. at y m ∙ sym (at z k)) x met in (
+          let (one, read-off) = shown-exactly p ok n es proper (balancedLow p) j .0 (λ y z m k. at y m ∙ sym (at z k)) x met in (
             sym (eqb-true _ _ marked) ∙ sym one,
-            sym (same-number _ _ read) ∙ ap (λ (a : Residue p). reading p (a .value)) (sym (at x met)) ∙ sym read-off,
+            sym (same-number _ _ read) ∙ ap (λ (a : Residue p). reading p (balancedLow p) (a .value)) (sym (at x met)) ∙ sym read-off,
           )
       record-shown j mark number (freeBy x) l t =
           let (t, other) = both _ _ t in
           let (t, zero) = both _ _ t in
           let (marked, read) = both _ _ t in
           let (none, nought) =
-          shown-exactly p ok n es proper j .1 (free-at (vector p x) j (sent _ zero) (other-residue _ _ other)) in (
+          shown-exactly p ok n es proper (balancedLow p) j .1 (free-at (vector p x) j (sent _ zero) (other-residue _ _ other)) in (
             sym (eqb-true _ _ marked) ∙ sym none,
             sym (same-number _ _ read) ∙ sym nought,
           )

@@ -24,6 +24,7 @@ use Rattle.field.specs.Written.{tabulate}
 use Rattle.frame.specs.Format.{mapLength, stands, mapByte, mapBytes, packed, valueBytes, frameOf}
 use Rattle.frame.proofs.Calls.{sizes-hold}
 use Rattle.signed.specs.Reading.{reading}
+use Rattle.signed.specs.Balanced.{balancedLow}
 use Rattle.matrix.proofs.Checker.{_and_, every, everyBelow, both, every-member}
 use Rattle.matrix.proofs.CheckedTables.{areBelow, areSame, all-same, isPrime, same}
 use Rattle.ledger.specs.Ledger.{Entry, Ledger, ledger, multiplierRows, valueColumn}
@@ -154,7 +155,7 @@ witnessed = (nineLines, sheetWitnesses) ∷ (unknownLines, unsettledWitnesses) �
 all-pass : every (λ (q : SheetExample × Witnesses). prints (q .0) (q .1)) witnessed ≡ true
 unfolding every witnessed nineLines unknownLines sheetHeat sheetWitnesses unsettledHeat unsettledWitnesses firstFrames keptEntries
     prints passes areSizes isPrime areTaken isTaken isWritten isAnswer isMix areShown isShown sendToZero isCombination areBelow areSame
-    everyBelow _and_ same sameℤ multiplierRows valueColumn mixWords sum unit apply mixed tabulate reduce _⊕_ _⊗_ reading
+    everyBelow _and_ same sameℤ multiplierRows valueColumn mixWords sum unit apply mixed tabulate reduce _⊕_ _⊗_ reading balancedLow
     frameOf mapBytes mapByte mapLength stands packed valueBytes bytesOf width
     isStream areShort streamOf framesStream numberFrom numberAt textOf framesText frameLine wordLine recordLines recordLine recordText
     newWord repeatWord conflictWord refusedWord missingWord unknownWord space lineFeed decimal digitsWithin minus signedDecimal

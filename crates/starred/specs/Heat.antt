@@ -8,6 +8,7 @@ use lib.IntN.{ℤ, pos, negsuc}
 use lib.ListN.{length}
 use Rattle.checks.specs.declared.Refusal.the-variants.{Conflict}
 use Rattle.checks.specs.Told.{Told, done, refused, results}
+use Rattle.signed.specs.Balanced.{balancedLow}
 use Rattle.ledger.specs.Ledger.{Entry, entry}
 use Rattle.ledger.specs.Board.{boardLength, layout}
 use Rattle.ledger.specs.Steps.{newTold, repeatTold}
@@ -145,10 +146,10 @@ pub record HeatRoom (n : ℕ) (ws : List ℕ) (mixes : ℕ → List ℕ) (marks 
   pub numbers-long : length numbers ≡ n
 
 -- open is done, and the frames and a show after it are answered, and leave the board and the memory lent to them, as the heat says,
--- whatever the lent memory holds
+-- whatever the lent memory holds. 02, #106: "The old reading is L = (p - 1)/2 rounded down, and the cases in 01 are read with that."
 pub record HeatHolds (h : HeatExample) : Type 0 where
   pub opens : (ws : List ℕ) → length ws ≡ boardLength (h .size) → openCall (h .modulus) (h .size) ws .told ≡ done
   pub goes : (ws : List ℕ) (mixes : ℕ → List ℕ) (marks : List ℕ) (numbers : List ℤ) → HeatRoom (h .size) ws mixes marks numbers
-      → boardRun (openCall (h .modulus) (h .size) ws .lent) (takes (h .frames) mixes ++ (Call.show marks numbers ∷ []))
+      → boardRun (openCall (h .modulus) (h .size) ws .lent) (takes (h .frames) mixes ++ (Call.show (balancedLow (h .modulus)) marks numbers ∷ []))
       ≡ after (layout (h .modulus) (h .size) (keptEntries (h .frames)))
       (replies (h .frames) mixes ++ (reply (results (h .missing)) (h .marks) (h .numbers) ∷ []))

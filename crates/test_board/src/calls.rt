@@ -47,25 +47,26 @@ fn withdraw(board: &mut [u32], tally: &mut [u32; 16]) {
     counts::expect_words(tally, board);
 }
 
-// A show with the marks, and with the numbers from the file.
-fn show_marks(board: &[u32], marks: &mut [u32], tally: &mut [u32; 16]) {
+// A show with the low end and the marks, and with the numbers from the file.
+fn show_marks(board: &[u32], low: u32, marks: &mut [u32], tally: &mut [u32; 16]) {
     let room = input::length(66);
-    let mut signed = memory::numbers();
+    let mut signed = lent::numbers(memory::NUMBER);
     let numbers = lent::front_numbers(&mut signed, room);
     input::read_numbers(numbers);
-    let answer = report::count_told(board_calls::show(board, marks, numbers));
+    let answer = report::count_told(board_calls::show(board, low, marks, numbers));
     counts::count_if(tally, report::SHOWS, answer.number == input::word());
     counts::expect_words(tally, marks);
     counts::expect(tally, input::are_next_numbers(numbers));
 }
 
-// A show, with the marks from the file.
+// A show, with the low end and the marks from the file.
 fn show(board: &[u32], tally: &mut [u32; 16]) {
+    let low = input::word();
     let room = input::length(66);
     let mut words = lent::words(memory::WORD);
     let marks = lent::front(&mut words, room);
     input::read_words(marks);
-    show_marks(board, marks, tally);
+    show_marks(board, low, marks, tally);
 }
 
 // Writes a word into the board, as nobody should.

@@ -44,15 +44,15 @@ fn withdraw(name: &[u8], board: &mut [u32; 15], t: u32) {
     output::print_end();
 }
 
-// A show with so many marks and numbers.
-fn show(name: &[u8], board: &[u32; 15], room: usize, space: usize)
+// A show with the low end and so many marks and numbers.
+fn show(name: &[u8], board: &[u32; 15], low: u32, room: usize, space: usize)
     requires { ⌜ (room ≤ 66) × (space ≤ 66) ⌝ }
 {
     let mut words = lent::words(memory::WORD);
-    let mut signed = memory::numbers();
+    let mut signed = lent::numbers(memory::NUMBER);
     let marks = lent::front(&mut words, room);
     let numbers = lent::front_numbers(&mut signed, space);
-    let told = report::count_told(board_calls::show(board, marks, numbers));
+    let told = report::count_told(board_calls::show(board, low, marks, numbers));
     print_answer(name, told.number, told.value);
     report::print_words(b" marks", marks);
     report::print_numbers(b" numbers", numbers);
@@ -83,7 +83,7 @@ fn wrong_sheet(board: &mut [u32; 15]) {
         b"\x06\0\0\0\x01\0\0\0\x03\0\0\0\x04",
         3,
     );
-    show(b"wrong-sheet", board, 3, 3);
+    show(b"wrong-sheet", board, 3, 3, 3);
 }
 
 // The other three: (1 3 3) 2, (1 3 3) 3, (0 0 1) 6. All records are settled, and none is missing.
@@ -101,16 +101,27 @@ fn sheet(board: &mut [u32; 15]) {
         3,
     );
     take(b"sheet-third", board, b"\x04\0\0\0\x01\0\0\0\x06", 3);
-    show(b"sheet", board, 3, 3);
+    show(b"sheet", board, 3, 3, 3);
 }
 
-// 3 before 6, which an empty frame gets.
+// The same records, 5, 0 and 6, with other low ends: 0 to 6, -1 to 5, -2 to 4, -5 to 1, -6 to 0; 7 is none.
+fn low_ends(board: &[u32; 15]) {
+    show(b"low-0", board, 0, 3, 3);
+    show(b"low-1", board, 1, 3, 3);
+    show(b"low-2", board, 2, 3, 3);
+    show(b"low-5", board, 5, 3, 3);
+    show(b"low-6", board, 6, 3, 3);
+    show(b"low-7", board, 7, 3, 3);
+    show(b"low-most", board, 4294967295, 3, 3);
+}
+
+// 3 before 6, which an empty frame gets, and before 4, which a low end of p gets.
 fn call_order(board: &mut [u32; 15]) {
     take(b"take-room", board, b"", 2);
     take(b"take-empty", board, b"", 3);
     withdraw(b"withdraw-four", board, 4);
-    show(b"show-marks", board, 2, 3);
-    show(b"show-numbers", board, 3, 2);
+    show(b"show-marks", board, 7, 2, 3);
+    show(b"show-numbers", board, 7, 3, 2);
 }
 
 // 11 before the checks that refuse the same calls on a board: modulo 4 words are none.
@@ -118,7 +129,8 @@ fn no_board(board: &mut [u32; 15]) {
     board[layout::MODULUS] = 4;
     take(b"no-board-take", board, b"", 2);
     withdraw(b"no-board-withdraw", board, 4);
-    show(b"no-board-show", board, 2, 3);
+    show(b"no-board-show", board, 7, 2, 3);
+    show(b"no-board-low", board, 7, 3, 3);
 }
 
 // The examples on a board of three records modulo 7.
@@ -126,6 +138,7 @@ fn run_on(board: &mut [u32; 15]) {
     board_calls::open(7, 3, board);
     wrong_sheet(board);
     sheet(board);
+    low_ends(board);
     call_order(board);
     no_board(board);
 }

@@ -1,4 +1,4 @@
-// Memory for boards and numbers, of which only the length is given, so that no goal holds the words.
+// Memory for boards, of which only the length is given, so that no goal holds the words.
 ghost use mathlib.Core.Path.{_≡_};
 ghost use Prim.Native.Nat.{_≤_};
 ghost use lib.ListN.{length};
@@ -24,11 +24,4 @@ pub fn board_length(n: u32) -> usize
     ensures { λ r. ⌜ r ≤ largestBoard ⌝ }
 {
     board_words::layout::board_length(n as usize)
-}
-
-// Room for 64 signed numbers and two more.
-pub fn numbers() -> [i32; 66]
-    ensures { λ r. ⌜ 66 ≡ length r ⌝ }
-{
-    [NUMBER; 66]
 }

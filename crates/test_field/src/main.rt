@@ -1,14 +1,25 @@
-// Runs what document 01 says of the modulus and of the signed reading, and prints a line for each call. The file `stdout` has
-// the lines that the document gives, worked out from it and not from a run:
+// Runs what document 01 says of the modulus and of the signed reading, and prints a line for each call; then the calls with low
+// ends of document 02's #106, on the cases of tools/readings.py, whose own reading says what each answers:
+//
+//     python3 tools/readings.py > crates/test_field/stdin
+//
+// The file `stdout` has the lines that document 01 gives, worked out from it, and what that script counts, and nothing from a run:
 // - "Examples", its line "Modulus: ..", with neighbours of the numbers there: `modulus P yes` or `modulus P no`.
 // - "What is handed back on refusal", the column "Returned": `refusal K` for each kind, in the table's order.
 // - "The field and the tables", its paragraph "Signed reading of a residue v": `signed P V Z` and back `residue P Z V`, at both
-//   ends of the range and one beyond, with `refused N` in the last place where check 1 or check 4 stops the call.
+//   ends of the range and one beyond, with `refused N` in the last place where check 1 or check 4 stops the call. They are read
+//   with the old low end, (p - 1)/2 rounded down.
+// - `readings N`, `residues N`, `refused N`, `mismatches N`: the stored cases by their answers, and how often one was not as expected.
 ghost use mathlib.Core.Path.{_≡_};
-ghost use Prim.Native.Nat.{_≤_};
+ghost use Prim.Native.Nat.{_≤_, _<_};
 ghost use lib.IntN.{pos, negℤ, natAbs};
+
+mod cases;
+
 use checks::Refusal;
 use libc::STDOUT_FILENO;
+use test_support::counts;
+use test_support::output::print_count;
 use test_support::output::print_end;
 use test_support::output::print_number;
 use test_support::output::print_text;
@@ -62,22 +73,26 @@ fn print_refusal(kind: Refusal) {
     print_end();
 }
 
-fn print_signed(p: u32, v: u32) {
+fn print_signed(p: u32, v: u32)
+    requires { ⌜ 0 < p ⌝ }
+{
     print_text(b"signed");
     print_number(p);
     print_number(v);
-    match signed::signed(p, v) {
+    match signed::signed(p, signed::balanced_low(p), v) {
         signed::SignedAnswer::Record(z) => print_record(z),
         signed::SignedAnswer::Refused(kind) => print_refused(kind),
     }
     print_end();
 }
 
-fn print_residue(p: u32, z: i32) {
+fn print_residue(p: u32, z: i32)
+    requires { ⌜ 0 < p ⌝ }
+{
     print_text(b"residue");
     print_number(p);
     print_record(z);
-    match signed::residue(p, z) {
+    match signed::residue(p, signed::balanced_low(p), z) {
         signed::ResidueAnswer::Residue(v) => print_number(v),
         signed::ResidueAnswer::Refused(kind) => print_refused(kind),
     }
@@ -151,7 +166,8 @@ fn print_both(p: u32)
     print_residues(p);
 }
 
-fn main() {
+// Document 01's cases, with the old low end.
+fn print_old() {
     print_moduli();
     print_refusals();
     print_both(2);
@@ -163,4 +179,14 @@ fn main() {
     print_residue(1, 0);
     // Check 1 comes before check 4.
     print_signed(4, 9);
+}
+
+fn main() {
+    print_old();
+    let mut tally = counts::none();
+    cases::run(&mut tally);
+    print_count(b"readings", &tally, cases::READINGS);
+    print_count(b"residues", &tally, cases::RESIDUES);
+    print_count(b"refused", &tally, cases::REFUSED);
+    print_count(b"mismatches", &tally, counts::MISMATCHES);
 }

@@ -56,10 +56,10 @@ fn compare_lent(p: u32, n: u32, length: usize, tally: &mut [u32; 16])
 fn next(tally: &mut [u32; 16]) -> bool {
     let p = input::word();
     let n = input::byte();
-    let length = input::half() as usize;
     if n == 0 {
         return false;
     }
+    let length = input::half() as usize;
     if 64 < n {
         return counts::stop(tally);
     }

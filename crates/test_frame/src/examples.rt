@@ -40,8 +40,8 @@ fn write(name: &[u8], p: u32, n: u32, multipliers: &[u32], value: u32, room: usi
     output::print_end();
 }
 
-fn seal(name: &[u8], p: u32, n: u32, records: &[i32], multipliers: &[u32]) {
-    let answer = report::seal_told(frame_calls::seal(p, n, records, multipliers));
+fn seal(name: &[u8], p: u32, n: u32, low: u32, records: &[i32], multipliers: &[u32]) {
+    let answer = report::seal_told(frame_calls::seal(p, n, low, records, multipliers));
     print_told(b"seal-", name, answer);
     output::print_end();
 }
@@ -107,9 +107,9 @@ fn writes() {
     write_three(b"done", 1, 5, 268);
 }
 
-// Two records and two multipliers, of which the check of numbers refuses the first.
+// Two records and two multipliers, of which the check of numbers refuses the first, and a low end that it refuses.
 fn seal_wrong(name: &[u8], p: u32, n: u32) {
-    seal(name, p, n, &[4, 0], &[7, 2]);
+    seal(name, p, n, 7, &[4, 0], &[7, 2]);
 }
 
 // 1, 2 and 3 before 4.
@@ -117,13 +117,13 @@ fn seal_order() {
     seal_wrong(b"modulus", 4, 0);
     seal_wrong(b"no-records", 7, 0);
     seal_wrong(b"65-records", 7, 65);
-    seal(b"records", 7, 3, &[4, 0], &[7, 2, 0]);
-    seal(b"multipliers", 7, 3, &[4, 0, 0], &[7, 2]);
+    seal(b"records", 7, 3, 7, &[4, 0], &[7, 2, 0]);
+    seal(b"multipliers", 7, 3, 7, &[4, 0, 0], &[7, 2]);
 }
 
-// Three records and three multipliers, of which a first one may be refused.
+// Three records and three multipliers, of which a first one may be refused, with the old low end.
 fn seal_three(name: &[u8], record: i32, multiplier: u32) {
-    seal(name, 7, 3, &[record, 0, 0], &[multiplier, 2, 0]);
+    seal(name, 7, 3, 3, &[record, 0, 0], &[multiplier, 2, 0]);
 }
 
 // The records modulo 7 are -3 to 3. The last sum is (-2) × 1 + 1 × 2 + 3 × 3 = 9, which is 2 modulo 7.
@@ -131,7 +131,33 @@ fn seal_numbers() {
     seal_three(b"multiplier-p", 0, 7);
     seal_three(b"record-high", 4, 1);
     seal_three(b"record-low", -4, 1);
-    seal(b"sum", 7, 3, &[-2, 1, 3], &[1, 2, 3]);
+    seal(b"sum", 7, 3, 3, &[-2, 1, 3], &[1, 2, 3]);
+}
+
+// Two records modulo 7, of which the second is 0, sealed with the multipliers 1 and 1.
+fn seal_low(name: &[u8], low: u32, record: i32) {
+    seal(name, 7, 2, low, &[record, 0], &[1, 1]);
+}
+
+// With the low end 0 the records are 0 to 6, with 1 they are -1 to 5, with 5 they are -5 to 1, with 6 they are -6 to 0. 7 is no low
+// end; if it were one, the records would be -7 to -1.
+fn seal_lows() {
+    seal_low(b"low-0-least", 0, 0);
+    seal_low(b"low-0-below", 0, -1);
+    seal_low(b"low-0-greatest", 0, 6);
+    seal_low(b"low-0-above", 0, 7);
+    seal_low(b"low-1-least", 1, -1);
+    seal_low(b"low-1-below", 1, -2);
+    seal_low(b"low-1-greatest", 1, 5);
+    seal_low(b"low-1-above", 1, 6);
+    seal_low(b"low-5-least", 5, -5);
+    seal_low(b"low-5-above", 5, 2);
+    seal_low(b"low-6-least", 6, -6);
+    seal_low(b"low-6-below", 6, -7);
+    seal_low(b"low-6-greatest", 6, 0);
+    seal_low(b"low-6-above", 6, 1);
+    seal(b"low-7", 7, 2, 7, &[-1, -2], &[1, 1]);
+    seal(b"low-most", 7, 2, 4294967295, &[-1, -2], &[1, 1]);
 }
 
 pub fn run() {
@@ -140,4 +166,5 @@ pub fn run() {
     writes();
     seal_order();
     seal_numbers();
+    seal_lows();
 }

@@ -2,6 +2,7 @@
 use frame_calls::ReadAnswer;
 use frame_calls::SealAnswer;
 use frame_calls::WriteAnswer;
+use test_support::counts;
 use test_support::output;
 use test_support::told;
 use test_support::told::Told;
@@ -52,7 +53,14 @@ fn print_refusals(tally: &[u32; 16]) {
     }
 }
 
-// The lines of the stored cases.
+// The lines of the stored cases of sealing.
+pub fn print_seals(tally: &[u32; 16]) {
+    output::print_count(b"sealed", tally, ACCEPTED);
+    print_refusals(tally);
+    output::print_count(b"mismatches", tally, counts::MISMATCHES);
+}
+
+// The lines of the stored cases of reading.
 pub fn print_cases(tally: &[u32; 16]) {
     output::print_count(b"frames", tally, FRAMES);
     output::print_count(b"accepted", tally, ACCEPTED);

@@ -44,6 +44,11 @@ pub fn word() -> u32 {
     number_of(&bytes)
 }
 
+// The signed number in the next four bytes.
+pub fn number() -> i32 {
+    signed_of(word())
+}
+
 // The next word as a length. The scripts have none above `most`; were there one, all that follows would be read out of step,
 // and the mismatches would show it.
 pub fn length(most: usize) -> usize
@@ -83,7 +88,7 @@ pub fn read_words(words: &mut [u32]) {
 pub fn read_numbers(numbers: &mut [i32]) {
     let mut i = 0;
     while i < numbers.len() {
-        numbers[i] = signed_of(word());
+        numbers[i] = number();
         i += 1;
     }
 }
@@ -106,7 +111,7 @@ pub fn are_next_numbers(numbers: &[i32]) -> bool {
     let mut is_same = true;
     let mut i = 0;
     while i < numbers.len() {
-        if signed_of(word()) != numbers[i] {
+        if number() != numbers[i] {
             is_same = false;
         }
         i += 1;

@@ -11,6 +11,13 @@ pub fn words(word: u32) -> [u32; 66]
     [word; 66]
 }
 
+// The same of signed numbers.
+pub fn numbers(number: i32) -> [i32; 66]
+    ensures { λ r. ⌜ 66 ≡ length r ⌝ }
+{
+    [number; 66]
+}
+
 // Room for the longest frame, 268 bytes, and four more.
 pub fn bytes(byte: u8) -> [u8; 272]
     ensures { λ r. ⌜ 272 ≡ length r ⌝ }

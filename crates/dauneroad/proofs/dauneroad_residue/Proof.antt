@@ -14,11 +14,11 @@ use Rattle.dauneroad.proofs.dauneroad_residue.Tie as tie
 told : (c : tie.After-residue) (t : ResidueAnswer) → c .residue .result ≡ t
     → let a = c .before .args in
     answer (residueTold t .number) (numberOr (a .residue .now) (residueTold t .values))
-    ≡ residueAnswer (a .p) (a .number) (a .residue .now)
+    ≡ residueAnswer (a .p) (a .low) (a .«record») (a .residue .now)
 told c t e =
     let s = c .before in
     ap (λ r. answer (r .told .number) (numberOr (s .args .residue .now) (r .told .values)))
-    (rw (e, toZ-ofZ w32 (s .args .number) (s .fits .number)) at (c .residue .ensures))
+    (rw (e, toZ-ofZ w32 (s .args .«record») (s .fits .«record»)) at (c .residue .ensures))
 
 residue-requires : tie.Need-residue-requires
 residue-requires c κs = search needs

@@ -16,7 +16,7 @@ start c = c .before .before
 told : (c : tie.After-seal) (t : SealAnswer) → c .seal .result ≡ t
     → let a = start c .args in
     answer (sealTold t .number) (numberOr (a .value .now) (sealTold t .values))
-    ≡ sealAnswer (a .p) (a .n) (a .records .now) (a .multipliers .now) (a .value .now)
+    ≡ sealAnswer (a .p) (a .n) (a .low) (a .records .now) (a .multipliers .now) (a .value .now)
 told c t e = ap (λ r. answer (r .told .number) (numberOr (start c .args .value .now) (r .told .values))) (rw e at (c .seal .ensures))
 
 seal-requires : tie.Need-seal-requires

@@ -10,7 +10,7 @@ show-requires : tie.Need-show-requires
 show-requires c κs = search needs
 
 count-number-requires : tie.Need-count-number-requires
-count-number-requires c κs = small-show _ _ _ _ (c .before .before .before .show .ensures)
+count-number-requires c κs = small-show _ _ _ _ _ (c .before .before .before .show .ensures)
 
 same-length : tie.Need-same-length
 same-length c = search needs

@@ -14,8 +14,8 @@ use Rattle.dauneroad.proofs.dauneroad_signed.Tie as tie
 -- what is told of the answer, whichever it is, with the lent memory
 told : (c : tie.After-signed) (t : SignedAnswer) → c .signed .result ≡ t
     → let a = c .before .args in
-    answer (signedTold t .number) (valueOr (a .number .now) (signedTold t .values)) ≡ signedAnswer (a .p) (a .v) (a .number .now)
-told c t e = ap (λ r. answer (r .told .number) (valueOr (c .before .args .number .now) (r .told .values))) (rw e at (c .signed .ensures))
+    answer (signedTold t .number) (valueOr (a .«record» .now) (signedTold t .values)) ≡ signedAnswer (a .p) (a .low) (a .v) (a .«record» .now)
+told c t e = ap (λ r. answer (r .told .number) (valueOr (c .before .args .«record» .now) (r .told .values))) (rw e at (c .signed .ensures))
 
 signed-requires : tie.Need-signed-requires
 signed-requires c κs = search needs

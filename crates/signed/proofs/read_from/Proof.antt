@@ -7,8 +7,8 @@ use Rattle.signed.proofs.Words.{cast-word, negated-fits, negated-word}
 use Rattle.signed.proofs.read_from.Statement.{statement}
 use Rattle.signed.proofs.read_from.Tie as tie
 
-add-if1 : tie.Need-add-if1
-add-if1 c = omega arith
+sub-if1 : tie.Need-sub-if1
+sub-if1 c = omega arith
 
 cast-result : tie.Need-cast-result
 cast-result c = omega arith
@@ -33,4 +33,4 @@ returns-2 c =
 pub read-from-spec : {M : Type 1} → statement M
 read-from-spec =
     tie.close
-    (tie.spec add-if1 cast-result sub-result cast-result-2 sub-result-2 returns returns-2)
+    (tie.spec sub-if1 cast-result sub-result cast-result-2 sub-result-2 returns returns-2)

@@ -14,10 +14,10 @@ use Rattle.board_solve.proofs.records.show_records.Statement.{statement
 use Rattle.board_solve.proofs.records.show_records.Tie as tie
 
 abbrev Inv-loop : tie.InvT-loop
-Inv-loop board e pivots marks₀ numbers₀ p n k at j₀ marks numbers j = (j ≤ n) × ShownBelow p n (entriesOf board) j marks numbers
+Inv-loop board low e pivots marks₀ numbers₀ p n k at j₀ marks numbers j = (j ≤ n) × ShownBelow p n low (entriesOf board) j marks numbers
 
 abbrev μ-loop : tie.MeasureT-loop
-μ-loop board e pivots marks₀ numbers₀ p n k at j₀ marks numbers j = n - j
+μ-loop board low e pivots marks₀ numbers₀ p n k at j₀ marks numbers j = n - j
 
 -- the board of a call
 board : (s : tie.Start Inv-loop μ-loop) → IsBoard (s .args .board .now)
@@ -47,7 +47,7 @@ rows-by-pivot-requires : tie.Need-rows-by-pivot-requires Inv-loop μ-loop
 rows-by-pivot-requires c κs = c .before .before .before .before .before .before .before .pre .reduced .pivoting
 
 loop-holds : tie.Need-loop-holds Inv-loop μ-loop
-loop-holds c = let s = start-of c in (omega arith, shown-none _ _ _ _ _ (s .pre .marks-long) (s .pre .numbers-long))
+loop-holds c = let s = start-of c in (omega arith, shown-none _ _ _ _ _ _ (s .pre .marks-long) (s .pre .numbers-long))
 
 -- the worked row of record j
 row-of : (c : tie.In-loop Inv-loop μ-loop) →
@@ -79,10 +79,10 @@ record-at-requires c κs =
     let t = c .before in
     let s = start-of (t .before .before .before) in
     let ok = board s .prime in
-    (row-of (t .before), t .settled .ensures .0 (c .if1 .taken) .0, omega (arith, ok .prime .two-or-more), ok .in-range, s .pre .reduced .below)
+    (row-of (t .before), t .settled .ensures .0 (c .if1 .taken) .0, s .pre .low-below, ok .in-range, s .pre .reduced .below)
 
-mul-t23 : tie.Need-mul-t23 Inv-loop μ-loop
-mul-t23 c = omega arith
+mul-t24 : tie.Need-mul-t24 Inv-loop μ-loop
+mul-t24 c = omega arith
 
 slice-set-from-numbers : tie.Need-slice-set-from-numbers Inv-loop μ-loop
 slice-set-from-numbers c = omega arith
@@ -118,11 +118,11 @@ loop-again c =
           (λ w.
           let fits : SFits w32 (w .1 .result) = record { sfits = w .1 .ok } in
           rw (w .2, w .3)
-          (turn-shown (a .board .now) (a .e .now) (a .pivots .now) _ (s .pre .reduced) (r .rows-by-pivot .ensures) (l .j) (l .marks) (l .numbers) inside (l .inv .1)
+          (turn-shown (a .board .now) (a .e .now) (a .pivots .now) _ (s .pre .reduced) (r .rows-by-pivot .ensures) (a .low) (l .j) (l .marks) (l .numbers) inside (l .inv .1)
           (w .1 .result) fits (t .settled .ensures .0 (w .0 .taken)) (w .1 .ensures)))
           (λ w.
           rw (w .1, w .2)
-          (turn-hidden (a .board .now) (a .e .now) (a .pivots .now) _ (s .pre .reduced) (r .rows-by-pivot .ensures) (l .j) (l .marks) (l .numbers) inside (l .inv .1)
+          (turn-hidden (a .board .now) (a .e .now) (a .pivots .now) _ (s .pre .reduced) (r .rows-by-pivot .ensures) (a .low) (l .j) (l .marks) (l .numbers) inside (l .inv .1)
           (t .settled .ensures .1 (w .0 .left))))
           (c .if1 .came),
     )
@@ -140,12 +140,12 @@ returns c =
     let l = c .before .loop in
     let s = start-of (c .before .before) in
     let end : l .j ≡ sizeWord (s .args .board .now) = omega arith in
-    shown-all _ _ _ (l .marks) (l .numbers) (rw end at (l .inv .1))
+    shown-all _ _ _ _ (l .marks) (l .numbers) (rw end at (l .inv .1))
 
 pub show-records-spec : {M : Type 1} → statement M
 show-records-spec =
     tie.close
     (tie.spec Inv-loop μ-loop shared-slice-read-p shared-slice-read-n cast-n shared-slice-read-k cast-k rows-by-pivot-requires
-    loop-holds mul-row array-read-row cast-row settled-requires mul-marks slice-write-marks record-at-requires mul-t23
+    loop-holds mul-row array-read-row cast-row settled-requires mul-marks slice-write-marks record-at-requires mul-t24
     slice-set-from-numbers mul-marks-2 slice-write-marks-2 mul-numbers slice-set-of-numbers add-j loop-less loop-again
     same-length same-length-2 returns)

@@ -1,5 +1,4 @@
--- `frame::records::all_records` meets its contract. The loop's invariant: every number passed is a record. The test of a turn is
--- that of the range with 01's low end.
+-- `frame::records::all_records` meets its contract. The loop's invariant: every number passed is a record.
 use Prim.Native.Nat.{ℕ, _≤_, _<_, _-_}
 use native.Mathlib.Omega.{arith}
 use borrow.Author.Count.{below-none, below-more}
@@ -9,20 +8,16 @@ use mir.Syntax.{w32}
 use mir.Val.{SFits}
 use mir.ValLaws.{toZ-ofZ}
 use Rattle.algebra.specs.Answers.{Tells}
-use Rattle.algebra.proofs.Answers.{guard-left, guard-taken, tells-yes, tells-no, tells-same}
+use Rattle.algebra.proofs.Answers.{guard-left, guard-taken, tells-yes, tells-no}
 use Rattle.signed.specs.Reading.{IsRecord}
-use Rattle.signed.proofs.Readings.{low-end-below, record-in-range}
 use Rattle.frame.proofs.records.all_records.Statement.{statement}
 use Rattle.frame.proofs.records.all_records.Tie as tie
 
 abbrev Inv-loop : tie.InvT-loop
-Inv-loop p numbers low i₀ i = (i ≤ length numbers) × ((k : ℕ) → k < i → IsRecord p (getD numbers k (pos 0)))
+Inv-loop p low numbers i₀ i = (i ≤ length numbers) × ((k : ℕ) → k < i → IsRecord p low (getD numbers k (pos 0)))
 
 abbrev μ-loop : tie.MeasureT-loop
-μ-loop p numbers low i₀ i = length numbers - i
-
-low-end-requires : tie.Need-low-end-requires Inv-loop μ-loop
-low-end-requires c κs = omega arith
+μ-loop p low numbers i₀ i = length numbers - i
 
 loop-holds : tie.Need-loop-holds Inv-loop μ-loop
 loop-holds c = (omega arith, below-none _)
@@ -34,23 +29,18 @@ shared-slice-copy-out-in-range : tie.Need-shared-slice-copy-out-in-range Inv-loo
 shared-slice-copy-out-in-range c = omega arith
 
 in-range-requires : tie.Need-in-range-requires Inv-loop μ-loop
-in-range-requires c κs =
-    let e = c .before .before .before in
-    let s = e .before in
-    (rw (e .low-end .ensures) (low-end-below (s .args .p) (s .pre .0)), s .pre .1)
+in-range-requires c κs = c .before .before .before .pre
 
--- the test of a turn tells whether the number is a record: the range with 01's low end is 01's range
+-- the test of a turn tells whether the number is a record
 tested :
     (c : tie.After-in-range Inv-loop μ-loop) →
-    let a = c .before .before .before .before .before .args in
-    Tells (c .in-range .result) (IsRecord (a .p) (getD (a .numbers .now) (c .before .before .before .loop .i) (pos 0)))
+    let a = c .before .before .before .before .args in
+    Tells (c .in-range .result) (IsRecord (a .p) (a .low) (getD (a .numbers .now) (c .before .before .before .loop .i) (pos 0)))
 tested c =
-    let s = c .before .before .before .before .before in
+    let s = c .before .before .before .before in
     let z = getD (s .args .numbers .now) (c .before .before .before .loop .i) (pos 0) in
     let fits : SFits w32 z = record { sfits = c .before .in-range-arg .given } in
-    let same = record-in-range (s .args .p) z (s .pre .0) in
-    tells-same (same .1) (same .0)
-    (rw (c .before .before .before .before .low-end .ensures, toZ-ofZ w32 z fits) at (c .in-range .ensures))
+    rw (toZ-ofZ w32 z fits) at (c .in-range .ensures)
 
 returns : tie.Need-returns Inv-loop μ-loop
 returns c =
@@ -74,5 +64,5 @@ returns-2 c = tells-yes (λ k h. c .before .loop .inv .1 k (omega arith))
 pub all-records-spec : {M : Type 1} → statement M
 all-records-spec =
     tie.close
-    (tie.spec Inv-loop μ-loop low-end-requires loop-holds mul-in-range shared-slice-copy-out-in-range in-range-requires returns
-    add-i loop-less loop-again returns-2)
+    (tie.spec Inv-loop μ-loop loop-holds mul-in-range shared-slice-copy-out-in-range in-range-requires returns add-i loop-less
+    loop-again returns-2)

@@ -11,8 +11,8 @@ use Rattle.frame_calls.proofs.sealer.value_of.Statement.{statement}
 use Rattle.frame_calls.proofs.sealer.value_of.Tie as tie
 
 -- the records' residues are within the local numbers
-long : (c : tie.After-put-residues) → length (c .before .before .before .before .args .records .now) ≤ length (c .put-residues .last .1 .1 .0)
-long c = omega (arith, c .put-residues .kept .1 .1 .0, c .before .before .row-room .ensures .0)
+long : (c : tie.After-put-residues) → length (c .before .before .before .before .args .records .now) ≤ length (c .put-residues .last .1 .1 .1 .0)
+long c = omega (arith, c .put-residues .kept .1 .1 .1 .0, c .before .before .row-room .ensures .0)
 
 row-room-requires : tie.Need-row-room-requires
 row-room-requires c κs = search needs
@@ -32,14 +32,14 @@ slice-aggregate-dot c = sym (length-take-le _ _ (long (c .before .before)))
 dot-requires : tie.Need-dot-requires
 dot-requires c κs =
     let s = c .before .before .before .before .before .before in
-    rw (length-take-le _ _ (long (c .before .before))) (s .pre .0, λ t h. omega arith)
+    rw (length-take-le _ _ (long (c .before .before))) (omega arith, λ t h. omega arith)
 
 returns : tie.Need-returns
 returns c =
     let r = c .before .before .before in
     let a = r .before .before .before .before .args in
     rw (c .dot .ensures)
-    (seal-sum (a .p) (length (a .records .now)) (a .records .now) (a .multipliers .now) (r .put-residues .last .1 .1 .0) (long r) (r .put-residues .ensures))
+    (seal-sum (a .p) (length (a .records .now)) (a .records .now) (a .multipliers .now) (r .put-residues .last .1 .1 .1 .0) (long r) (r .put-residues .ensures))
 
 pub value-of-spec : {M : Type 1} → statement M
 value-of-spec =

@@ -14,11 +14,8 @@ abbrev μ-loop : tie.MeasureT-loop
 loop-holds : tie.Need-loop-holds Inv-loop μ-loop
 loop-holds c = omega arith
 
-word-requires : tie.Need-word-requires Inv-loop μ-loop
-word-requires c κs = tt
-
-signed-of-requires : tie.Need-signed-of-requires Inv-loop μ-loop
-signed-of-requires c κs = tt
+number-requires : tie.Need-number-requires Inv-loop μ-loop
+number-requires c κs = tt
 
 mul-if1 : tie.Need-mul-if1 Inv-loop μ-loop
 mul-if1 c = omega arith
@@ -41,5 +38,5 @@ returns c = tt
 pub are-next-numbers-spec : {M : Type 1} → statement M
 are-next-numbers-spec =
     tie.close
-    (tie.spec Inv-loop μ-loop loop-holds word-requires signed-of-requires mul-if1 shared-slice-copy-out-if1 add-i loop-less
+    (tie.spec Inv-loop μ-loop loop-holds number-requires mul-if1 shared-slice-copy-out-if1 add-i loop-less
     loop-again returns)

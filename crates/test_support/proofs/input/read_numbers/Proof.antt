@@ -15,11 +15,8 @@ abbrev μ-loop : tie.MeasureT-loop
 loop-holds : tie.Need-loop-holds Inv-loop μ-loop
 loop-holds c = omega arith
 
-word-requires : tie.Need-word-requires Inv-loop μ-loop
-word-requires c κs = tt
-
-signed-of-requires : tie.Need-signed-of-requires Inv-loop μ-loop
-signed-of-requires c κs = tt
+number-requires : tie.Need-number-requires Inv-loop μ-loop
+number-requires c κs = tt
 
 mul-t3 : tie.Need-mul-t3 Inv-loop μ-loop
 mul-t3 c = omega arith
@@ -45,5 +42,5 @@ returns c = tt
 pub read-numbers-spec : {M : Type 1} → statement M
 read-numbers-spec =
     tie.close
-    (tie.spec Inv-loop μ-loop loop-holds word-requires signed-of-requires mul-t3 slice-set-from-numbers add-i loop-less loop-again
+    (tie.spec Inv-loop μ-loop loop-holds number-requires mul-t3 slice-set-from-numbers add-i loop-less loop-again
     same-length returns)
