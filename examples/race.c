@@ -1,0 +1,53 @@
+/* A 1500 metres race at a small modulus. Records are hundredths of a second behind the pace line, below 0 where a swimmer is ahead of
+ * it. Over so long a race some end more than p/2 behind, and the low end of document 01 shows them as far ahead; a low end that covers the
+ * greatest lead and leaves room for the longest time shows them as they were.
+ *
+ *   race
+ *
+ * Plays console and printer in one: seals and writes a frame for each record, takes it, and shows the board twice. Prints a line for
+ * each record: its position, the record, the number shown with DAUNEROAD_LOW(p), the number shown with the low end of the race. */
+#include <stdint.h>
+#include <stdio.h>
+#include <stdlib.h>
+
+#include "dauneroad.h"
+
+#define N 8
+
+/* The greatest lead that the federation allows, 15 seconds, and the longest time, 66 seconds behind: 1,500 + 6,600 + 1 numbers, which
+ * p has. */
+static const uint32_t p = 8191, low = 1500;
+
+static const int32_t records[N] = {-1237, -84, 0, 2916, 4095, 4096, 5178, 6593};
+
+static uint32_t accepted(uint32_t answer, const char *call) {
+    if (answer != 0 && answer < DAUNEROAD_DONE) {
+        fprintf(stderr, "race: %s refused %u\n", call, (unsigned)answer);
+        exit(1);
+    }
+    return answer;
+}
+
+/* The frame of the powers of a number; those of different numbers are independent. */
+static void send(uint32_t *board, uint32_t number) {
+    uint32_t multipliers[N] = {1}, mix[N], value;
+    uint8_t bytes[DAUNEROAD_LONGEST_FRAME];
+    for (int j = 1; j < N; j++) multipliers[j] = (uint32_t)((uint64_t)multipliers[j - 1] * number % p);
+    accepted(dauneroad_seal(p, N, low, records, N, multipliers, N, &value), "seal");
+    uint32_t length = accepted(dauneroad_write(p, N, multipliers, N, value, bytes, sizeof bytes), "write") - DAUNEROAD_DONE;
+    accepted(dauneroad_take(board, DAUNEROAD_BOARD_WORDS(N), bytes, length, mix, N), "take");
+}
+
+int main(void) {
+    uint32_t board[DAUNEROAD_BOARD_WORDS(N)], marks[N];
+    int32_t old[N], shown[N];
+    accepted(dauneroad_open(p, N, board, DAUNEROAD_BOARD_WORDS(N)), "open");
+    for (uint32_t i = 1; i <= N; i++) send(board, i);
+    accepted(dauneroad_show(board, DAUNEROAD_BOARD_WORDS(N), DAUNEROAD_LOW(p), marks, N, old, N), "show");
+    accepted(dauneroad_show(board, DAUNEROAD_BOARD_WORDS(N), low, marks, N, shown, N), "show");
+    for (int j = 0; j < N; j++) {
+        if (marks[j]) printf("%d %d %d %d\n", j, (int)records[j], (int)old[j], (int)shown[j]);
+        else printf("%d %d unknown unknown\n", j, (int)records[j]);
+    }
+    return 0;
+}
