@@ -55,7 +55,7 @@ pub fn take(board: &mut [u32], frame: &[u8], mix: &mut [u32]) -> TakeAnswer
     let p = board[layout::MODULUS];
     let n = board[layout::SIZE] as usize;
     let mut f = row_room();
-    let read = frame::reading::read_frame(p, n, frame, &mut f[..n]);
+    let read = frame_bytes::reading::read_frame(p, n, frame, &mut f[..n]);
     let mut c = row_room();
     if !combination::candidate(board, &f[..n], &mut c) {
         return TakeAnswer::Refused(Refusal::NotBoard);

@@ -1,15 +1,10 @@
 pub mod Bytes
 pub mod Bits
 pub mod BitMaps
-pub mod ReadJudging
-pub mod ReadFilling
-pub mod ReadChecks
+pub mod ReadKinds
 pub mod RoundMap
 pub mod RoundNumbers
 pub mod Round
-pub mod WriteMap
-pub mod WriteNumbers
-pub mod WriteFrame
 pub mod Calls
 pub mod EarlierOrder
 pub mod RecordsMeet

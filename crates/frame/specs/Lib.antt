@@ -3,7 +3,6 @@ pub mod Bitmap
 pub mod Sealing
 pub mod Decide
 pub mod Reading
-pub mod Stages
 pub mod Told
 pub mod Calls
 pub mod EarlierOrder

@@ -1,11 +1,6 @@
-// The bytes of frames, as the console sends them: how they are read and written, once modulus and sizes are known to be right.
-// 01's definitions are in specs/.
+// Frames, as the console sends them: theory but for the answers of the calls read, write and seal; see specs/ for 01's definitions and
+// proofs/ for what holds of them. The bytes are read and written in `frame_bytes`, the calls stand in `frame_calls`.
 use checks::Refusal;
-
-mod bitmap;
-pub mod reading;
-pub mod records;
-pub mod writer;
 
 pub enum ReadAnswer {
     Value(u32),

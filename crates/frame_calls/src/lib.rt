@@ -12,10 +12,10 @@ use checks::Verdict;
 pub use frame::ReadAnswer;
 pub use frame::SealAnswer;
 pub use frame::WriteAnswer;
-use frame::reading::read_frame;
-use frame::records::all_records;
-use frame::writer::LONGEST;
-use frame::writer::write_frame;
+use frame_bytes::reading::read_frame;
+use frame_bytes::records::all_records;
+use frame_bytes::writer::LONGEST;
+use frame_bytes::writer::write_frame;
 use words::all_below;
 
 // Reads a frame of n records modulo p: its multipliers go to the lent memory, its value is the answer. Refused are 1, 2, 3,

@@ -17,7 +17,7 @@ use Rattle.checks.specs.InOrder.{passed, _else_, _⨾_, inOrder}
 use Rattle.checks.specs.Decide.{long?}
 use Rattle.checks.proofs.InOrder.{none-left, fails-here, or-later, in-order-done, in-order-refused, in-order-elim, in-order-map, in-order-then, kind-of-list, _and-then_}
 use Rattle.frame.specs.Reading.{frameMultipliers, frameValue, frameChecks, Found, accepted, rejected, readFrame}
-use Rattle.frame.proofs.ReadChecks.{reading-elim}
+use Rattle.frame.proofs.ReadKinds.{reading-elim}
 use Rattle.ledger.specs.Ledger.{entry, Ledger, ledger, InSpan, GivesValue}
 use Rattle.ledger.specs.Decide.{inSpan?, givesValue?}
 use Rattle.ledger.specs.Steps.{newTold, repeatTold, mixWords, takeInSpan, takeAccepted, ledgerTake, ledgerWithdraw, ledgerShow}

@@ -1,0 +1,85 @@
+-- The writer's three steps, one behind the other, leave the frame at the front of the lent bytes and the rest as it was. The
+-- lent bytes have room for each step, since no frame is longer than the longest one.
+use mathlib.Core.Path.{_≡_, refl, ap, _∙_}
+use mathlib.Core.List.{List, [], _∷_, _++_}
+use Prim.Native.Nat.{ℕ, zero, suc, _+_, _*_, _≤_}
+use native.Mathlib.Omega.{arith}
+use lib.ListN.{length, take, length-append}
+use Rattle.codec.specs.BigEndian.{width, bytesOf}
+use Rattle.codec.specs.Placed.{placed}
+use Rattle.codec.proofs.BigEndian.{bytes-length}
+use Rattle.codec.proofs.Placed.{placed-length, placed-next}
+use Rattle.field.specs.Written.{tabulate}
+use Rattle.frame.specs.Format.{mapLength, longest, stands, mapByte, mapBytes, packed, frameOf}
+use Rattle.frame.specs.Bitmap.{standing, mapOf, mapBits}
+use Rattle.frame.proofs.Bytes.{one-value}
+use Rattle.frame.proofs.RoundMap.{map-length}
+use Rattle.frame_bytes.proofs.WriteNumbers.{packed-length, packed-short}
+use Rattle.frame_bytes.proofs.WriteMap.{standing-of}
+
+take-tabulate : (k n : ℕ) (f : ℕ → ℕ) → k ≤ n → take k (tabulate n f) ≡ tabulate k f
+unfolding tabulate
+take-tabulate zero n f h = refl
+take-tabulate (suc k) zero f h = absurd (omega arith)
+take-tabulate (suc k) (suc n) f h = ap (λ (bs : List ℕ). f 0 ∷ bs) (take-tabulate k n (λ i. f (suc i)) (omega arith))
+
+-- the map of up to 64 records has at most eight bytes, and is the front of the map as eight bytes
+pub map-short : (n : ℕ) → n ≤ 64 → mapLength n ≤ 8
+unfolding mapLength
+map-short n h = omega arith
+
+pub map-front : (n : ℕ) (xs : List ℕ) → n ≤ 64 → take (mapLength n) (mapOf xs) ≡ mapBytes n (stands xs)
+unfolding mapBytes mapOf
+map-front n xs h = take-tabulate (mapLength n) 8 (mapByte (stands xs)) (map-short n h)
+
+module _ (n : ℕ) (xs : List ℕ) (size : n ≤ 64) (long : length xs ≡ n) (old : List ℕ) (lent : length old ≡ longest) where
+  abbrev with-map : List ℕ
+  with-map = placed 0 (mapBytes n (stands xs)) old
+
+  abbrev with-numbers : List ℕ
+  with-numbers = placed (mapLength n) (packed xs) with-map
+
+  -- the lent bytes keep their length, so every step has room
+  map-long : length with-map ≡ longest
+  unfolding longest
+  map-long = placed-length 0 (mapBytes n (stands xs)) old (omega (arith, map-length n (stands xs), map-short n size)) ∙ lent
+
+  pub numbers-room : mapLength n + width * length xs ≤ length with-map
+  unfolding longest width
+  numbers-room = omega (arith, map-long, map-short n size)
+
+  numbers-long : length with-numbers ≡ longest
+  numbers-long =
+      placed-length (mapLength n) (packed xs) with-map (omega (arith, packed-short xs, numbers-room)) ∙ map-long
+
+  -- the steps put the frame at once
+  front : with-numbers ≡ placed 0 (mapBytes n (stands xs) ++ packed xs) old
+  front =
+      let map = mapBytes n (stands xs) in
+      let at : mapLength n ≡ 0 + length map = omega (arith, map-length n (stands xs)) in
+      ap (λ (k : ℕ). placed k (packed xs) with-map) at
+      ∙ placed-next 0 map (packed xs) old (omega arith)
+
+  one-frame : (v : ℕ) → frameOf n xs (v ∷ []) ≡ mapBytes n (stands xs) ++ packed xs ++ bytesOf width v
+  unfolding frameOf
+  one-frame v = rw (one-value v)
+
+  -- the value stands where the map's count says
+  module _ (count : ℕ) (counted : count ≡ standing (mapBits (mapOf xs))) (v : ℕ) where
+    place : mapLength n + width * count ≡ mapLength n + length (packed xs)
+    place = rw (counted, standing-of xs (omega arith), packed-length)
+
+    pub value-room : mapLength n + width * count + width ≤ length with-numbers
+    unfolding longest width
+    value-room = omega (arith, place, numbers-long, map-short n size, packed-short xs)
+
+    -- and what is left is the frame, and behind it what stood there
+    pub frame-written : placed (mapLength n + width * count) (bytesOf width v) with-numbers ≡ placed 0 (frameOf n xs (v ∷ [])) old
+    frame-written =
+        let done = mapBytes n (stands xs) ++ packed xs in
+        let at : mapLength n + width * count ≡ 0 + length done =
+        omega (arith, place, map-length n (stands xs), length-append (mapBytes n (stands xs)) (packed xs)) in
+        rw (front, at, one-frame v) (placed-next 0 done (bytesOf width v) old (omega arith))
+
+    pub frame-end : mapLength n + width * count + width ≡ 0 + length (frameOf n xs (v ∷ []))
+    frame-end = rw (place, one-frame v, length-append, length-append, map-length, bytes-length width v) (omega arith)

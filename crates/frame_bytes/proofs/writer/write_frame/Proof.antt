@@ -1,0 +1,109 @@
+-- `frame_bytes::writer::write_frame` meets its contract: the three steps leave what WriteFrame says of them.
+use mathlib.Core.Path.{_≡_, _∙_}
+use Prim.Native.Nat.{_≤_}
+use native.Mathlib.Omega.{arith}
+use borrow.Author.Needs.{needs}
+use Rattle.checks.specs.Largest.{largest}
+use Rattle.codec.specs.BigEndian.{width}
+use Rattle.codec.specs.Placed.{placed}
+use Rattle.frame.specs.Format.{mapLength, longest, stands, mapBytes, packed}
+use Rattle.frame.specs.Bitmap.{standing, mapOf, mapBits}
+use Rattle.frame.proofs.BitMaps.{standing-small}
+use Rattle.frame_bytes.proofs.WriteFrame.{map-front, numbers-room, value-room, frame-written, frame-end}
+use Rattle.frame_bytes.proofs.writer.write_frame.Statement.{statement}
+use Rattle.frame_bytes.proofs.writer.write_frame.Tie as tie
+
+abbrev start : tie.After-standing → tie.Start
+start c = c .before .before .before .before
+
+few : (c : tie.After-standing) → c .standing .result ≤ largest
+few c = rw (c .standing .ensures) (standing-small _)
+
+counted : (c : tie.After-standing) → c .standing .result ≡ standing (mapBits (mapOf (start c .args .multipliers .now)))
+counted c = rw (c .before .of .ensures) at (c .standing .ensures)
+
+-- the bytes with the map
+mapped :
+    (c : tie.After-put) →
+    let a = start (c .before .before) .args in
+    c .put .last .1 .1 .0 ≡ placed 0 (mapBytes (a .n) (stands (a .multipliers .now))) (a .bytes .now)
+unfolding mapLength
+mapped c =
+    let s = start (c .before .before) in
+    rw (c .before .before .before .of .ensures, map-front (s .args .n) (s .args .multipliers .now) (s .pre .1)) at (c .put .ensures)
+
+-- and with the multipliers
+numbered :
+    (c : tie.After-put-multipliers) →
+    let a = start (c .before .before .before .before .before .before) .args in
+    c .put-multipliers .last .1 .1 .1 .0
+    ≡ placed (mapLength (a .n)) (packed (a .multipliers .now)) (placed 0 (mapBytes (a .n) (stands (a .multipliers .now))) (a .bytes .now))
+unfolding mapLength
+numbered c = rw (mapped (c .before .before .before .before)) at (c .put-multipliers .ensures)
+
+of-requires : tie.Need-of-requires
+of-requires c κs = search needs
+
+add-len : tie.Need-add-len
+add-len c = search needs
+
+standing-requires : tie.Need-standing-requires
+standing-requires c κs = search needs
+
+mul-end : tie.Need-mul-end
+mul-end c = omega (arith, few c)
+
+add-end : tie.Need-add-end
+add-end c = omega (arith, few c)
+
+put-requires : tie.Need-put-requires
+unfolding longest
+put-requires c κs = omega arith
+
+put-multipliers-requires : tie.Need-put-multipliers-requires
+unfolding mapLength
+put-multipliers-requires c κs =
+    let m = c .before .before .before in
+    let s = start (m .before .before) in
+    let a = s .args in (
+      omega arith,
+      m .before .before .before .of .ensures,
+      rw (mapped m) (numbers-room (a .n) (a .multipliers .now) (s .pre .1) (s .pre .2) (a .bytes .now) (s .pre .3)),
+    )
+
+put-number-requires : tie.Need-put-number-requires
+unfolding mapLength width
+put-number-requires c κs =
+    let m = c .before .before .before in
+    let t = m .before .before .before .before .before .before in
+    let s = start t in
+    let a = s .args in
+    rw (numbered m)
+    (value-room (a .n) (a .multipliers .now) (s .pre .1) (s .pre .2) (a .bytes .now) (s .pre .3) _ (counted t) (a .value))
+
+add-result : tie.Need-add-result
+add-result c = omega (arith, few (c .before .before .before .before .before .before .before .before .before .before .before .before))
+
+same-length : tie.Need-same-length
+same-length c = search needs
+
+returns : tie.Need-returns
+unfolding mapLength width
+returns c =
+    let w = c .before .before in
+    let m = w .before .before .before .before in
+    let t = m .before .before .before .before .before .before in
+    let s = start t in
+    let a = s .args in
+    record {
+      memory =
+          rw (numbered m) at (w .put-number .ensures)
+          ∙ frame-written (a .n) (a .multipliers .now) (s .pre .1) (s .pre .2) (a .bytes .now) (s .pre .3) _ (counted t) (a .value);
+      end = frame-end (a .n) (a .multipliers .now) (s .pre .1) (s .pre .2) (a .bytes .now) (s .pre .3) _ (counted t) (a .value);
+    }
+
+pub write-frame-spec : {M : Type 1} → statement M
+write-frame-spec =
+    tie.close
+    (tie.spec of-requires add-len standing-requires mul-end add-end put-requires put-multipliers-requires put-number-requires
+    add-result same-length returns)
