@@ -22,7 +22,8 @@ fn put_residues(p: u32, low: u32, records: &[i32], residues: &mut [u32])
 
 // The value of the frame of records and multipliers that are known to be right.
 pub fn value_of(p: u32, low: u32, records: &[i32], multipliers: &[u32]) -> u32
-    requires { ⌜ (low < p) × (p ≤ largestModulus) × Records p low (now records) × (length (now records) ≤ largest) × (length (now multipliers) ≡ length (now records)) ⌝ }
+    requires { ⌜ (low < p) × (p ≤ largestModulus) × Records p low (now records)
+        × (length (now records) ≤ largest) × (length (now multipliers) ≡ length (now records)) ⌝ }
     ensures { λ r. ⌜ r ≡ sealed p (length (now (records .entry))) (now (records .entry)) (now (multipliers .entry)) ⌝ }
 {
     let n = records.len();
