@@ -1,4 +1,5 @@
--- The kinds that reading a frame can refuse by: 4, 6, 7 and 8.
+-- The kinds that reading a frame can refuse by: 4, 6, 7 and 8, going through its list of checks. So what is to hold of whatever
+-- reading finds need only be shown of multipliers and a value, and of those four refusals: never of 9 or 11, say.
 use mathlib.Core.List.{List, [], _∷_}
 use Prim.Native.Nat.{ℕ}
 use native.Mathlib.Omega.{arith}

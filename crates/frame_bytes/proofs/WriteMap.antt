@@ -1,6 +1,6 @@
 -- The bit map of multipliers as the code makes it, one record after the other: a multiplier that is not 0 adds 2^(j mod 8) to
--- byte j/8, and 0 adds nothing. A byte is packed from eight bits (RoundMap), so both are said of packed numbers first. Last, which
--- of its bits stand, and how many.
+-- byte j/8, and 0 adds nothing. A byte is packed from eight bits (frame/proofs/RoundMap.antt), so both are said of packed numbers
+-- first. Last, which of its bits stand, and how many.
 use mathlib.Core.Path.{_≡_, refl, sym, ap, _∙_}
 use mathlib.Core.Bool.{Bool, true, false, not, true≢false}
 use mathlib.Core.List.{List, [], _∷_, append-nil}

@@ -1,5 +1,5 @@
 -- The stages of reading a frame, by places in its bytes, as the code of `src/reading.rt` goes. They are parts of `readFrame`
--- (`Reading.antt`), which says what is read.
+-- (frame/specs/Reading.antt), which says what is read.
 use mathlib.Core.Path.{_≡_}
 use mathlib.Core.List.{List}
 use Prim.Native.Nat.{ℕ, _+_, _*_}
