@@ -573,7 +573,7 @@ static void agree_board(hall *h, int sparse) {
         uint8_t bent[DAUNEROAD_LONGEST_FRAME]; /* the repeat with another value */
         memcpy(bent, h->again[k], sizeof bent);
         uint32_t value = (uint32_t)((h->again_value[k] + 1) % h->p);
-        for (int b = 0; b < 4; b++) bent[h->again_length[k] - 1 - b] = (uint8_t)(value >> 8 * b);
+        for (size_t b = 0; b < DAUNEROAD_WIDTH(h->p); b++) bent[h->again_length[k] - 1 - b] = (uint8_t)(value >> 8 * b);
         for (int spare = 0; spare < 2; spare++) {
             memset(h->mix, 0xff, sizeof h->mix);
             must(take(h, h->again[k], h->again_length[k]) == DAUNEROAD_REPEAT, "take of a repeat");
@@ -614,6 +614,18 @@ static double timed(hall *h, int which) {
     return spent;
 }
 
+/* The bytes of the dense frames, and what they would be with four bytes a number. */
+static void tell_bytes(const hall *h) {
+    size_t bytes = 0, map = MOST / 8, numbers = 0;
+    for (int i = 0; i < MOST; i++) {
+        bytes += h->fresh_length[i];
+        numbers += (h->fresh_length[i] - map) / DAUNEROAD_WIDTH(h->p);
+    }
+    printf("%-38s %-13s n %2u  p %10u  dauneroad %8.2f bytes; with four bytes a number %8.2f\n", "a frame", "mean of 64", MOST, h->p,
+           (double)bytes / MOST, (double)(map * MOST + 4 * numbers) / MOST);
+    fflush(stdout);
+}
+
 static void race_board(int prime, double seconds) {
     static const struct {
         const char *call;
@@ -631,6 +643,7 @@ static void race_board(int prime, double seconds) {
         agree_board(&h, sparse);
         if (sparse) clear_hall(&h);
     }
+    tell_bytes(&h);
     for (uint32_t k = 0; k < MOST; k++) {
         lay_out(&h, k);
         for (int c = 0; c < TIMED; c++) fastest[k][c] = 1e18;

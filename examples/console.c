@@ -98,6 +98,8 @@ static void send_header(void) {
     put_byte(n);
 }
 
+/* Write is lent room for the longest frame of all moduli. What is sent is its front: at most DAUNEROAD_FRAME_BYTES(p, n) bytes, by
+ * which a receiver of this heat sizes its buffer, as examples/race.c does. */
 static void send(const frame *f) {
     uint8_t bytes[DAUNEROAD_LONGEST_FRAME];
     uint32_t length = accepted(dauneroad_write(p, n, f->multipliers, n, f->value, bytes, sizeof bytes), "write") - DAUNEROAD_DONE;

@@ -5,18 +5,21 @@
  *   race
  *
  * Plays console and printer in one: seals and writes a frame for each record, takes it, and shows the board twice. Prints a line for
- * each record: its position, the record, the number shown with DAUNEROAD_LOW(p), the number shown with the low end of the race. */
+ * each record: its position, the record, the number shown with DAUNEROAD_LOW(P), the number shown with the low end of the race. */
 #include <stdint.h>
 #include <stdio.h>
 #include <stdlib.h>
+#include <string.h>
 
 #include "dauneroad.h"
 
+/* The modulus and the records, which console and printer agree on. */
+#define P 8191
 #define N 8
 
 /* The greatest lead that the federation allows, 15 seconds, and the longest time, 66 seconds behind: 1,500 + 6,600 + 1 numbers, which
- * p has. */
-static const uint32_t p = 8191, low = 1500;
+ * P has. */
+static const uint32_t low = 1500;
 
 static const int32_t records[N] = {-1237, -84, 0, 2916, 4095, 4096, 5178, 6593};
 
@@ -28,22 +31,38 @@ static uint32_t accepted(uint32_t answer, const char *call) {
     return answer;
 }
 
-/* The frame of the powers of a number; those of different numbers are independent. */
-static void send(uint32_t *board, uint32_t number) {
-    uint32_t multipliers[N] = {1}, mix[N], value;
+/* What the printer receives a frame into: room for every frame of this heat, 19 bytes where those of any heat need 268. */
+typedef struct {
+    uint8_t bytes[DAUNEROAD_FRAME_BYTES(P, N)];
+    size_t length;
+} received;
+
+/* The console: the frame of the powers of a number; those of different numbers are independent. Write is lent room for the longest
+ * frame of all moduli, and only the front that it fills is sent. */
+static received sent(uint32_t number) {
+    uint32_t multipliers[N] = {1}, value;
     uint8_t bytes[DAUNEROAD_LONGEST_FRAME];
-    for (int j = 1; j < N; j++) multipliers[j] = (uint32_t)((uint64_t)multipliers[j - 1] * number % p);
-    accepted(dauneroad_seal(p, N, low, records, N, multipliers, N, &value), "seal");
-    uint32_t length = accepted(dauneroad_write(p, N, multipliers, N, value, bytes, sizeof bytes), "write") - DAUNEROAD_DONE;
-    accepted(dauneroad_take(board, DAUNEROAD_BOARD_WORDS(N), bytes, length, mix, N), "take");
+    received frame;
+    for (int j = 1; j < N; j++) multipliers[j] = (uint32_t)((uint64_t)multipliers[j - 1] * number % P);
+    accepted(dauneroad_seal(P, N, low, records, N, multipliers, N, &value), "seal");
+    frame.length = accepted(dauneroad_write(P, N, multipliers, N, value, bytes, sizeof bytes), "write") - DAUNEROAD_DONE;
+    if (frame.length > sizeof frame.bytes) {
+        fprintf(stderr, "race: a frame of %u bytes\n", (unsigned)frame.length);
+        exit(1);
+    }
+    memcpy(frame.bytes, bytes, frame.length);
+    return frame;
 }
 
 int main(void) {
-    uint32_t board[DAUNEROAD_BOARD_WORDS(N)], marks[N];
+    uint32_t board[DAUNEROAD_BOARD_WORDS(N)], mix[N], marks[N];
     int32_t old[N], shown[N];
-    accepted(dauneroad_open(p, N, board, DAUNEROAD_BOARD_WORDS(N)), "open");
-    for (uint32_t i = 1; i <= N; i++) send(board, i);
-    accepted(dauneroad_show(board, DAUNEROAD_BOARD_WORDS(N), DAUNEROAD_LOW(p), marks, N, old, N), "show");
+    accepted(dauneroad_open(P, N, board, DAUNEROAD_BOARD_WORDS(N)), "open");
+    for (uint32_t i = 1; i <= N; i++) {
+        received frame = sent(i);
+        accepted(dauneroad_take(board, DAUNEROAD_BOARD_WORDS(N), frame.bytes, frame.length, mix, N), "take");
+    }
+    accepted(dauneroad_show(board, DAUNEROAD_BOARD_WORDS(N), DAUNEROAD_LOW(P), marks, N, old, N), "show");
     accepted(dauneroad_show(board, DAUNEROAD_BOARD_WORDS(N), low, marks, N, shown, N), "show");
     for (int j = 0; j < N; j++) {
         if (marks[j]) printf("%d %d %d %d\n", j, (int)records[j], (int)old[j], (int)shown[j]);

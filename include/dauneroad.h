@@ -46,9 +46,20 @@ enum {
 /* Take's other answers, and what done answers begin with. */
 enum { DAUNEROAD_NEW = 0, DAUNEROAD_REPEAT = 100, DAUNEROAD_DONE = 200 };
 
-/* The longest frame, which dauneroad_write is lent, and the words of a board of n records. */
-#define DAUNEROAD_LONGEST_FRAME 268
+/* The words of a board of n records. */
 #define DAUNEROAD_BOARD_WORDS(n) (3 + (size_t)(n) * ((size_t)(n) + 1))
+
+/* The bytes of a number in a frame modulo p: the fewest that hold p - 1, from 1 to 4. The most significant comes first. */
+#define DAUNEROAD_WIDTH(p) \
+    ((size_t)((uint32_t)(p) <= 256 ? 1 : (uint32_t)(p) <= 65536 ? 2 : (uint32_t)(p) <= 16777216 ? 3 : 4))
+
+/* The most bytes that a frame of n records modulo p has: its bit map, a multiplier for each record, the value. A buffer of this size
+ * holds every frame that is accepted; what is longer is refused by 6 or 7, and a receiver may drop it unread. */
+#define DAUNEROAD_FRAME_BYTES(p, n) (((size_t)(n) + 7) / 8 + ((size_t)(n) + 1) * DAUNEROAD_WIDTH(p))
+
+/* The most bytes that any frame has: 64 records and numbers of four bytes. dauneroad_write is lent exactly so many, whichever p and n
+ * are given, and fills only the front. */
+#define DAUNEROAD_LONGEST_FRAME 268
 
 /* A low end, from 0 to p - 1, says how far below 0 records go: with it they run from -low to p - 1 - low. Seal and show with the same
  * one; docs/C.md says how to choose it. This is the one of document 01, (p - 1)/2 rounded down, with which records run from
@@ -77,13 +88,14 @@ uint32_t dauneroad_show(const uint32_t *board, size_t board_len, uint32_t low, u
 /* ---- frames ---- */
 
 /* Reads a frame: n multipliers and *value are written. 0; refuses 1, 2, 3, then the frame's 6, 6, 7, 8 or 4: fewer bytes than
- * the map has, 6; not map + 4 * standing bits + 4 bytes, where every bit of the map counts, those at n or above too, 6; a bit
- * that stands at n or above, 7; then the numbers in byte order, a multiplier of 0, 8, a number of p or more, 4. */
+ * the map has, 6; not map + w * standing bits + w bytes, where w is DAUNEROAD_WIDTH(p) and every bit of the map counts, those at n
+ * or above too, 6; a bit that stands at n or above, 7; then the numbers in byte order, a multiplier of 0, 8, a number of p or
+ * more, 4. */
 uint32_t dauneroad_read(uint32_t p, uint32_t n, const uint8_t *frame, size_t frame_len, uint32_t *multipliers,
                         size_t multipliers_len, uint32_t *value);
 
-/* Writes the frame of n multipliers and a value to the front of bytes (exactly 268 are lent); the bytes after it keep their
- * contents. 200 + the frame's length; refuses 1, 2, 3, 4. */
+/* Writes the frame of n multipliers and a value to the front of bytes (bytes_len is 268, DAUNEROAD_LONGEST_FRAME); the bytes after it
+ * keep their contents. 200 + the frame's length; refuses 1, 2, 3, 4. */
 uint32_t dauneroad_write(uint32_t p, uint32_t n, const uint32_t *multipliers, size_t multipliers_len, uint32_t value,
                          uint8_t *bytes, size_t bytes_len);
 

@@ -2,14 +2,14 @@
 """Call lists for the test program of the board: crates/test_board/stdin.
 
 A model of its own plays lists of take, withdraw and show calls: a ledger of frames, with Gaussian elimination on lists of
-Python numbers, straight from document 01's section "The board and its ledger", frames read as document 02's #101 has it. Frames
-are lost, doubled, summed, falsified and malformed, lent memory has wrong lengths now and then, boards are tampered with. The first
-40 lists show with the old low end, (p - 1)/2 rounded down; the others with any of 0, 1, the old one, p - 2, p - 1, p, 2^32 - 1 and
-others (document 02, #106), where a number is the one from -L to p - 1 - L that is congruent to the record. Numbers are four bytes
-each, most significant first, signed ones in two's complement:
+Python numbers, straight from document 01's section "The board and its ledger", frames read as document 02's #101 and #111 have
+it. Frames are lost, doubled, summed, falsified and malformed, lent memory has wrong lengths now and then, boards are tampered with.
+The first 40 lists show with the old low end, (p - 1)/2 rounded down; the others with any of 0, 1, the old one, p - 2, p - 1, p,
+2^32 - 1 and others (document 02, #106), where a number is the one from -L to p - 1 - L that is congruent to the record. Outside the
+frames numbers are four bytes each, most significant first, signed ones in two's complement:
 
     p n, then calls, then 0
-    1 frame length, frame (one number a byte), mix length, mix; answer, count; the mix after; the board after
+    1 frame length, frame (each byte as a number), mix length, mix; answer, count; the mix after; the board after
     2 t; answer; the board after
     3 low end, marks length, marks, numbers length, numbers; answer; marks after, numbers after
     4 place, word: the test writes that word into the board (tampering), nothing is answered
@@ -24,10 +24,11 @@ import random
 import struct
 import sys
 
-PRIMES = [2, 3, 5, 7, 251, 65537, 2147483629, 2147483647]
+# with the primes on both sides of where one, two and three bytes end
+PRIMES = [2, 3, 5, 7, 251, 257, 65521, 65537, 16777213, 16777259, 2147483629, 2147483647]
 
-# the number for a padding bit, in every other frame that has one: with it the length is the one counted over the whole map
-padding_numbers = itertools.cycle([b'', struct.pack('>I', 1)])
+# how many numbers come with a padding bit, none and one in turn: with one the length is that counted over the whole map
+padding_numbers = itertools.cycle([0, 1])
 
 
 def is_prime(p):
@@ -50,25 +51,31 @@ def prime(p):
     return prime_cache[p]
 
 
-def frame_of(n, multipliers, value):
+def width(p):
+    """The bytes of a number in a frame modulo p: the fewest that hold p - 1, from 1 to 4."""
+    return next(w for w in (1, 2, 3, 4) if p - 1 < 256 ** w)
+
+
+def frame_of(w, n, multipliers, value):
+    """With numbers of w bytes."""
     bits = bytearray((n + 7) // 8)
     for j, x in enumerate(multipliers):
         if x:
             bits[j // 8] |= 1 << (j % 8)
-    return bytes(bits) + b''.join(struct.pack('>I', x) for x in multipliers if x) + struct.pack('>I', value)
+    return bytes(bits) + b''.join(x.to_bytes(w, 'big') for x in multipliers if x) + value.to_bytes(w, 'big')
 
 
 def read(p, n, frame):
-    size = (n + 7) // 8
+    w, size = width(p), (n + 7) // 8
     if len(frame) < size:
         return 6
     bits = [frame[j // 8] >> (j % 8) & 1 for j in range(8 * size)]
     k = sum(bits)
-    if len(frame) != size + 4 * k + 4:
+    if len(frame) != size + w * k + w:
         return 6
     if any(bits[n:]):
         return 7
-    numbers = [int.from_bytes(frame[size + 4 * t:size + 4 * t + 4], 'big') for t in range(k + 1)]
+    numbers = [int.from_bytes(frame[size + w * t:size + w * t + w], 'big') for t in range(k + 1)]
     for x in numbers[:-1]:
         if x == 0:
             return 8
@@ -199,6 +206,33 @@ def any_low(rng, p):
     return rng.choice([0, 1, (p - 1) // 2, p - 2, p - 1, p, 4294967295, rng.randrange(p), rng.randrange(p), rng.randrange(2 ** 32)])
 
 
+def malformed(rng, p, n, row, v):
+    """The frame cut anywhere, longer by a byte, shorter or longer by a number, with numbers of four bytes (no fault where that is the
+    width), with a padding bit, with a multiplier of 0, or with a multiplier or a value of p or more."""
+    w, size = width(p), (n + 7) // 8
+    frame = bytearray(frame_of(w, n, row, v))
+    beyond = rng.choice([p, 256 ** w - 1]).to_bytes(w, 'big')
+    bad = rng.randrange(9)
+    if bad == 0:
+        return frame[:rng.randrange(len(frame))]
+    if bad == 1:
+        return frame + bytes([rng.randrange(256)])
+    if bad == 2:
+        return frame[:-w]
+    if bad == 3:
+        return frame + frame[-w:]
+    if bad == 4:
+        return frame_of(4, n, row, v)
+    if bad == 5 and n % 8:
+        frame[size - 1] |= 128
+        frame[-w:-w] = (1).to_bytes(w, 'big') * next(padding_numbers)
+    elif bad in (6, 7) and len(frame) > size + w:
+        frame[size:size + w] = bytes(w) if bad == 6 else beyond
+    else:
+        frame[-w:] = beyond
+    return frame
+
+
 def history(rng, p, n, calls, out, count, low_end=old_low):
     board = Board(p, n)
     out += words_of([p, n])
@@ -220,20 +254,7 @@ def history(rng, p, n, calls, out, count, low_end=old_low):
             v = sum(x * r for x, r in zip(row, records)) % p
             if rng.random() < 0.12:
                 v = rng.randrange(p)
-            frame = bytearray(frame_of(n, row, v))
-            if rng.random() < 0.15:
-                bad = rng.randrange(5)
-                if bad == 0:
-                    frame = frame[:rng.randrange(len(frame))]
-                elif bad == 1:
-                    frame += bytes([rng.randrange(256)])
-                elif bad == 2 and n % 8:
-                    frame[(n + 7) // 8 - 1] |= 128
-                    frame[-4:-4] = next(padding_numbers)
-                elif bad == 3 and len(frame) > (n + 7) // 8 + 4:
-                    frame[(n + 7) // 8:(n + 7) // 8 + 4] = bytes(4)
-                else:
-                    frame[-4:] = struct.pack('>I', p)
+            frame = malformed(rng, p, n, row, v) if rng.random() < 0.15 else frame_of(width(p), n, row, v)
             mix = [rng.randrange(2 ** 32) for _ in range(n if rng.random() < 0.95 else rng.randrange(n + 3))]
             out += words_of([1, len(frame)] + list(frame) + [len(mix)] + mix)
             answer, mix = board.take(bytes(frame), mix)

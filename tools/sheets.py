@@ -14,7 +14,7 @@ import struct
 import sys
 
 sys.dont_write_bytecode = True
-from boards import frame_of, prime, read  # noqa: E402
+from boards import frame_of, prime, read, width  # noqa: E402
 
 EXAMPLE = b'new 1\nnew 2\nrepeat 2\nconflict 2\nnew 3\n0 -2\n1 0\n2 -1\nmissing 0\n'
 
@@ -86,7 +86,7 @@ def sized(frame):
 
 def stream(p, n, *frames):
     """Each frame is its bytes, or (multipliers, value)."""
-    return header(p, n) + b''.join(sized(f if isinstance(f, bytes) else frame_of(n, *f)) for f in frames)
+    return header(p, n) + b''.join(sized(f if isinstance(f, bytes) else frame_of(width(p), n, *f)) for f in frames)
 
 
 def heat(rng, p, n, count):
@@ -107,7 +107,7 @@ def heat(rng, p, n, count):
             value = (value + 1) % p
         else:
             heard.append(row)
-        frame = bytearray(frame_of(n, row, value))
+        frame = bytearray(frame_of(width(p), n, row, value))
         kind = rng.random()
         if kind < 0.03:
             frame = frame[:rng.randrange(len(frame))]
@@ -120,7 +120,7 @@ def heat(rng, p, n, count):
 
 
 ROWS = [([1, 2, 0], 5), ([0, 1, 3], 4), ([1, 3, 3], 2), ([1, 3, 3], 3), ([0, 0, 1], 6)]
-FIRST, SECOND = [frame_of(3, *f) for f in ROWS[:2]]
+FIRST, SECOND = [frame_of(width(7), 3, *f) for f in ROWS[:2]]
 
 
 def cut_inputs():
@@ -130,10 +130,13 @@ def cut_inputs():
     one = stream(7, 3, FIRST)
     yield 'cut-length', one + b'\0'
     yield 'cut-length-alone', header(7, 3) + b'\x01'
-    yield from ((f'cut-frame-{k}-bytes', one + sized(SECOND)[:2 + k]) for k in (0, 1, 5, len(SECOND) - 1))
+    yield from ((f'cut-frame-{k}-bytes', one + sized(SECOND)[:2 + k]) for k in range(len(SECOND)))
+    # a last frame of 13 bytes, cut at the end of a number and inside one
+    wide = stream(2147483647, 3, *ROWS[:2])
+    yield from ((f'cut-wide-frame-{k}-bytes', wide[:k - 13]) for k in (5, 12))
     # the bytes that came of these would be another frame's answer
     yield 'cut-frame-whole-inside', one + struct.pack('>H', 20) + SECOND
-    yield 'cut-frame-padding-inside', one + struct.pack('>H', 13) + b'\x08' + bytes(8)
+    yield 'cut-frame-padding-inside', one + struct.pack('>H', 4) + b'\x08' + bytes(2)
     yield 'cut-frame-long', one + struct.pack('>H', 65535) + bytes(65534)
 
 
@@ -141,22 +144,52 @@ def refused_inputs():
     yield from ((f'open-modulus-{p}', stream(p, 3, *ROWS)) for p in (0, 1, 4, 2147117569, 2147483648, 4294967295))
     yield from ((f'open-records-{n}', header(7, n) + sized(FIRST)) for n in (0, 65, 255))
     yield 'open-modulus-before-records', header(4, 0)
-    yield 'frame-number', stream(7, 3, b'\x01' + struct.pack('>II', 7, 0), ([1, 0, 0], 7), FIRST)
+    yield 'frame-number', stream(7, 3, b'\x01\x07\0', ([1, 0, 0], 7), FIRST)
     yield 'frame-length', stream(7, 3, FIRST[:-1], FIRST + b'\0', b'\x01', FIRST)
     yield 'frame-no-bytes', stream(7, 3, b'', FIRST, b'', SECOND, b'')
     yield 'frame-300-bytes', stream(7, 3, FIRST + bytes(300 - len(FIRST)), SECOND)
     yield 'frame-65535-bytes', stream(7, 3, FIRST + bytes(65535 - len(FIRST)), b'\x80' + bytes(65534), SECOND)
-    padded = b'\x08' + struct.pack('>II', 1, 2)
+    padded = b'\x08\x01\x02'
     yield 'frame-padding', stream(7, 3, padded, FIRST)
-    yield 'frame-padding-numbers', stream(7, 3, b'\x08' + struct.pack('>II', 0, 7), FIRST)
-    yield 'frame-padding-cut', stream(7, 3, padded[:-1], padded[:-4], padded[:1], FIRST)
+    yield 'frame-padding-numbers', stream(7, 3, b'\x08\0\x07', FIRST)
+    yield 'frame-padding-cut', stream(7, 3, padded[:2], padded[:1], FIRST)
     yield 'frame-padding-long', stream(7, 3, padded + b'\0', padded + padded[1:], padded + bytes(260), b'\xff' + bytes(268), FIRST)
-    ones = struct.pack('>9I', *[1] * 9)
-    yield 'frame-no-padding', stream(7, 8, padded, padded[:-1], b'\xff' + ones, b'\xff' + ones[:-4], b'\x80' + padded[1:])
+    ones = b'\x01' * 9
+    yield 'frame-no-padding', stream(7, 8, padded, padded[:-1], b'\xff' + ones, b'\xff' + ones[:-1], b'\x80' + padded[1:])
     last = bytes(7) + b'\x80'
-    yield 'frame-no-padding-64', stream(7, 64, last + padded[1:], last + padded[1:-1], last + padded[1:5], b'\xff' * 8 + bytes(259))
-    yield 'frame-multiplier-zero', stream(7, 3, b'\x01' + bytes(8), FIRST)
+    yield 'frame-no-padding-64', stream(7, 64, last + padded[1:], last + padded[1:-1], last, b'\xff' * 8 + bytes(64))
+    yield 'frame-multiplier-zero', stream(7, 3, b'\x01' + bytes(2), FIRST)
     yield 'frame-conflict', stream(7, 3, ([0, 0, 0], 0), ([0, 0, 0], 1), FIRST, ([2, 4, 0], 3), ([2, 4, 0], 4))
+
+
+def width_frames(p):
+    """Frames of five records with the answer to each: with the greatest numbers modulo p, of wrong lengths and of four bytes a number,
+    with a bit behind the last record, with numbers of p or more and 0, then frames that settle all records."""
+    w, top, most = width(p), p - 1, 256 ** width(p) - 1
+    good = frame_of(w, 5, [top] * 5, top)
+    padded = bytes([good[0] | 0x20]) + good[1:]
+    yield 'new 1', good
+    yield from (('refused 6', f) for f in (good[:-1], good + b'\0', good[:-w], good + bytes(w), padded, padded + bytes(w - 1)))
+    yield ('refused 6' if w < 4 else 'repeat 1'), frame_of(4, 5, [top] * 5, top)
+    yield 'refused 7', padded + bytes(w)
+    for x in (p, most):
+        yield from (('refused 4', frame_of(w, 5, *f)) for f in (([x, 1, 0, 0, 0], 0), ([1, 0, 0, 0, x], 0), ([1, 1, 0, 0, 0], x)))
+    yield 'refused 8', good[:1] + bytes(w) + good[1 + w:]
+    yield 'conflict 1', frame_of(w, 5, [1] * 5, 2)
+    units = [[int(c == j) for c in range(5)] for j in range(5)]
+    values = (p // 2, p // 2 + 1, top, 1)
+    yield from ((f'new {j + 2}', frame_of(w, 5, units[j], v)) for j, v in enumerate(values))
+    yield 'repeat 5', frame_of(w, 5, units[4], (1 - sum(values)) % p)
+
+
+def width_inputs():
+    """On both sides of where one, two and three bytes end; and frames of four bytes a number, where p needs one."""
+    for p in (251, 257, 65521, 65537, 16777213, 16777259):
+        answers, frames = zip(*width_frames(p))
+        data = stream(p, 5, *frames)
+        assert sheet(data).decode().splitlines()[:len(answers)] == [*answers]
+        yield f'width-{p}', data
+    yield 'frame-old-width', stream(7, 3, *(frame_of(4, 3, *f) for f in ROWS), ([0, 0, 0], 0), frame_of(4, 3, [0, 0, 0], 0), FIRST)
 
 
 def heats():
@@ -167,9 +200,11 @@ def heats():
     yield 'none-settled', stream(7, 3, *ROWS[:2])
     yield '64-records', heat(rng, 2147483629, 64, 90)
     yield '64-records-modulus-2', heat(rng, 2, 64, 120)
-    yield '64-records-longest', stream(251, 64, frame_of(64, [1] * 64, 5), frame_of(64, [1] * 64, 5) + b'\0', bytes(269))
+    longest = frame_of(4, 64, [1] * 64, 5)
+    assert len(longest) == 268
+    yield '64-records-longest', stream(2147483647, 64, longest, longest + b'\0', bytes(269))
     yield 'many-frames', heat(rng, 251, 16, 1000)
-    yield from ((f'heat-{n}-records', heat(rng, p, n, 3 * n)) for p, n in ((3, 5), (5, 8), (65537, 12), (2147483647, 33)))
+    yield from ((f'heat-{n}-records', heat(rng, p, n, 3 * n)) for p, n in ((3, 5), (5, 8), (65537, 12), (2147483647, 33), (65521, 20)))
 
 
 def mixed(rng, p, rows):
@@ -178,11 +213,11 @@ def mixed(rng, p, rows):
     return [sum(f * x for f, x in zip(factors, column)) % p for column in zip(*rows)]
 
 
-def damaged(rng, frame):
+def damaged(rng, w, frame):
     """Too short, too long, a bit behind the last of at most seven records, without its number and with it, a value that is no
-    residue, or no bytes at all."""
+    residue, or no bytes at all. Numbers have w bytes."""
     padded = bytes([frame[0] | 0x80]) + frame[1:]
-    return rng.choice([frame[:-1], frame + b'\0', padded, padded[:-4] + padded[-4:] * 2, frame[:-4] + b'\xff' * 4, b''])
+    return rng.choice([frame[:-1], frame + b'\0', padded, padded + padded[-w:], frame[:-w] + b'\xff' * w, b''])
 
 
 def long_stream(rng, p, n, late, count):
@@ -196,8 +231,8 @@ def long_stream(rng, p, n, late, count):
         value = sum(x * r for x, r in zip(row, records)) % p
         if not first and rng.random() < 0.3:
             value = (value + rng.randrange(1, p)) % p
-        frame = frame_of(n, row, value)
-        frames.append(damaged(rng, frame) if not first and rng.random() < 0.05 else frame)
+        frame = frame_of(width(p), n, row, value)
+        frames.append(damaged(rng, width(p), frame) if not first and rng.random() < 0.05 else frame)
     return stream(p, n, *frames)
 
 
@@ -248,7 +283,7 @@ def main():
     assert sheet(example) == EXAMPLE
     store(os.path.join(root, 'crates/sheet/stdin'), example)
     store(os.path.join(root, 'crates/sheet/stdout'), EXAMPLE)
-    runs = [*cut_inputs(), *refused_inputs(), *heats()]
+    runs = [*cut_inputs(), *refused_inputs(), *width_inputs(), *heats()]
     store_runs(os.path.join(root, 'tests/sheet'), runs)
     print('%d runs, and the example' % len(runs), file=sys.stderr)
 

@@ -1,5 +1,5 @@
-/* Document 01's examples, and frames with padding as document 02's #101 has them, through the header alone. One line per
- * example group; ends with 0 only if all of them hold. */
+/* Document 01's examples, frames with padding as document 02's #101 has them and with numbers as its #111 has them, through the
+ * header alone. One line per example group; ends with 0 only if all of them hold. */
 #include "dauneroad.h"
 
 #include <stdio.h>
@@ -115,10 +115,8 @@ static void moduli_and_sizes(void)
 
 static void frames(void)
 {
-    static const uint8_t frame[] = {3, 0, 0, 0, 1, 0, 0, 0, 2, 0, 0, 0, 5};
-    static const uint8_t padded[] = {8, 0, 0, 0, 1, 0, 0, 0, 1, 0};
-    static const uint8_t zero[] = {1, 0, 0, 0, 0, 0, 0, 0, 1};
-    static const uint8_t large[] = {1, 0, 0, 0, 7, 0, 0, 0, 1};
+    static const uint8_t frame[] = {3, 1, 2, 5}, padded[] = {8, 1, 1, 0}, zero[] = {1, 0, 1}, large[] = {1, 7, 1};
+    static const uint8_t four_bytes[] = {3, 0, 0, 0, 1, 0, 0, 0, 2, 0, 0, 0, 5};
     uint32_t multipliers[3], eight[8], value = 0;
     uint8_t bytes[DAUNEROAD_LONGEST_FRAME];
     EXPECT(dauneroad_read(7, 3, frame, LEN(frame), multipliers, 3, &value) == 0);
@@ -131,24 +129,87 @@ static void frames(void)
         EXPECT(bytes[i] == 0xee);
     /* a bit at n or above: 7 in a frame as long as its map says, that bit counted; a shorter or longer one was cut or joined */
     for (uint32_t length = 0; length <= LEN(padded); length++) {
-        uint32_t number = length == 9 ? DAUNEROAD_PADDING : DAUNEROAD_FRAME_LENGTH;
+        uint32_t number = length == 3 ? DAUNEROAD_PADDING : DAUNEROAD_FRAME_LENGTH;
         EXPECT(dauneroad_read(7, 3, padded, length, multipliers, 3, &value) == number);
     }
     EXPECT(dauneroad_read(7, 3, zero, LEN(zero), multipliers, 3, &value) == DAUNEROAD_ZERO_MULTIPLIER);
     EXPECT(dauneroad_read(7, 3, large, LEN(large), multipliers, 3, &value) == DAUNEROAD_NUMBER);
     EXPECT(dauneroad_read(7, 3, frame, LEN(frame) - 1, multipliers, 3, &value) == DAUNEROAD_FRAME_LENGTH);
     EXPECT(dauneroad_read(7, 3, frame, 0, multipliers, 3, &value) == DAUNEROAD_FRAME_LENGTH);
+    EXPECT(dauneroad_read(7, 3, four_bytes, LEN(four_bytes), multipliers, 3, &value) == DAUNEROAD_FRAME_LENGTH);
     SAME(multipliers, {1, 2, 0});
     EXPECT(value == 5);
-    EXPECT(dauneroad_read(7, 8, padded, 9, eight, 8, &value) == 0);
+    EXPECT(dauneroad_read(7, 8, padded, 3, eight, 8, &value) == 0);
     SAME(eight, {0, 0, 0, 1, 0, 0, 0, 0});
     EXPECT(value == 1);
     group("frames of n = 3 and n = 8, p = 7");
 }
 
+/* The macros are constants that can stand as an array's size, and the longest frame is one of the widest numbers. */
+_Static_assert(DAUNEROAD_WIDTH(251) == 1 && DAUNEROAD_WIDTH(257) == 2, "251 needs one byte, 257 needs two");
+_Static_assert(DAUNEROAD_FRAME_BYTES(2147483647, 64) == DAUNEROAD_LONGEST_FRAME, "64 multipliers and a value of four bytes each");
+static uint8_t room[DAUNEROAD_FRAME_BYTES(16777259, 64) + 4]; /* a full frame and a number more */
+
+/* The frame of n records with all multipliers x and the value y, each number in `width` bytes, to `room`; its length. */
+static size_t lay(uint32_t n, uint32_t x, uint32_t y, size_t width)
+{
+    size_t length = (n + 7) / 8;
+    memset(room, 0, length);
+    for (uint32_t j = 0; j < n; j++)
+        room[j / 8] |= (uint8_t)(1 << (j % 8));
+    for (uint32_t j = 0; j <= n; j++)
+        for (size_t i = width; i > 0; i--)
+            room[length++] = (uint8_t)((j < n ? x : y) >> 8 * (i - 1));
+    return length;
+}
+
+/* A frame of n multipliers that are all not 0: as long as the macro says; refused at other lengths and with numbers of another width. */
+static void full_frame(uint32_t p, uint32_t n, size_t width)
+{
+    uint32_t row[64], multipliers[64], value = 0;
+    uint8_t bytes[DAUNEROAD_LONGEST_FRAME];
+    for (uint32_t j = 0; j < n; j++)
+        row[j] = p - 1;
+    memset(bytes, 0xee, sizeof bytes);
+    uint32_t answer = dauneroad_write(p, n, row, n, p / 2, bytes, sizeof bytes);
+    EXPECT(answer == DAUNEROAD_DONE + DAUNEROAD_FRAME_BYTES(p, n));
+    size_t length = lay(n, p - 1, p / 2, width);
+    EXPECT(length == DAUNEROAD_FRAME_BYTES(p, n) && memcmp(bytes, room, length) == 0);
+    for (size_t i = length; i < sizeof bytes; i++)
+        EXPECT(bytes[i] == 0xee);
+    EXPECT(dauneroad_read(p, n, room, length, multipliers, n, &value) == 0);
+    EXPECT(memcmp(multipliers, row, n * sizeof *row) == 0 && value == p / 2);
+    const size_t lengths[] = {length - width, length - 1, length + 1, length + width};
+    for (size_t i = 0; i < LEN(lengths); i++)
+        EXPECT(dauneroad_read(p, n, room, lengths[i], multipliers, n, &value) == DAUNEROAD_FRAME_LENGTH);
+    for (size_t other = 1; other <= 4; other++) {
+        uint32_t number = other == width ? 0 : DAUNEROAD_FRAME_LENGTH;
+        length = lay(n, 1, 1, other);
+        EXPECT(dauneroad_read(p, n, room, length, multipliers, n, &value) == number);
+    }
+    length = lay(n, 1, p, width);
+    EXPECT(dauneroad_read(p, n, room, length, multipliers, n, &value) == DAUNEROAD_NUMBER);
+    length = lay(n, 1, 0xffffffff, width);
+    EXPECT(dauneroad_read(p, n, room, length, multipliers, n, &value) == DAUNEROAD_NUMBER);
+}
+
+static void widths(void)
+{
+    static const struct {
+        uint32_t p;
+        size_t width;
+    } table[] = {{2, 1}, {7, 1}, {251, 1}, {257, 2}, {65521, 2}, {65537, 3}, {16777213, 3}, {16777259, 4}, {2147483647, 4}};
+    for (size_t i = 0; i < LEN(table); i++) {
+        EXPECT(DAUNEROAD_WIDTH(table[i].p) == table[i].width);
+        for (uint32_t n = 1; n <= 64; n++)
+            full_frame(table[i].p, n, table[i].width);
+    }
+    group("frames on both sides of each width's end");
+}
+
 static void fresh_board(void)
 {
-    static const uint8_t nothing[] = {0, 0, 0, 0, 0}, lie[] = {0, 0, 0, 0, 1};
+    static const uint8_t nothing[] = {0, 0}, lie[] = {0, 1}, four_bytes[] = {0, 0, 0, 0, 0};
     uint32_t board[DAUNEROAD_BOARD_WORDS(3)], mix[3] = {9, 9, 9};
     EXPECT(dauneroad_open(7, 3, board, LEN(board)) == 0);
     EXPECT(dauneroad_take(board, LEN(board), nothing, LEN(nothing), mix, LEN(mix)) == DAUNEROAD_REPEAT);
@@ -156,6 +217,9 @@ static void fresh_board(void)
     mix[0] = mix[1] = mix[2] = 9;
     EXPECT(dauneroad_take(board, LEN(board), lie, LEN(lie), mix, LEN(mix)) == DAUNEROAD_CONFLICT);
     SAME(mix, {0, 0, 0});
+    mix[0] = mix[1] = mix[2] = 9;
+    EXPECT(dauneroad_take(board, LEN(board), four_bytes, LEN(four_bytes), mix, LEN(mix)) == DAUNEROAD_FRAME_LENGTH);
+    SAME(mix, {9, 9, 9});
     SAME(board, {7, 3, 0, 0, 0, 0, 0, 0, 0, 0, 0, 0, 0, 0, 0});
     EXPECT(dauneroad_withdraw(board, LEN(board), 0) == 200);
     EXPECT(dauneroad_withdraw(board, LEN(board), 1) == DAUNEROAD_WITHDRAWAL);
@@ -320,6 +384,7 @@ int main(void)
     small_tables();
     moduli_and_sizes();
     frames();
+    widths();
     fresh_board();
     sheet();
     sealing();

@@ -35,7 +35,7 @@ impl History {
 
     fn true_frame(&self, numbers: &[u32]) -> Vec<u8> {
         let value = model::dot(self.ledger.p as u64, wide(numbers).into_iter(), self.records.iter().copied());
-        model::frame_of(numbers, value as u32)
+        model::frame_of(self.ledger.p, numbers, value as u32)
     }
 
     /// A frame that standing ones sum to, with this added to its value.
@@ -52,7 +52,7 @@ impl History {
             }
         }
         let numbers: Vec<u32> = sum[..self.ledger.n].iter().map(|&x| x as u32).collect();
-        model::frame_of(&numbers, ((sum[self.ledger.n] + more) % p) as u32)
+        model::frame_of(self.ledger.p, &numbers, ((sum[self.ledger.n] + more) % p) as u32)
     }
 
     fn any_frame(&mut self, rng: &mut Rng) -> Vec<u8> {
@@ -65,8 +65,8 @@ impl History {
                 let more = 1 + rng.under(p - 1) as u64;
                 self.summed(rng, more)
             }
-            15 => model::frame_of(&multipliers(rng, p, n), rng.under(p)),
-            16 => model::frame_of(&vec![0; n], if rng.once_in(2) { 0 } else { 1 }),
+            15 => model::frame_of(p, &multipliers(rng, p, n), rng.under(p)),
+            16 => model::frame_of(p, &vec![0; n], if rng.once_in(2) { 0 } else { 1 }),
             _ => {
                 let good = self.true_frame(&multipliers(rng, p, n));
                 damaged(rng, p, n, &good)
@@ -227,7 +227,7 @@ pub fn boards(g: &mut Group) {
 pub fn histories_exhaustive(g: &mut Group) {
     for (p, n, depth) in [(2u32, 1, 5), (2, 2, 4), (3, 1, 4), (2, 3, 3), (3, 2, 2), (5, 1, 3)] {
         let mut frames = Vec::new();
-        each(p, n + 1, |numbers| frames.push(model::frame_of(&numbers[..n], numbers[n])));
+        each(p, n + 1, |numbers| frames.push(model::frame_of(p, &numbers[..n], numbers[n])));
         let (_, ledger) = calls::open(g, p, n as u32, 3 + n * (n + 1));
         let ledger = ledger.expect("an accepted open");
         go_on(g, ledger.words(), &ledger, &frames, depth);
@@ -266,7 +266,7 @@ pub fn restored(g: &mut Group, rounds: usize) {
             let frame = if g.rng.once_in(3) {
                 history.summed(&mut g.rng, 0)
             } else {
-                model::frame_of(&multipliers(&mut g.rng, p, n), g.rng.under(p))
+                model::frame_of(p, &multipliers(&mut g.rng, p, n), g.rng.under(p))
             };
             history.take(g, &frame, n);
         }
@@ -437,7 +437,7 @@ pub fn tampering(g: &mut Group, rounds: usize, most: usize) {
         let k = if g.rng.once_in(4) { n } else { g.rng.below(n + 1) };
         let ledger = any_ledger(&mut g.rng, p, n, k);
         let words = tampered(&mut g.rng, &ledger);
-        let mut frame = model::frame_of(&multipliers(&mut g.rng, p, n), g.rng.under(p));
+        let mut frame = model::frame_of(p, &multipliers(&mut g.rng, p, n), g.rng.under(p));
         if g.rng.once_in(4) {
             frame = damaged(&mut g.rng, p, n, &frame);
         }
@@ -452,7 +452,7 @@ pub fn tampering_largest(g: &mut Group, rounds: usize) {
         let p = if round % 2 == 0 { 2_147_483_647 } else { any_p(&mut g.rng) };
         let k = g.rng.pick(&[64, 64, 63, 32]);
         let ledger = any_ledger(&mut g.rng, p, 64, k);
-        let frame = model::frame_of(&multipliers(&mut g.rng, p, 64), g.rng.under(p));
+        let frame = model::frame_of(p, &multipliers(&mut g.rng, p, 64), g.rng.under(p));
         let mut words = tampered(&mut g.rng, &ledger);
         if round % 3 == 0 {
             // the last row is the sum of all the others
@@ -470,7 +470,7 @@ pub fn tampering_largest(g: &mut Group, rounds: usize) {
         for k in [0, 1, n] {
             let mut words = vec![0; len];
             (words[0], words[1], words[2]) = (7, n, k);
-            on_words(g, &words, &[0; 5], 1, 0, 1);
+            on_words(g, &words, &[0; 2], 1, 0, 1);
         }
     }
 }
@@ -484,14 +484,14 @@ pub fn boards_exhaustive(g: &mut Group) {
             if let Some(p) = words.first_mut() {
                 *p += 2;
             }
-            on_words(g, &words, &[1, 0, 0, 0, 1, 0, 0, 0, 1], 1, 1, 1);
+            on_words(g, &words, &[1, 1, 1], 1, 1, 1);
         });
     }
     for (p, top) in [(2, 3), (3, 4)] {
         for k in 0..=3 {
             each(top, 6, |rest| {
                 let words: Vec<u32> = [p, 2, k].iter().chain(rest).copied().collect();
-                on_words(g, &words, &[3, 0, 0, 0, 1, 0, 0, 0, 1, 0, 0, 0, 0], 2, 1, 2);
+                on_words(g, &words, &[3, 1, 1, 0], 2, 1, 2);
             });
         }
     }

@@ -4,7 +4,9 @@ use crate::calls::Given;
 use crate::lent::Rng;
 use crate::model::{self, Table};
 
-pub const PRIMES: [u32; 8] = [2, 3, 5, 7, 251, 65537, 2_147_483_629, 2_147_483_647];
+/// The primes on both sides of each width's end: the last below and the first above 256, 65,536 and 16,777,216.
+pub const ENDS: [u32; 6] = [251, 257, 65_521, 65_537, 16_777_213, 16_777_259];
+pub const PRIMES: [u32; 12] = [2, 3, 5, 7, 251, 257, 65_521, 65_537, 16_777_213, 16_777_259, 2_147_483_629, 2_147_483_647];
 pub const BAD: [u32; 6] = [0, 1, 4, 2_147_117_569, 2_147_483_648, 4_294_967_295];
 pub const WIDE: [u32; 4] = [65, 66, 65_536, 4_294_967_295];
 
@@ -165,45 +167,69 @@ pub fn multipliers(rng: &mut Rng, p: u32, n: usize) -> Vec<u32> {
     }
 }
 
+/// The largest number that a frame modulo p has the bytes for; it is above p, as no prime is a power of 256 or one less.
+pub fn most(p: u32) -> u32 {
+    (256u64.pow(model::width(p) as u32) - 1) as u32
+}
+
+/// The bytes of a number of p or more in a frame.
+pub fn too_large_bytes(rng: &mut Rng, p: u32) -> Vec<u8> {
+    let any = p + 1 + rng.under(most(p) - p);
+    let x = rng.pick(&[p, p + 1, any, most(p)]);
+    model::number_bytes(p, x)
+}
+
+/// The same frame, its numbers with so many bytes; where these are fewer, the least significant ones.
+pub fn with_width(p: u32, n: usize, frame: &[u8], width: usize) -> Vec<u8> {
+    let (map, numbers) = frame.split_at(n.div_ceil(8));
+    let numbers = model::numbers_of(numbers, model::width(p));
+    map.iter().copied().chain(numbers.iter().flat_map(|x| x.to_be_bytes().into_iter().skip(4 - width))).collect()
+}
+
 /// A frame with something wrong about its bytes, most likely.
 pub fn damaged(rng: &mut Rng, p: u32, n: usize, frame: &[u8]) -> Vec<u8> {
-    let mut bytes = frame.to_vec();
-    let map = n.div_ceil(8);
-    let standing: usize = bytes[..map].iter().map(|byte| byte.count_ones() as usize).sum();
-    let place = |which: usize| map + 4 * which..map + 4 * which + 4;
-    match rng.below(16) {
-        0 => bytes.truncate(rng.below(bytes.len())),
+    match rng.below(3) {
+        0 => damaged_length(rng, p, n, frame.to_vec()),
+        1 => damaged_numbers(rng, p, n, frame.to_vec()),
+        _ => damaged_bits(rng, p, n, frame.to_vec()),
+    }
+}
+
+/// Cut, joined, or with numbers of another width.
+fn damaged_length(rng: &mut Rng, p: u32, n: usize, mut bytes: Vec<u8>) -> Vec<u8> {
+    let (map, len, w) = (n.div_ceil(8), bytes.len(), model::width(p));
+    match rng.below(10) {
+        0 => bytes.truncate(rng.below(len)),
         1 => bytes.truncate(rng.below(map + 1)),
-        2 => {
-            bytes.pop();
-        }
-        3 => bytes.push(rng.next() as u8),
-        4 => {
+        2 => bytes.clear(),
+        3 => bytes.truncate(len - 1),
+        4 => bytes.truncate(len - w),
+        5 => bytes.push(rng.next() as u8),
+        6 => bytes.extend(model::number_bytes(p, number(rng, p))),
+        7 => {
             let more = 1 + rng.below(300);
             bytes.extend((0..more).map(|_| rng.next() as u8));
         }
-        5 | 6 if n % 8 != 0 => {
-            // a bit at n or above, with the number for it, good or bad, with none, or with one more
-            bytes[map - 1] |= 1 << (n % 8 + rng.below(8 - n % 8));
-            for _ in 0..rng.below(3) {
-                bytes.splice(map..map, rng.pick(&[1, 0, p]).to_be_bytes());
-            }
-        }
-        7 | 8 if standing > 0 => {
-            let at = rng.below(standing);
-            bytes[place(at)].copy_from_slice(&[0; 4]);
-        }
-        9 if standing > 0 => {
-            let at = rng.below(standing);
-            bytes[place(at)].copy_from_slice(&too_large(rng, p).to_be_bytes());
-        }
-        10 => bytes[place(standing)].copy_from_slice(&too_large(rng, p).to_be_bytes()),
-        11 if standing > 0 => {
+        8 => return with_width(p, n, &bytes, 4),
+        _ => return with_width(p, n, &bytes, 1 + rng.below(4)),
+    }
+    bytes
+}
+
+/// With multipliers of 0 and numbers of p or more.
+fn damaged_numbers(rng: &mut Rng, p: u32, n: usize, mut bytes: Vec<u8>) -> Vec<u8> {
+    let (map, w) = (n.div_ceil(8), model::width(p));
+    let standing = (bytes.len() - map) / w - 1;
+    let place = |which: usize| map + w * which..map + w * which + w;
+    match rng.below(5) {
+        0 | 1 if standing > 0 => bytes[place(rng.below(standing))].fill(0),
+        2 if standing > 0 => bytes[place(rng.below(standing))].copy_from_slice(&too_large_bytes(rng, p)),
+        3 if standing > 0 => {
             // several numbers wrong at once, perhaps the length too
             for at in 0..standing + 1 {
                 match rng.below(4) {
-                    0 => bytes[place(at)].copy_from_slice(&[0; 4]),
-                    1 => bytes[place(at)].copy_from_slice(&too_large(rng, p).to_be_bytes()),
+                    0 => bytes[place(at)].fill(0),
+                    1 => bytes[place(at)].copy_from_slice(&too_large_bytes(rng, p)),
                     _ => {}
                 }
             }
@@ -211,15 +237,31 @@ pub fn damaged(rng: &mut Rng, p: u32, n: usize, frame: &[u8]) -> Vec<u8> {
                 bytes.pop();
             }
         }
-        12 => {
+        _ => bytes[place(standing)].copy_from_slice(&too_large_bytes(rng, p)),
+    }
+    bytes
+}
+
+/// With a bit turned, bits at n or above that stand, or bytes at random.
+fn damaged_bits(rng: &mut Rng, p: u32, n: usize, mut bytes: Vec<u8>) -> Vec<u8> {
+    let map = n.div_ceil(8);
+    match rng.below(5) {
+        0 | 1 if n % 8 != 0 => {
+            // a bit at n or above, with the number for it, good or bad, with none, or with one more
+            bytes[map - 1] |= 1 << (n % 8 + rng.below(8 - n % 8));
+            for _ in 0..rng.below(3) {
+                let number = model::number_bytes(p, rng.pick(&[1, 0, p]));
+                bytes.splice(map..map, number);
+            }
+        }
+        2 => {
             let at = rng.below(map);
             bytes[at] ^= 1 << rng.below(8);
         }
-        13 => {
+        3 => {
             let at = rng.below(bytes.len());
             bytes[at] ^= 1 << rng.below(8);
         }
-        14 => bytes.clear(),
         _ => bytes.iter_mut().for_each(|byte| *byte = rng.next() as u8),
     }
     bytes

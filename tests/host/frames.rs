@@ -118,7 +118,7 @@ pub fn frames(g: &mut Group, rounds: usize) {
         let value = number(&mut g.rng, p);
         frame_round(g, p, n, &numbers, value);
         for _ in 0..3 {
-            let bad = damaged(&mut g.rng, p, n, &model::frame_of(&numbers, value));
+            let bad = damaged(&mut g.rng, p, n, &model::frame_of(p, &numbers, value));
             read_round(g, p, n, &bad);
         }
     }
@@ -133,7 +133,7 @@ pub fn frame_refusals(g: &mut Group, rounds: usize) {
         let mut value = number(&mut g.rng, p);
         let low = any_low(&mut g.rng, p);
         let mut records: Vec<i32> = (0..n).map(|_| model::reading(p, low, g.rng.under(p))).collect();
-        let mut frame = model::frame_of(&numbers, value);
+        let mut frame = model::frame_of(p, &numbers, value);
         if g.rng.once_in(2) {
             frame = damaged(&mut g.rng, p, n, &frame);
         }
@@ -181,39 +181,78 @@ pub fn frames_exhaustive(g: &mut Group) {
             read_round(g, 2, n, &x.to_be_bytes());
         }
     }
-    // every map of one byte with its length, one byte off and one number off; all numbers right, or one of them wrong
+    // every multiplier and value of one byte, and every value of two
+    for x in 0..=65_535u16 {
+        let [high, low] = x.to_be_bytes();
+        read_round(g, 251, 1, &[1, high, low]);
+        read_round(g, 257, 1, &[0, high, low]);
+        read_round(g, 65_521, 1, &[0, high, low]);
+    }
     for n in 1..=8 {
         for map in 0..=255u8 {
-            let standing = map.count_ones() as usize;
-            for p in [2, 3, 2_147_483_647] {
-                let numbers: Vec<u32> = (0..standing).map(|_| 1 + g.rng.under(p - 1)).collect();
-                let value = g.rng.under(p);
-                let frame = |numbers: &[u32], value: u32| -> Vec<u8> {
-                    let numbers = numbers.iter().chain([&value]).flat_map(|x| x.to_be_bytes());
-                    [map].into_iter().chain(numbers).collect()
-                };
-                let right = frame(&numbers, value);
-                read_round(g, p, n, &right);
-                if p == 3 {
-                    for len in [right.len() - 4, right.len() - 1, right.len() + 1, right.len() + 4] {
-                        read_round(g, p, n, &resized(right.clone(), len, 0));
-                    }
-                    for at in 0..standing {
-                        for wrong in [0, p] {
-                            let mut numbers = numbers.clone();
-                            numbers[at] = wrong;
-                            read_round(g, p, n, &frame(&numbers, value));
-                        }
-                    }
-                    read_round(g, p, n, &frame(&numbers, p));
-                }
-            }
+            [2, 3, 2_147_483_647].into_iter().chain(ENDS).for_each(|p| map_of_one_byte(g, p, n, map));
         }
     }
     // every row of multipliers and value
     for (p, most) in [(2u32, 6), (3, 4), (5, 3), (7, 2)] {
         for n in 1..=most {
             each(p, n + 1, |numbers| frame_round(g, p, n, &numbers[..n], numbers[n]));
+        }
+    }
+}
+
+/// This map with its length and with wrong ones; all numbers right, or one of them wrong.
+fn map_of_one_byte(g: &mut Group, p: u32, n: usize, map: u8) {
+    let standing = map.count_ones() as usize;
+    let numbers: Vec<u32> = (0..standing).map(|_| 1 + g.rng.under(p - 1)).collect();
+    let value = g.rng.under(p);
+    let frame = |numbers: &[u32], value: u32| -> Vec<u8> {
+        let numbers = numbers.iter().chain([&value]).flat_map(|&x| model::number_bytes(p, x));
+        [map].into_iter().chain(numbers).collect()
+    };
+    let right = frame(&numbers, value);
+    read_round(g, p, n, &right);
+    wrong_lengths(g, p, n, &right);
+    for at in 0..standing {
+        for wrong in [0, p, most(p)] {
+            let mut numbers = numbers.clone();
+            numbers[at] = wrong;
+            read_round(g, p, n, &frame(&numbers, value));
+        }
+    }
+    for wrong in [p, most(p)] {
+        read_round(g, p, n, &frame(&numbers, wrong));
+    }
+}
+
+/// A frame one byte and one number shorter and longer, and its numbers with every other width: all of them are refused by 6.
+fn wrong_lengths(g: &mut Group, p: u32, n: usize, frame: &[u8]) {
+    let (len, w) = (frame.len(), model::width(p));
+    let other_lengths = [len - w, len - 1, len + 1, len + w].map(|len| resized(frame.to_vec(), len, 0));
+    let other_widths = (1..=4).filter(|other| *other != w).map(|other| with_width(p, n, frame, other));
+    for wrong in other_lengths.into_iter().chain(other_widths) {
+        let (answer, _, _) = calls::read(g, p, n as u32, &wrong, n);
+        g.demand(answer == 6, || format!("{wrong:02x?} modulo {p}, n {n}, with a wrong length, is answered {answer}"));
+    }
+}
+
+/// On both sides of each width's end, every n, all multipliers standing: frames as long as the width says, and refused at other
+/// lengths. Writing is lent 268 bytes even where the frame has fewer.
+pub fn widths(g: &mut Group) {
+    let primes = [(2, 1), (251, 1), (257, 2), (65_521, 2), (65_537, 3), (16_777_213, 3), (16_777_259, 4), (2_147_483_647, 4)];
+    for (p, w) in primes {
+        for n in 1..=64 {
+            for row in [vec![1; n], vec![p - 1; n], (0..n).map(|_| 1 + g.rng.under(p - 1)).collect()] {
+                let value = number(&mut g.rng, p);
+                frame_round(g, p, n, &row, value);
+                let (number, bytes) = calls::write(g, p, n as u32, &row, value, 268);
+                let len = n.div_ceil(8) + w * n + w;
+                g.demand(number as usize == 200 + len, || format!("{n} multipliers modulo {p} are written with {number}"));
+                wrong_lengths(g, p, n, &bytes[..len]);
+                let (number, _) = calls::write(g, p, n as u32, &row, value, len);
+                let want = if len == 268 { 468 } else { 3 };
+                g.demand(number == want, || format!("{n} multipliers modulo {p}, {len} bytes lent, are answered {number}"));
+            }
         }
     }
 }

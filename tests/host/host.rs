@@ -24,6 +24,7 @@ fn fenced(g: &mut Group) {
         readings_few(g);
         opens(g);
         frames(g, 500);
+        widths(g);
         frame_refusals(g, 1500);
         seals(g, 150);
         tables(g, 240, 24);
@@ -93,9 +94,17 @@ fn required() -> Vec<String> {
     of("seal", "3 records below, 3 records above, 3 multipliers below, 3 multipliers above, 4 records, 4 multipliers, 4 low");
     of("seal", "4 multipliers and low, 4 multipliers and records, 4 low and records, 4 multipliers and low and records");
     let frame = "6 cut map, 6 short, 6 long, 6 short with padding, 6 long with padding, 6 with a zero, 6 with a large number, \
-                 7 alone, 7 with a bad number, 8 alone, 8 before 4, 4 before 8, 4 multiplier, 4 value";
-    of("read", frame);
-    of("take", frame);
+                 7 alone, 7 with a bad number, 8 before 4, 4 before 8, 4 multiplier, 4 value";
+    for call in ["read", "take"] {
+        of(call, frame);
+        for w in 1..=4 {
+            of(call, &format!("width {w}, 7 at width {w}, 8 alone at width {w}, 4 of p at width {w}, 4 of the most at width {w}"));
+            of(call, &format!("6 a byte short at width {w}, 6 a byte long at width {w}"));
+            of(call, &format!("6 a number short at width {w}, 6 a number long at width {w}"));
+            (1..=4).filter(|other| *other != w).for_each(|other| of(call, &format!("6 numbers of {other} at width {w}")));
+        }
+    }
+    of("write", "width 1, width 2, width 3, width 4");
     of("take", "new, repeat, 9, 3, 3 mix below, 3 mix above, 3 before the frame, 11, 11 before 3");
     of("withdraw", "done, all, 10, 10 by one, 11, 11 before 10");
     of("show", "done, some settled, 3 alone, 3 marks below, 3 marks above, 3 numbers below, 3 numbers above, 4 alone");
@@ -131,10 +140,11 @@ fn required() -> Vec<String> {
 }
 
 fn main() {
-    let groups: [(&'static str, &dyn Fn(&mut Group)); 23] = [
+    let groups: [(&'static str, &dyn Fn(&mut Group)); 24] = [
         ("the prime test", &|g| moduli(g, 1500)),
         ("signed readings", &readings),
         ("frames, tiny ones all", &frames_exhaustive),
+        ("frames, on both sides of each width's end", &widths),
         ("frames, written, read and damaged", &|g| frames(g, 6000)),
         ("frames, refusals and their order", &|g| frame_refusals(g, 12_000)),
         ("seals", &|g| seals(g, 3000)),
@@ -185,7 +195,7 @@ fn main() {
     let seen: Met = model::take_met();
     let missed: Vec<String> = required().into_iter().filter(|label| !seen.contains_key(label)).collect();
     if missed.is_empty() {
-        println!("ok: every refusal, every order of two, every size and modulus was met: {} of them", required().len());
+        println!("ok: every refusal, every order of two, every size, width and modulus was met: {} of them", required().len());
     } else {
         failed += 1;
         println!("error: never met: {}", missed.join(", "));

@@ -1,5 +1,5 @@
-//! The calls of document 01, with document 02's #101 and #106, written a second time from their words alone and as plainly as they
-//! allow: tables are lists of rows, residues are u64, and a board is a list of frames. Each function here gets the memory
+//! The calls of document 01, with document 02's #101, #106 and #111, written a second time from their words alone and as plainly as
+//! they allow: tables are lists of rows, residues are u64, and a board is a list of frames. Each function here gets the memory
 //! that a call is lent, changes it as the documents say, and answers the number that C sees. What was met on the way is
 //! counted, so that the end of the run can ask whether every refusal and every order of two refusals was reached.
 
@@ -376,33 +376,80 @@ pub fn solve(p: u32, m: u32, n: u32, a: &[u32], w: &[u32], z: &mut [u32], u: &mu
 
 // ---- frames ----
 
+/// The bytes of a number in a frame modulo p: the fewest that hold p - 1, from 1 to 4.
+pub fn width(p: u32) -> usize {
+    (1..4).find(|&w| p as u64 <= 256u64.pow(w)).unwrap_or(4) as usize
+}
+
+/// A number of a frame modulo p: p or more it may be, but no more than the width holds.
+pub fn number_bytes(p: u32, x: u32) -> Vec<u8> {
+    let (bytes, spare) = (x.to_be_bytes(), 4 - width(p));
+    assert!(bytes[..spare].iter().all(|byte| *byte == 0), "{x} is too wide for a frame modulo {p}");
+    bytes[spare..].to_vec()
+}
+
+/// The numbers behind a frame's map, each of so many bytes; bytes too few for another one are left out.
+pub fn numbers_of(bytes: &[u8], width: usize) -> Vec<u32> {
+    bytes.chunks_exact(width).map(|number| number.iter().fold(0, |x, &byte| 256 * x + byte as u32)).collect()
+}
+
 /// The bytes of a frame, and no question asked: numbers may be what no frame has.
-pub fn frame_of(multipliers: &[u32], value: u32) -> Vec<u8> {
+pub fn frame_of(p: u32, multipliers: &[u32], value: u32) -> Vec<u8> {
     let mut bytes = vec![0; multipliers.len().div_ceil(8)];
     for (j, _) in multipliers.iter().enumerate().filter(|record| *record.1 != 0) {
         bytes[j / 8] |= 1 << (j % 8);
     }
-    for x in multipliers.iter().filter(|x| **x != 0).chain([&value]) {
-        bytes.extend_from_slice(&x.to_be_bytes());
-    }
+    bytes.extend(multipliers.iter().filter(|x| **x != 0).chain([&value]).flat_map(|&x| number_bytes(p, x)));
     bytes
+}
+
+/// Notes by how much the length is not the one that the map names, and whether the frame is a good one but for its numbers' width.
+fn note_frame_length(call: &str, p: u32, map: usize, standing: usize, frame: &[u8]) {
+    let w = width(p);
+    let (named, len) = (map + w * standing + w, frame.len());
+    let side = if len < named { "short" } else { "long" };
+    met(call, &format!("6 {side}"));
+    if len.abs_diff(named) == 1 {
+        met(call, &format!("6 a byte {side} at width {w}"));
+    }
+    if len.abs_diff(named) == w {
+        met(call, &format!("6 a number {side} at width {w}"));
+    }
+    if let Some(other) = (1..=4).find(|other| len == map + other * standing + other) {
+        let numbers = numbers_of(&frame[map..], other);
+        if numbers[..standing].iter().all(|x| *x != 0) && numbers.iter().all(|x| *x < p) {
+            met(call, &format!("6 numbers of {other} at width {w}"));
+        }
+    }
+}
+
+/// Notes which number of p or more a frame was refused for: the ends of what the width can hold, and where it stands.
+fn note_large(call: &str, p: u32, x: u32, is_value: bool) {
+    let w = width(p);
+    met(call, if is_value { "4 value" } else { "4 multiplier" });
+    if x == p {
+        met(call, &format!("4 of p at width {w}"));
+    }
+    if x as u64 == 256u64.pow(w as u32) - 1 {
+        met(call, &format!("4 of the most at width {w}"));
+    }
 }
 
 /// The frame's own checks, then its multipliers and value.
 pub fn frame_read(call: &str, p: u32, n: usize, frame: &[u8]) -> Result<(Vec<u32>, u32), u32> {
-    let map = n.div_ceil(8);
+    let (map, w) = (n.div_ceil(8), width(p));
     if frame.len() < map {
         met(call, "6 cut map");
         return Err(6);
     }
     let standing: Vec<usize> = (0..8 * map).filter(|&j| frame[j / 8] >> (j % 8) & 1 == 1).collect();
-    let named = map + 4 * standing.len() + 4;
+    let named = map + w * standing.len() + w;
     let padded = standing.iter().any(|&j| j >= n);
-    let numbers: Vec<u32> = frame[map..].chunks_exact(4).map(|four| u32::from_be_bytes(four.try_into().unwrap())).collect();
+    let numbers = numbers_of(&frame[map..], w);
     let zero = numbers.iter().take(standing.len()).position(|&x| x == 0);
     let large = numbers.iter().position(|&x| x >= p);
     if frame.len() != named {
-        met(call, if frame.len() < named { "6 short" } else { "6 long" });
+        note_frame_length(call, p, map, standing.len(), frame);
         if padded {
             met(call, if frame.len() < named { "6 short with padding" } else { "6 long with padding" });
         }
@@ -416,14 +463,16 @@ pub fn frame_read(call: &str, p: u32, n: usize, frame: &[u8]) -> Result<(Vec<u32
     }
     if padded {
         met(call, if zero.or(large).is_some() { "7 with a bad number" } else { "7 alone" });
+        met(call, &format!("7 at width {w}"));
         return Err(7);
     }
     match (zero, large) {
-        (Some(_), None) => met(call, "8 alone"),
+        (Some(_), None) => met(call, &format!("8 alone at width {w}")),
         (Some(z), Some(l)) if z < l => met(call, "8 before 4"),
         (Some(_), Some(_)) => met(call, "4 before 8"),
-        (None, Some(l)) => met(call, if l == standing.len() { "4 value" } else { "4 multiplier" }),
+        (None, Some(l)) => note_large(call, p, numbers[l], l == standing.len()),
         (None, None) => {
+            met(call, &format!("width {w}"));
             let mut multipliers = vec![0; n];
             for (x, &j) in numbers.iter().zip(&standing) {
                 multipliers[j] = *x;
@@ -469,7 +518,8 @@ pub fn write(p: u32, n: u32, multipliers: &[u32], value: u32, bytes: &mut [u8]) 
     }
     met("write", "done");
     met("write", &format!("n {n}"));
-    let frame = frame_of(multipliers, value);
+    met("write", &format!("width {}", width(p)));
+    let frame = frame_of(p, multipliers, value);
     if frame.len() == 268 {
         met("write", "all 268");
     }

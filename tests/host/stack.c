@@ -1,5 +1,6 @@
-/* Every call at its largest size, n = m = 64 and p = 2147483647, on a thread whose stack is the most that the call may take, as
- * docs/C.md has it, and 8 KiB for the thread itself; each answer and all memory written is compared with what is known of it.
+/* Every call at its largest size, n = m = 64 and p = 2147483647 (read and write at p = 251 too, where numbers have one byte), on a
+ * thread whose stack is the most that the call may take, as docs/C.md has it, and 8 KiB for the thread itself; each answer and all
+ * memory written is compared with what is known of it.
  * Then once more on a stack of our own, to see how far down each call goes: no further than that. A call that leaves its stack
  * dies on the fence below it. The threads are small for some machines' libraries, not for x86-64, which the archive is for.
  * Ends with 0 only if all is well. */
@@ -107,6 +108,7 @@ static void lay_board(uint32_t *to, uint32_t count)
     }
 }
 
+/* Numbers modulo P have four bytes in a frame. */
 static void lay_number(uint32_t x)
 {
     for (int shift = 24; shift >= 0; shift -= 8)
@@ -249,6 +251,22 @@ static int after_seal(uint32_t answer) { return answer == 0 && value == values[6
 static int after_signed(uint32_t answer) { return answer == 0 && record == -(int32_t)(P / 2); }
 static int after_residue(uint32_t answer) { return answer == 0 && value == P / 2 + 1; }
 
+/* numbers of one byte: 64 multipliers of 250 and the value 7, modulo 251 */
+static uint32_t call_read_narrow(void) { return dauneroad_read(251, N, frame, frame_len, mix, N, &value); }
+static uint32_t call_write_narrow(void) { return dauneroad_write(251, N, w, N, 7, bytes, sizeof bytes); }
+static void ready_narrow(void)
+{
+    frame_len = N / 8 + N + 1;
+    fill(frame, sizeof frame), fill(bytes, sizeof bytes), fill(&value, sizeof value);
+    memset(frame, 0xff, N / 8);
+    memset(frame + N / 8, 250, N);
+    frame[frame_len - 1] = 7;
+    for (int j = 0; j < N; j++)
+        w[j] = 250;
+}
+static int after_read_narrow(uint32_t answer) { return answer == 0 && all(mix, N, 250) && value == 7; }
+static int after_write_narrow(uint32_t answer) { return answer == DAUNEROAD_DONE + 73 && memcmp(bytes, frame, sizeof frame) == 0; }
+
 static void ready_full(void)
 {
     memcpy(table, rows, sizeof table);
@@ -344,6 +362,8 @@ static const Case cases[] = {
     {"withdraw-64-of-64", ready_withdraw, call_withdraw_all, after_withdraw_all, BOARD_STACK},
     {"read", ready_frame, call_read, after_read, OTHER_STACK},
     {"write", ready_frame, call_write, after_write, OTHER_STACK},
+    {"read-narrow", ready_narrow, call_read_narrow, after_read_narrow, OTHER_STACK},
+    {"write-narrow", ready_narrow, call_write_narrow, after_write_narrow, OTHER_STACK},
     {"seal", ready_frame, call_seal, after_seal, OTHER_STACK},
     {"signed", ready_frame, call_signed, after_signed, OTHER_STACK},
     {"residue", ready_frame, call_residue, after_residue, OTHER_STACK},

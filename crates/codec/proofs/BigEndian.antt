@@ -1,19 +1,19 @@
 -- A number and its bytes, most significant first: each gives the other back. Reading from the front keeps the number that was
--- read so far, so the laws are stated for any such number first. Then the bytes at a place, as the code reads and stores them.
-use mathlib.Core.Path.{_≡_, refl, ap, _∙_}
-use mathlib.Core.List.{List, [], _∷_}
+-- read so far, so the laws are stated for any such number first. Then a number at a place, as the code reads and stores it byte by byte.
+use mathlib.Core.Path.{_≡_, refl, sym, ap, _∙_}
+use mathlib.Core.List.{List, [], _∷_, _++_}
 use Prim.Native.Nat.{ℕ, zero, suc, _+_, _*_, _/_, _%_, _^_, _<_, _≤_}
-use native.Mathlib.Nat.{pow-zero, pow-suc, mul-pos, add-zero, zero-add, zero-mul, mul-comm, div-one, mod-lt, mod-eq-of-lt, mod-one, mul-add-div-right}
-use native.Mathlib.Nat.{mul-add-mod-self-right}
-use native.Mathlib.Numerals.{add-one, add-two, add-three}
+use native.Mathlib.Nat.{pow-zero, pow-suc, mul-pos, zero-add, zero-mul, mul-comm, div-one, mod-lt, mod-eq-of-lt, mod-one, mul-add-div-right}
+use native.Mathlib.Nat.{mul-add-mod-self-right, div-div-eq-div-mul, pow-le-pow-right}
+use native.Mathlib.Numerals.{add-one}
 use native.Mathlib.Omega.{arith}
 use lib.Arith.{digits-lt, digits-div, mod-mul}
 use lib.ListN.{length, getD, set, take, drop, length-take, length-drop}
-use lib.Seq.{getD-take, getD-drop, drop-drop}
+use lib.Seq.{getD-take, getD-drop, take-suc}
 use Rattle.words.specs.Words.{Below}
 use Rattle.codec.specs.Placed.{placed}
-use Rattle.codec.specs.BigEndian.{width, bytesOf, numberFrom, numberAt}
-use Rattle.codec.proofs.Placed.{placed-stores}
+use Rattle.codec.specs.BigEndian.{bytesOf, numberFrom, numberAt}
+use Rattle.codec.proofs.Placed.{placed-length, placed-none, placed-before}
 
 -- ---- every number of a list below a bound
 
@@ -113,46 +113,55 @@ bytes-of-number (b ∷ bs) h =
     bytes-behind (length bs) b (numberFrom 0 bs) ∙ bytes-of-number bs t in
     rw (number-more, zero-mul, zero-add, number-split b bs, bytes-more, first, rest)
 
--- ---- at a place
+-- ---- reading at a place, one byte after the other
 
-two-bytes : (l : List ℕ) → 2 ≤ length l → numberFrom 0 (take 2 l) ≡ getD l 0 0 * 256 + getD l 1 0
-unfolding numberFrom
-two-bytes [] h = omega arith
-two-bytes (a ∷ []) h = omega arith
-two-bytes (a ∷ b ∷ l) h = rw zero-add
+-- after i bytes: what they make, below 256 for each
+pub record NumberRead (bytes : List ℕ) (at i x : ℕ) : Type 0 where
+  pub made : x ≡ numberAt i bytes at
+  pub small : x < 256 ^ i
 
--- two bytes make a number, the most significant first
-pub pair-of-bytes :
-    (bytes : List ℕ) (at : ℕ) → at + 2 ≤ length bytes → numberAt 2 bytes at ≡ getD bytes at 0 * 256 + getD bytes (at + 1) 0
+pub read-none : (bytes : List ℕ) (at : ℕ) → NumberRead bytes at 0 0
+unfolding numberAt numberFrom
+read-none bytes at = record { made = refl; small = omega arith }
+
+-- three bytes leave room for one more in four
+pub read-fits : (bytes : List ℕ) (at i x : ℕ) → NumberRead bytes at i x → i < 4 → x < 16777216
+read-fits bytes at i x r h = omega (arith, r .small, pow-le-pow-right {n = 256} (omega arith) {i = i} {j = 3} (omega arith))
+
+number-snoc : (acc : ℕ) (bs : List ℕ) (b : ℕ) → numberFrom acc (bs ++ (b ∷ [])) ≡ numberFrom acc bs * 256 + b
+number-snoc acc [] b = simp (number-more, number-none)
+number-snoc acc (c ∷ bs) b = simp number-more (number-snoc (acc * 256 + c) bs b)
+
+pub read-more :
+    (bytes : List ℕ) (at i x : ℕ) → NumberRead bytes at i x → at + i < length bytes → getD bytes (at + i) 0 < 256
+    → NumberRead bytes at (i + 1) (x * 256 + getD bytes (at + i) 0)
 unfolding numberAt
-pair-of-bytes bytes at h = two-bytes (drop at bytes) (rw length-drop (omega arith)) ∙ simp (getD-drop, add-zero)
+read-more bytes at i x r h b =
+    record {
+      made =
+          rw (r .made, add-one, take-suc (drop at bytes) i 0 (rw length-drop (omega arith)), getD-drop at bytes i 0)
+          (sym (number-snoc 0 (take i (drop at bytes)) (getD bytes (at + i) 0)));
+      small = rw (add-one, pow-suc) (omega (arith, r .small));
+    }
 
-four-bytes : (l : List ℕ) → 4 ≤ length l → numberFrom 0 (take 4 l) ≡ numberFrom 0 (take 2 l) * 65536 + numberFrom 0 (take 2 (drop 2 l))
-unfolding numberFrom
-four-bytes [] h = omega arith
-four-bytes (a ∷ []) h = omega arith
-four-bytes (a ∷ b ∷ []) h = omega arith
-four-bytes (a ∷ b ∷ c ∷ []) h = omega arith
-four-bytes (a ∷ b ∷ c ∷ d ∷ l) h = omega arith
+-- ---- writing at a place, the last byte first
 
--- and two pairs make a number of four
-pub number-of-pairs :
-    (bytes : List ℕ) (at : ℕ) → at + width ≤ length bytes
-    → numberAt width bytes at ≡ numberAt 2 bytes at * 65536 + numberAt 2 bytes (at + 2)
-unfolding numberAt width
-number-of-pairs bytes at h = four-bytes (drop at bytes) (rw length-drop (omega arith)) ∙ rw drop-drop
+-- the last k bytes of x stand from the place on, and the others as before; what is left of x are the bytes before them
+pub record NumberPut (at k x rest : ℕ) (old new : List ℕ) : Type 0 where
+  pub put : new ≡ placed at (bytesOf k x) old
+  pub left : rest ≡ x / 256 ^ k
 
--- the four bytes of a number
-number-bytes : (x : ℕ) → bytesOf width x ≡ x / 16777216 % 256 ∷ x / 65536 % 256 ∷ x / 256 % 256 ∷ x % 256 ∷ []
-unfolding width bytesOf
-number-bytes x = ap (λ (y : ℕ). x / 16777216 % 256 ∷ x / 65536 % 256 ∷ x / 256 % 256 ∷ y % 256 ∷ []) (div-one x)
+pub put-none : (at x : ℕ) (old : List ℕ) → NumberPut at 0 x x old old
+put-none at x old = record { put = rw bytes-none (sym (placed-none at old)); left = rw pow-zero (sym (div-one x)) }
 
--- stored one by one, they are put to their place
-pub number-stores :
-    (at x : ℕ) (old : List ℕ) → at + width ≤ length old
-    → set (set (set (set old at (x / 16777216 % 256)) (at + 1) (x / 65536 % 256)) (at + 2) (x / 256 % 256)) (at + 3) (x % 256)
-    ≡ placed at (bytesOf width x) old
-unfolding width
-number-stores at x old h =
-    rw (add-one, add-two, add-three, number-bytes)
-    (placed-stores at (x / 16777216 % 256 ∷ x / 65536 % 256 ∷ x / 256 % 256 ∷ x % 256 ∷ []) old h)
+pub put-more :
+    (at k x rest : ℕ) (old new : List ℕ) → NumberPut (at + 1) k x rest old new → at + 1 + k ≤ length old
+    → NumberPut at (suc k) x (rest / 256) old (set new at (rest % 256))
+put-more at k x rest old new w h =
+    record {
+      put = rw (w .put, w .left, bytes-more) (placed-before at (x / 256 ^ k % 256) (bytesOf k x) old (omega (arith, bytes-length k x)));
+      left = rw (w .left, pow-suc) (div-div-eq-div-mul x (256 ^ k) 256);
+    }
+
+pub put-length : (at k x rest : ℕ) (old new : List ℕ) → NumberPut at k x rest old new → at + k ≤ length old → length new ≡ length old
+put-length at k x rest old new w h = ap length (w .put) ∙ placed-length at (bytesOf k x) old (omega (arith, bytes-length k x))

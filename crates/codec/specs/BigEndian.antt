@@ -1,12 +1,8 @@
--- Numbers as bytes, most significant first: 01, "the multiplier as four bytes, most significant first", and the sheet's "p and
--- lengths have the most significant byte first".
+-- Numbers as bytes, most significant first, in as many bytes as are asked for: 02, #111, "from 1 to 4, most significant first", and the
+-- sheet's "p and lengths have the most significant byte first".
 use mathlib.Core.List.{List, [], _∷_}
 use Prim.Native.Nat.{ℕ, zero, suc, _+_, _*_, _/_, _%_, _^_}
 use lib.ListN.{take, drop}
-
--- the bytes of a number, multiplier, value or modulus
-unfoldable pub width : ℕ
-width = 4
 
 -- the last k bytes of x
 unfoldable pub bytesOf : ℕ → ℕ → List ℕ

@@ -2,43 +2,39 @@
 // digits, as the sheet prints them.
 ghost use mathlib.Core.Path.{_≡_};
 ghost use mathlib.Core.List.{_∷_, []};
-ghost use Prim.Native.Nat.{_+_, _≤_, _<_};
+ghost use Prim.Native.Nat.{_+_, _^_, _≤_, _<_};
 ghost use lib.IntN.{natAbs};
 ghost use lib.ListN.{length};
 ghost use Rattle.codec.specs.Placed.{placed, Put};
-ghost use Rattle.codec.specs.BigEndian.{width, bytesOf, numberAt};
+ghost use Rattle.codec.specs.BigEndian.{bytesOf, numberAt};
 ghost use Rattle.codec.specs.Decimal.{digit, decimal, signedDecimal};
 
-// The bytes of a number.
-pub const WIDTH: usize = 4;
-
-// The number whose two bytes stand at the place, most significant first.
-pub fn pair_at(bytes: &[u8], at: usize) -> u32
-    requires { ⌜ at + 2 ≤ length (now bytes) ⌝ }
-    ensures { λ r. ⌜ (r < 65536) × (r ≡ numberAt 2 (now (bytes .entry)) at) ⌝ }
+// The number whose w bytes stand at the place, most significant first.
+pub fn number_at(bytes: &[u8], at: usize, w: usize) -> u32
+    requires { ⌜ (w ≤ 4) × (at + w ≤ length (now bytes)) ⌝ }
+    ensures { λ r. ⌜ (r < 256 ^ w) × (r ≡ numberAt w (now (bytes .entry)) at) ⌝ }
 {
-    let a = bytes[at] as u32;
-    let b = bytes[at + 1] as u32;
-    a * 256 + b
+    let mut x: u32 = 0;
+    let mut i = 0;
+    while i < w {
+        x = x * 256 + bytes[at + i] as u32;
+        i += 1;
+    }
+    x
 }
 
-// The number whose four bytes stand at the place, most significant first.
-pub fn number_at(bytes: &[u8], at: usize) -> u32
-    requires { ⌜ at + width ≤ length (now bytes) ⌝ }
-    ensures { λ r. ⌜ r ≡ numberAt width (now (bytes .entry)) at ⌝ }
+// Puts the last w bytes of x, most significant first, in the place of those from `at` on.
+pub fn put_number(bytes: &mut [u8], at: usize, w: usize, x: u32)
+    requires { ⌜ at + w ≤ length (now bytes) ⌝ }
+    ensures { λ _. ⌜ now (bytes .exit) ≡ placed at (bytesOf w x) (now (bytes .entry)) ⌝ }
 {
-    pair_at(bytes, at) * 65536 + pair_at(bytes, at + 2)
-}
-
-// Puts the four bytes of x, most significant first, in the place of those from `at` on.
-pub fn put_number(bytes: &mut [u8], at: usize, x: u32)
-    requires { ⌜ at + width ≤ length (now bytes) ⌝ }
-    ensures { λ _. ⌜ now (bytes .exit) ≡ placed at (bytesOf width x) (now (bytes .entry)) ⌝ }
-{
-    bytes[at] = (x / 16777216 % 256) as u8;
-    bytes[at + 1] = (x / 65536 % 256) as u8;
-    bytes[at + 2] = (x / 256 % 256) as u8;
-    bytes[at + 3] = (x % 256) as u8;
+    let mut rest = x;
+    let mut i = w;
+    while 0 < i {
+        i -= 1;
+        bytes[at + i] = (rest % 256) as u8;
+        rest /= 256;
+    }
 }
 
 // Writes the bytes from `at` on, and returns the place behind them.

@@ -17,7 +17,7 @@ use Rattle.matrix.specs.Calls.{solution, quasiinverseCall, kernelCall, solveCal
 use Rattle.matrix.proofs.Stored.{rank-most}
 use Rattle.frame.specs.Format.{longest}
 use Rattle.frame.specs.Calls.{writeCall}
-use Rattle.frame.proofs.Round.{longest-frame}
+use Rattle.frame.proofs.Lengths.{longest-frame}
 use Rattle.ledger.specs.Ledger.{Ledger}
 use Rattle.ledger.specs.Board.{modulusWord, sizeWord, ledgerOf, IsBoard}
 use Rattle.ledger.specs.Calls.{withdrawCall, showCall}
@@ -65,7 +65,7 @@ pub small-write : (p n : ℕ) (xs : List ℕ) (v : ℕ) (bytes : List ℕ) (o : 
 unfolding writeCall longest
 small-write p n xs v bytes o =
     carried
-    (in-order-elim _ _ SmallOutcome (λ hs. omega (arith, longest-frame n xs v (hs .1 .1 .0) (hs .1 .0 .1))) (λ k f. small-refusal k))
+    (in-order-elim _ _ SmallOutcome (λ hs. omega (arith, longest-frame p n xs v (hs .1 .1 .0) (hs .1 .0 .1))) (λ k f. small-refusal k))
 
 -- ---- boards
 

@@ -10,9 +10,9 @@ use native.Mathlib.Omega.{arith}
 use lib.ListN.{length, getD, take, drop, replicate, List·getD-append}
 use lib.Seq.{length-take-le, getD-append-add, getD-take}
 use Rattle.checks.specs.Largest.{largest}
-use Rattle.codec.specs.BigEndian.{width}
 use Rattle.codec.specs.Placed.{placed}
 use Rattle.codec.proofs.Placed.{placed-front}
+use Rattle.frame.specs.Width.{width}
 use Rattle.frame.specs.Format.{mapLength}
 use Rattle.frame.specs.Bitmap.{bitAt, standing, recordBits, wholeMap, ClearFrom, Unpadded, mapFrom, mapBits}
 use Rattle.frame.specs.Reading.{frameLength}
@@ -86,12 +86,12 @@ unpadded-standing n bytes clear =
     rw (count-whole-map, count-record-bits) (count-first n (8 * mapLength n) bytes (omega arith) (λ j h l. clear j (omega arith) l))
 
 -- the length that the records' bits tell
-abbrev pub recordLength : ℕ → List ℕ → ℕ
-recordLength n bytes = mapLength n + width * standing (recordBits n bytes) + width
+abbrev pub recordLength : (p n : ℕ) → List ℕ → ℕ
+recordLength p n bytes = mapLength n + width p * standing (recordBits n bytes) + width p
 
-pub unpadded-length : (n : ℕ) (bytes : List ℕ) → Unpadded n bytes → frameLength n bytes ≡ recordLength n bytes
-unfolding frameLength width
-unpadded-length n bytes clear = omega (arith, unpadded-standing n bytes clear)
+pub unpadded-length : (p n : ℕ) (bytes : List ℕ) → Unpadded n bytes → frameLength p n bytes ≡ recordLength p n bytes
+unfolding frameLength
+unpadded-length p n bytes clear = ap (λ (k : ℕ). mapLength n + width p * k + width p) (unpadded-standing n bytes clear)
 
 -- ---- the map of the front of a frame of n records
 

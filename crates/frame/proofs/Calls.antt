@@ -60,7 +60,7 @@ module _ (p n : ℕ) (xs : List ℕ) (v : ℕ) (lent : List ℕ) where
     unfolding writeCall
     write-refused f = sym (in-order-refused _ _ (fails-then (frameSizes p n) (λ _. writeRest p n xs v lent) sizes (λ _. f)))
 
-    pub write-done : AllHold (writeRest p n xs v lent) → written (frameOf n xs (v ∷ [])) lent ≡ writeCall p n xs v lent
+    pub write-done : AllHold (writeRest p n xs v lent) → written (frameOf p n xs (v ∷ [])) lent ≡ writeCall p n xs v lent
     unfolding writeCall
     write-done a = sym (in-order-done _ _ _ (hold-and-then {cs = frameSizes p n} {more = λ _. writeRest p n xs v lent} sizes (λ _. a)) (λ _. refl))
 

@@ -20,7 +20,7 @@ use Rattle.checks.specs.Decide.{long?}
 use Rattle.checks.specs.Sizes.{frameSizes}
 use Rattle.checks.proofs.InOrder.{none-left, fails-here, in-order-done, in-order-refused, in-order-elim, in-order-map, in-order-then, not-both}
 use Rattle.checks.proofs.InOrder.{_and-then_, _then_}
-use Rattle.codec.specs.BigEndian.{width}
+use Rattle.frame.specs.Width.{width}
 use Rattle.frame.specs.Format.{mapLength}
 use Rattle.frame.specs.Bitmap.{bitAt, standing, wholeMap, ClearFrom, StandsFrom, Unpadded}
 use Rattle.frame.specs.Reading.{frameLength, frameMultipliers, frameValue, frameChecks}
@@ -90,9 +90,9 @@ one-stands n (suc k) bytes f = last (decLe n k) (bitAt bytes k) refl (one-stands
     last (no h) b e below = up (below (λ g. f (one-more (λ l. absurd (h l)) g)))
 
 -- the reader's length is the one that the request counts
-counted-length : (n : ℕ) (bytes : List ℕ) → frameLength n bytes ≡ mapLength n + width * standing (wholeMap n bytes) + width
-unfolding frameLength width
-counted-length n bytes = omega arith
+counted-length : (p n : ℕ) (bytes : List ℕ) → frameLength p n bytes ≡ mapLength n + width p * standing (wholeMap n bytes) + width p
+unfolding frameLength
+counted-length p n bytes = omega arith
 
 module _ {X : Type 0} (p n : ℕ) (bytes : List ℕ) (done : X) (refuse : Refusal → X) where
   abbrev was : X
@@ -106,31 +106,31 @@ module _ {X : Type 0} (p n : ℕ) (bytes : List ℕ) (done : X) (refuse : Refusa
   past-check c cs h = in-order-then (c ⨾ passed) cs done refuse ∙ in-order-done _ _ _ (h and-then none-left) (λ _. refl)
 
   -- whatever is done where all checks hold, and however it is refused
-  pub reading-moves : MovesExactly (Moved n bytes) (refuse Padding) (refuse FrameLength) was is
-  reading-moves = by-checks (decLe (mapLength n) (length bytes)) (long? bytes (frameLength n bytes)) (unpadded? n bytes)
+  pub reading-moves : MovesExactly (Moved p n bytes) (refuse Padding) (refuse FrameLength) was is
+  reading-moves = by-checks (decLe (mapLength n) (length bytes)) (long? bytes (frameLength p n bytes)) (unpadded? n bytes)
     where
-      stands : Moved n bytes → Unpadded n bytes → ⊥
+      stands : Moved p n bytes → Unpadded n bytes → ⊥
       stands m clear = let (j, a, b, c) = m .padded in true≢false (sym c ∙ clear j b (omega arith))
 
-      by-checks : Dec (mapLength n ≤ length bytes) → Dec (length bytes ≡ frameLength n bytes) → Dec (Unpadded n bytes)
-          → MovesExactly (Moved n bytes) (refuse Padding) (refuse FrameLength) was is
+      by-checks : Dec (mapLength n ≤ length bytes) → Dec (length bytes ≡ frameLength p n bytes) → Dec (Unpadded n bytes)
+          → MovesExactly (Moved p n bytes) (refuse Padding) (refuse FrameLength) was is
       by-checks (no short) _ _ =
           kept (λ m. short (m .map-fits)) (in-order-refused _ _ (fails-here short) ∙ sym (in-order-refused _ _ (fails-here short)))
       by-checks (yes fits) (no other) (no padded) =
           let (j, a, b, c) = one-stands n (8 * mapLength n) bytes padded in
-          moved (record { padded = (j, omega arith, b, c); map-fits = fits; other-length = λ e. other (e ∙ sym (counted-length n bytes)) })
+          moved (record { padded = (j, omega arith, b, c); map-fits = fits; other-length = λ e. other (e ∙ sym (counted-length p n bytes)) })
           (in-order-refused _ _ (fits then fails-here padded)) (in-order-refused _ _ (fits then fails-here other))
       by-checks (yes fits) (yes long) (no padded) =
-          kept (λ m. m .other-length (long ∙ counted-length n bytes))
+          kept (λ m. m .other-length (long ∙ counted-length p n bytes))
           (in-order-refused _ _ (fits then long then fails-here padded) ∙ sym (in-order-refused _ _ (fits then fails-here padded)))
       by-checks (yes fits) (no other) (yes clear) =
           kept (λ m. stands m clear)
           (in-order-refused _ _ (fits then fails-here other)
-          ∙ sym (in-order-refused _ _ (fits then clear then fails-here (λ e. other (e ∙ sym (unpadded-length n bytes clear))))))
+          ∙ sym (in-order-refused _ _ (fits then clear then fails-here (λ e. other (e ∙ sym (unpadded-length p n bytes clear))))))
       by-checks (yes fits) (yes long) (yes clear) =
           kept (λ m. stands m clear)
           (past-check _ _ fits ∙ past-check _ _ long ∙ past-check _ _ clear
-          ∙ sym (past-check _ _ fits ∙ past-check _ _ clear ∙ past-check _ _ (long ∙ unpadded-length n bytes clear)))
+          ∙ sym (past-check _ _ fits ∙ past-check _ _ clear ∙ past-check _ _ (long ∙ unpadded-length p n bytes clear)))
 
 -- ---- the call
 
@@ -142,7 +142,7 @@ module _ (p n : ℕ) (bytes lent : List ℕ) where
   pub read-moves : ReadMoves p n bytes lent
   unfolding readCall earlierRead
   read-moves =
-      let o = outcome (gives (pos (frameValue n bytes))) (frameMultipliers n bytes) in
+      let o = outcome (gives (pos (frameValue p n bytes))) (frameMultipliers p n bytes) in
       rw (in-order-then front (frameChecks p n bytes) o (untouched lent), in-order-then front (earlierChecks p n bytes) o (untouched lent))
       (behind front (untouched lent) (λ hs. (hs .0, hs .1 .0, hs .1 .1 .0)) (λ h. h .0 and-then h .1 and-then h .2 and-then none-left) _ _
       (λ _. reading-moves p n bytes o (untouched lent)))

@@ -1,3 +1,4 @@
+pub mod Widths
 pub mod Bytes
 pub mod Bits
 pub mod BitMaps
@@ -6,6 +7,7 @@ pub mod RoundMap
 pub mod RoundNumbers
 pub mod Round
 pub mod Calls
+pub mod Lengths
 pub mod EarlierOrder
 pub mod RecordsMeet
 pub mod SealSums

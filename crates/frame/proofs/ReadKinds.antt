@@ -14,7 +14,7 @@ number-kinds p (x ∷ ns) v = (omega arith, λ _. (omega arith, λ _. number-kin
 
 -- reading refuses by 4, 6, 7 or 8
 pub reading-kinds : (p n : ℕ) (bytes : List ℕ) → EveryKind ReadingKind (frameChecks p n bytes)
-reading-kinds p n bytes = (omega arith, λ _. (omega arith, λ _. (omega arith, λ _. number-kinds p (frameNumbers n bytes) _)))
+reading-kinds p n bytes = (omega arith, λ _. (omega arith, λ _. (omega arith, λ _. number-kinds p (frameNumbers p n bytes) _)))
 
 -- so whatever holds of any multipliers and value, and of those refusals, holds of what is found
 pub reading-elim :

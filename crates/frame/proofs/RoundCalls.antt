@@ -18,8 +18,9 @@ use Rattle.frame.specs.Format.{longest, frameOf}
 use Rattle.frame.specs.Reading.{Found, accepted, rejected, readFrame}
 use Rattle.frame.specs.Calls.{readOutcome, readCall, written, writeCall}
 use Rattle.frame.specs.Promises.{ReadsBack, WritesAgain}
-use Rattle.frame.proofs.Round.{written-reads-back, accepted-rewrites, longest-frame}
+use Rattle.frame.proofs.Round.{written-reads-back, accepted-rewrites}
 use Rattle.frame.proofs.Calls.{sizes-hold, read-done, write-done, read-as-told}
+use Rattle.frame.proofs.Lengths.{longest-frame}
 
 -- what stands at the front, and behind it
 front-taken : (new old : List ℕ) → take (length new) (placed 0 new old) ≡ new
@@ -32,13 +33,13 @@ front-dropped new old = ap (drop (length new)) (placed-front new old) ∙ drop-a
 
 -- what is written, past the checks
 frame-done : (p n : ℕ) (xs : List ℕ) (v : ℕ) (lent : List ℕ) → IsModulus p → FrameSize n → length xs ≡ n → Below p xs → v < p
-    → ReadsBack p n xs v lent (written (frameOf n xs (v ∷ [])) lent)
+    → ReadsBack p n xs v lent (written (frameOf p n xs (v ∷ [])) lent)
 frame-done p n xs v lent ok size long below value =
-    let frame = frameOf n xs (v ∷ []) in
+    let frame = frameOf p n xs (v ∷ []) in
     record {
       k = length frame;
       told = refl;
-      short = longest-frame n xs v long (size .1);
+      short = longest-frame p n xs v long (size .1);
       behind = front-dropped frame lent;
       reads = λ multipliers room.
           ap (λ bytes. readCall p n bytes multipliers) (front-taken frame lent)

@@ -30,11 +30,11 @@ abbrev pub Positive : List ℕ → Type 0
 Positive xs = (i : ℕ) → i < length xs → 0 < getD xs i 0
 
 -- the bytes of the multipliers under standing bits are those of the numbers kept
-pub packed-kept : (xs : List ℕ) → packed xs ≡ valueBytes (kept xs)
+pub packed-kept : (w : ℕ) (xs : List ℕ) → packed w xs ≡ valueBytes w (kept xs)
 unfolding packed kept
-packed-kept [] = sym values-none
-packed-kept (zero ∷ xs) = packed-kept xs
-packed-kept (suc x ∷ xs) = rw (eqb·suc-zero x, packed-kept xs, values-more)
+packed-kept w [] = sym (values-none w)
+packed-kept w (zero ∷ xs) = packed-kept w xs
+packed-kept w (suc x ∷ xs) = rw (eqb·suc-zero x, packed-kept w xs, values-more)
 
 pub standing-kept : (xs : List ℕ) → standing (stands xs) ≡ length (kept xs)
 unfolding stands standing kept
@@ -60,6 +60,14 @@ kept-below p [] h = h
 kept-below p (zero ∷ xs) h = kept-below p xs (below-tail p 0 xs h)
 kept-below p (suc x ∷ xs) h =
     below-cons p (suc x) (kept xs) (below-head p (suc x) xs h) (kept-below p xs (below-tail p (suc x) xs h))
+
+-- and the other way round, since 0 is below p
+pub below-of-kept : (p : ℕ) (xs : List ℕ) → 0 < p → Below p (kept xs) → Below p xs
+unfolding kept
+below-of-kept p [] z h = h
+below-of-kept p (zero ∷ xs) z h = below-cons p 0 xs z (below-of-kept p xs z h)
+below-of-kept p (suc x ∷ xs) z h =
+    below-cons p (suc x) xs (below-head p (suc x) (kept xs) h) (below-of-kept p xs z (below-tail p (suc x) (kept xs) h))
 
 pub kept-positive : (xs : List ℕ) → Positive (kept xs)
 unfolding kept

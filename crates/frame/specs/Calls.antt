@@ -34,7 +34,7 @@ readChecks p n bytes lent = andThen (frameSizes p n) (λ _. readRest p n bytes l
 
 unfoldable pub readCall : (p n : ℕ) (bytes multipliers : List ℕ) → Outcome (List ℕ)
 readCall p n bytes lent =
-    inOrder (readChecks p n bytes lent) (λ _. outcome (gives (pos (frameValue n bytes))) (frameMultipliers n bytes)) (untouched lent)
+    inOrder (readChecks p n bytes lent) (λ _. outcome (gives (pos (frameValue p n bytes))) (frameMultipliers p n bytes)) (untouched lent)
 
 -- writing the frame of n multipliers and a value to the front of the lent bytes; bytes after it keep their contents
 abbrev pub writeRest : (p n : ℕ) (multipliers : List ℕ) (value : ℕ) (bytes : List ℕ) → Checks Refusal
@@ -52,7 +52,7 @@ abbrev pub written : (frame lent : List ℕ) → Outcome (List ℕ)
 written frame lent = outcome (results (length frame)) (placed 0 frame lent)
 
 unfoldable pub writeCall : (p n : ℕ) (multipliers : List ℕ) (value : ℕ) (bytes : List ℕ) → Outcome (List ℕ)
-writeCall p n xs v lent = inOrder (writeChecks p n xs v lent) (λ _. written (frameOf n xs (v ∷ [])) lent) (untouched lent)
+writeCall p n xs v lent = inOrder (writeChecks p n xs v lent) (λ _. written (frameOf p n xs (v ∷ [])) lent) (untouched lent)
 
 -- sealing records with a low end: nothing is lent to be written
 abbrev pub sealRest : (p n low : ℕ) (records : List ℤ) (multipliers : List ℕ) → Checks Refusal

@@ -1,6 +1,6 @@
 -- Request 101: "Answers that change: a frame with a standing bit at n or above, at least as long as its map and not of that counted
 -- length, gave 7 and now gives 6. No other answer moves." Reading in the order of 01, as it was before that request, is defined here
--- for this sentence and for nothing else.
+-- for this sentence and for nothing else. Its numbers have the width of p, as those of the reading that it is compared with.
 use mathlib.Core.Path.{_≡_}
 use mathlib.Core.List.{List}
 use Prim.Native.Nat.{ℕ, _+_, _*_, _≤_}
@@ -16,34 +16,34 @@ use Rattle.checks.specs.Told.{gives}
 use Rattle.checks.specs.Outcome.{Outcome, outcome, untouched}
 use Rattle.checks.specs.Decide.{long?}
 use Rattle.checks.specs.Sizes.{frameSizes}
-use Rattle.codec.specs.BigEndian.{width}
+use Rattle.frame.specs.Width.{width}
 use Rattle.frame.specs.Format.{mapLength}
 use Rattle.frame.specs.Bitmap.{recordBits, wholeMap, standing, StandsFrom}
 use Rattle.frame.specs.Reading.{frameNumbers, frameMultipliers, frameValue, numberChecks}
 use Rattle.frame.specs.Decide.{unpadded?}
 use Rattle.frame.specs.Calls.{readCall}
 
--- the order of 01: "shorter than the map, 6; a standing bit at n or above, 7; length other than map + 4 × standing bits + 4, 6", where
--- no bits but the records' were left to be counted; then the numbers
+-- the order of 01: "shorter than the map, 6; a standing bit at n or above, 7; length other than map + 4 × standing bits + 4, 6", with the
+-- width for 4, where no bits but the records' were left to be counted; then the numbers
 abbrev pub earlierChecks : (p n : ℕ) (bytes : List ℕ) → Checks Refusal
 earlierChecks p n bytes =
     decLe (mapLength n) (length bytes) else FrameLength
     ⨾ unpadded? n bytes else Padding
-    ⨾ long? bytes (mapLength n + width * standing (recordBits n bytes) + width) else FrameLength
-    ⨾ numberChecks p (frameNumbers n bytes) (frameValue n bytes)
+    ⨾ long? bytes (mapLength n + width p * standing (recordBits n bytes) + width p) else FrameLength
+    ⨾ numberChecks p (frameNumbers p n bytes) (frameValue p n bytes)
 
 -- the call `read` in that order
 unfoldable pub earlierRead : (p n : ℕ) (bytes multipliers : List ℕ) → Outcome (List ℕ)
 earlierRead p n bytes lent =
     inOrder (andThen (frameSizes p n) (λ _. long? lent n else Length ⨾ earlierChecks p n bytes))
-    (λ _. outcome (gives (pos (frameValue n bytes))) (frameMultipliers n bytes)) (untouched lent)
+    (λ _. outcome (gives (pos (frameValue p n bytes))) (frameMultipliers p n bytes)) (untouched lent)
 
 -- the frames of which the request speaks. The length is written out as the request counts it, so that the theorem tells a reader's
 -- definition that counts otherwise
-pub record Moved (n : ℕ) (bytes : List ℕ) : Type 0 where
+pub record Moved (p n : ℕ) (bytes : List ℕ) : Type 0 where
   pub padded : StandsFrom n (8 * mapLength n) bytes
   pub map-fits : mapLength n ≤ length bytes
-  pub other-length : length bytes ≡ mapLength n + width * standing (wholeMap n bytes) + width → ⊥
+  pub other-length : length bytes ≡ mapLength n + width p * standing (wholeMap n bytes) + width p → ⊥
 
 -- "gave 7 and now gives 6. No other answer moves.": what was and what is differ exactly where M holds, and there by these two
 pub data MovesExactly {X : Type 0} (M : Type 0) (seven six was is : X) : Type 0 where
@@ -52,7 +52,7 @@ pub data MovesExactly {X : Type 0} (M : Type 0) (seven six was is : X) : Type 0 
 
 -- where the answer of read moved: 1, 2 and 3 are passed, and the frame is such a one
 abbrev pub ReadMoved : (p n : ℕ) (bytes multipliers : List ℕ) → Type 0
-ReadMoved p n bytes lent = (IsModulus p × FrameSize n × (length lent ≡ n)) × Moved n bytes
+ReadMoved p n bytes lent = (IsModulus p × FrameSize n × (length lent ≡ n)) × Moved p n bytes
 
 -- there read gave 7 and gives 6, with the lent memory as it was either way
 abbrev pub ReadMoves : (p n : ℕ) (bytes multipliers : List ℕ) → Type 0

@@ -1,20 +1,26 @@
--- 01, "Frame bytes": what the bytes of a frame are, from its multipliers and its values.
+-- 01, "Frame bytes", with 02, #111: what the bytes of a frame are, from its multipliers and its values.
 use mathlib.Core.Bool.{Bool, false, not}
 use mathlib.Core.List.{List, [], _∷_, _++_, map}
 use Prim.Native.Nat.{ℕ, zero, suc, _+_, _*_, _/_}
 use lib.ListN.{getD}
 use lib.Dec.{eqb}
 use Rattle.algebra.specs.Choice.{choose}
-use Rattle.codec.specs.BigEndian.{width, bytesOf}
+use Rattle.codec.specs.BigEndian.{bytesOf}
 use Rattle.field.specs.Written.{tabulate}
+use Rattle.frame.specs.Width.{width}
 
 -- the bytes of the bit map of n records: (n + 7)/8, rounded down
 unfoldable pub mapLength : ℕ → ℕ
 mapLength n = (n + 7) / 8
 
--- the longest frame, 64 records with a multiplier each and one value; what writing is lent
+-- the longest frame, 64 records with a multiplier each and one value, all of four bytes; what writing is lent, whatever the modulus:
+-- "the lent 264 + 4 × s bytes stay" (02, #111), of which one value makes 268
 unfoldable pub longest : ℕ
 longest = 268
+
+-- the most bytes that a frame of n records modulo p has: its map, a multiplier for each record, and the value
+unfoldable pub mostBytes : (p n : ℕ) → ℕ
+mostBytes p n = mapLength n + width p * n + width p
 
 -- record j's bit stands where its multiplier is not 0
 unfoldable pub stands : List ℕ → List Bool
@@ -32,16 +38,20 @@ mapByte bits b = octet 8 0
 unfoldable pub mapBytes : ℕ → List Bool → List ℕ
 mapBytes n bits = tabulate (mapLength n) (mapByte bits)
 
--- the multipliers under standing bits, rising j, each as its bytes
-unfoldable pub packed : List ℕ → List ℕ
-packed [] = []
-packed (x ∷ xs) = choose (eqb x 0) [] (bytesOf width x) ++ packed xs
+-- the multipliers under standing bits, rising j, each as w bytes
+unfoldable pub packed : ℕ → List ℕ → List ℕ
+packed w [] = []
+packed w (x ∷ xs) = choose (eqb x 0) [] (bytesOf w x) ++ packed w xs
 
--- the values, each as its bytes
-unfoldable pub valueBytes : List ℕ → List ℕ
-valueBytes [] = []
-valueBytes (v ∷ vs) = bytesOf width v ++ valueBytes vs
+-- the values, each as w bytes
+unfoldable pub valueBytes : ℕ → List ℕ → List ℕ
+valueBytes w [] = []
+valueBytes w (v ∷ vs) = bytesOf w v ++ valueBytes w vs
 
--- the frame of n multipliers and its values: the bit map, the multipliers under standing bits, the values
-unfoldable pub frameOf : ℕ → List ℕ → List ℕ → List ℕ
-frameOf n xs vs = mapBytes n (stands xs) ++ packed xs ++ valueBytes vs
+-- the frame of n multipliers and its values with numbers of w bytes: the bit map, the multipliers under standing bits, the values
+unfoldable pub frameIn : (w n : ℕ) → List ℕ → List ℕ → List ℕ
+frameIn w n xs vs = mapBytes n (stands xs) ++ packed w xs ++ valueBytes w vs
+
+-- the frame modulo p: "A number in a frame now has the fewest bytes that hold p - 1"
+abbrev pub frameOf : (p n : ℕ) → List ℕ → List ℕ → List ℕ
+frameOf p n xs vs = frameIn (width p) n xs vs

@@ -1,3 +1,4 @@
+pub mod Width
 pub mod Format
 pub mod Bitmap
 pub mod Sealing

@@ -1,7 +1,7 @@
--- 01 with request 101: reading checks in this order: shorter than the map, 6; length other than map + 4 × standing bits + 4, 6; a
--- standing bit at n or above, 7; then the numbers in byte order, a multiplier of 0 giving 8, a number of p or more giving 4. The
--- request: "From now on standing bits are counted over the whole map, padding included, and the length check comes before the
--- padding check." Which answers that moved is said in EarlierOrder.antt.
+-- 01 with requests 101 and 111: reading checks in this order: shorter than the map, 6; length other than map + width × standing bits +
+-- width, 6; a standing bit at n or above, 7; then the numbers in byte order, a multiplier of 0 giving 8, a number of p or more giving 4.
+-- 101: "From now on standing bits are counted over the whole map, padding included, and the length check comes before the padding
+-- check." Which answers that moved is said in EarlierOrder.antt. 111: "Frame lengths use that width in place of 4".
 use mathlib.Core.Path.{_≡_}
 use mathlib.Core.Bool.{Bool, true, false}
 use mathlib.Core.List.{List, [], _∷_}
@@ -13,15 +13,16 @@ use Rattle.checks.specs.declared.Refusal.the-variants.{Number, FrameLength, Pad
 use Rattle.checks.specs.Refusal.{refusalNumber}
 use Rattle.checks.specs.InOrder.{Checks, passed, _else_, _⨾_, inOrder}
 use Rattle.checks.specs.Decide.{long?}
-use Rattle.codec.specs.BigEndian.{width, numberFrom}
+use Rattle.codec.specs.BigEndian.{numberFrom}
+use Rattle.frame.specs.Width.{width}
 use Rattle.frame.specs.Format.{mapLength}
 use Rattle.frame.specs.Bitmap.{recordBits, wholeMap, standing}
 use Rattle.frame.specs.Decide.{unpadded?}
 
--- the numbers that stand one after the other in the bytes, k of them
-unfoldable pub numbersIn : ℕ → List ℕ → List ℕ
-numbersIn zero bytes = []
-numbersIn (suc k) bytes = numberFrom 0 (take width bytes) ∷ numbersIn k (drop width bytes)
+-- the numbers of w bytes that stand one after the other in the bytes, k of them
+unfoldable pub numbersIn : (w k : ℕ) → List ℕ → List ℕ
+numbersIn w zero bytes = []
+numbersIn w (suc k) bytes = numberFrom 0 (take w bytes) ∷ numbersIn w k (drop w bytes)
 
 -- the multipliers: the next number where the bit stands, and 0 where it does not
 unfoldable pub spread : List Bool → List ℕ → List ℕ
@@ -30,19 +31,19 @@ spread (true ∷ bs) [] = 0 ∷ spread bs []
 spread (true ∷ bs) (x ∷ xs) = x ∷ spread bs xs
 spread (false ∷ bs) xs = 0 ∷ spread bs xs
 
--- the length that a frame with this map has: map + 4 × standing bits + 4, the bits counted over the whole map
-unfoldable pub frameLength : ℕ → List ℕ → ℕ
-frameLength n bytes = mapLength n + width * standing (wholeMap n bytes) + width
+-- the length that a frame modulo p with this map has: map + width × standing bits + width, the bits counted over the whole map
+unfoldable pub frameLength : (p n : ℕ) → List ℕ → ℕ
+frameLength p n bytes = mapLength n + width p * standing (wholeMap n bytes) + width p
 
 -- the numbers under its standing bits, its multipliers and its value
-unfoldable pub frameNumbers : ℕ → List ℕ → List ℕ
-frameNumbers n bytes = numbersIn (standing (recordBits n bytes)) (drop (mapLength n) bytes)
+unfoldable pub frameNumbers : (p n : ℕ) → List ℕ → List ℕ
+frameNumbers p n bytes = numbersIn (width p) (standing (recordBits n bytes)) (drop (mapLength n) bytes)
 
-unfoldable pub frameMultipliers : ℕ → List ℕ → List ℕ
-frameMultipliers n bytes = spread (recordBits n bytes) (frameNumbers n bytes)
+unfoldable pub frameMultipliers : (p n : ℕ) → List ℕ → List ℕ
+frameMultipliers p n bytes = spread (recordBits n bytes) (frameNumbers p n bytes)
 
-unfoldable pub frameValue : ℕ → List ℕ → ℕ
-frameValue n bytes = numberFrom 0 (drop (mapLength n + width * standing (recordBits n bytes)) bytes)
+unfoldable pub frameValue : (p n : ℕ) → List ℕ → ℕ
+frameValue p n bytes = numberFrom 0 (drop (mapLength n + width p * standing (recordBits n bytes)) bytes)
 
 -- ---- the checks of reading
 
@@ -55,9 +56,9 @@ numberChecks p (x ∷ xs) v = decLt 0 x else ZeroMultiplier ⨾ decLt x p else N
 abbrev pub frameChecks : (p n : ℕ) (bytes : List ℕ) → Checks Refusal
 frameChecks p n bytes =
     decLe (mapLength n) (length bytes) else FrameLength
-    ⨾ long? bytes (frameLength n bytes) else FrameLength
+    ⨾ long? bytes (frameLength p n bytes) else FrameLength
     ⨾ unpadded? n bytes else Padding
-    ⨾ numberChecks p (frameNumbers n bytes) (frameValue n bytes)
+    ⨾ numberChecks p (frameNumbers p n bytes) (frameValue p n bytes)
 
 -- the kinds that reading refuses a frame by: 4, 6, 7 and 8
 abbrev pub ReadingKind : Refusal → Type 0
@@ -69,4 +70,4 @@ pub data Found : Type 0 where
   rejected : Refusal → Found
 
 unfoldable pub readFrame : (p n : ℕ) → List ℕ → Found
-readFrame p n bytes = inOrder (frameChecks p n bytes) (λ _. accepted (frameMultipliers n bytes) (frameValue n bytes)) rejected
+readFrame p n bytes = inOrder (frameChecks p n bytes) (λ _. accepted (frameMultipliers p n bytes) (frameValue p n bytes)) rejected

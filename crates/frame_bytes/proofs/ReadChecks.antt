@@ -13,7 +13,7 @@ use Rattle.checks.specs.Outcome.{outcome, untouched}
 use Rattle.checks.specs.InOrder.{AllHold, FirstFailing}
 use Rattle.checks.specs.Largest.{largest}
 use Rattle.checks.proofs.InOrder.{fails-here, in-order-done, in-order-refused, _then_, _and-then_}
-use Rattle.codec.specs.BigEndian.{width}
+use Rattle.frame.specs.Width.{width}
 use Rattle.frame.specs.Format.{mapLength}
 use Rattle.frame.specs.Bitmap.{standing, recordBits, wholeMap, ClearFrom, Unpadded, mapFrom, mapBits}
 use Rattle.frame.specs.Reading.{numbersIn, spread, frameLength, frameNumbers, frameMultipliers, frameValue, frameChecks}
@@ -44,23 +44,23 @@ module _ (p n : ℕ) (bytes : List ℕ) where
     bits : recordBits n map ≡ recordBits n bytes
     bits = rw (c .mapped .built) (map-record-bits n bytes (c .mapped .fits))
 
-    pub multipliers-read : multipliersFrom map bytes (mapLength n) 0 n ≡ frameMultipliers n bytes
+    pub multipliers-read : multipliersFrom (width p) map bytes (mapLength n) 0 n ≡ frameMultipliers p n bytes
     unfolding multipliersFrom frameMultipliers frameNumbers recordBits
-    multipliers-read = ap (λ bs. spread bs (numbersIn (standing bs) (drop (mapLength n) bytes))) bits
+    multipliers-read = ap (λ bs. spread bs (numbersIn (width p) (standing bs) (drop (mapLength n) bytes))) bits
 
     count-whole : count ≡ standing (wholeMap n bytes)
     count-whole = c .counted ∙ rw (c .mapped .built) (standing-whole n bytes (c .mapped .fits) (c .small))
 
-    length-told : mapLength n + width * count + width ≡ frameLength n bytes
-    unfolding frameLength width
-    length-told = omega (arith, count-whole)
+    length-told : mapLength n + width p * count + width p ≡ frameLength p n bytes
+    unfolding frameLength
+    length-told = rw count-whole
 
     -- another length than the map tells
-    pub frame-other-length : (length bytes ≡ mapLength n + width * count + width → ⊥) → FirstFailing (frameChecks p n bytes) FrameLength
+    pub frame-other-length : (length bytes ≡ mapLength n + width p * count + width p → ⊥) → FirstFailing (frameChecks p n bytes) FrameLength
     frame-other-length h = c .mapped .fits then fails-here (λ e. h (e ∙ sym length-told))
 
     -- a bit stands at n or above in a frame of that length
-    pub frame-padded : length bytes ≡ mapLength n + width * count + width → (ClearFrom n largest map → ⊥) → FirstFailing (frameChecks p n bytes) Padding
+    pub frame-padded : length bytes ≡ mapLength n + width p * count + width p → (ClearFrom n largest map → ⊥) → FirstFailing (frameChecks p n bytes) Padding
     frame-padded long h =
         let m = c .mapped in
         m .fits then (long ∙ length-told) then fails-here (λ u. h (rw (m .built) (unpadded-clear n bytes (m .fits) u)))
@@ -76,16 +76,16 @@ module _ (p n : ℕ) (bytes : List ℕ) where
       count-bytes : count ≡ standing (recordBits n bytes)
       count-bytes = count-records ∙ ap standing bits
 
-      module _ (long : length bytes ≡ mapLength n + width * count + width) where
-        pub frame-number : {k : Refusal} → FirstFailing (checksFrom p bytes (mapLength n) count) k → FirstFailing (frameChecks p n bytes) k
+      module _ (long : length bytes ≡ mapLength n + width p * count + width p) where
+        pub frame-number : {k : Refusal} → FirstFailing (checksFrom p (width p) bytes (mapLength n) count) k → FirstFailing (frameChecks p n bytes) k
         unfolding frameNumbers frameValue valueAfter
         frame-number f = c .mapped .fits then (long ∙ length-told) then unpadded then rw count-bytes at f
 
-        pub frame-good : AllHold (checksFrom p bytes (mapLength n) count) → AllHold (frameChecks p n bytes)
+        pub frame-good : AllHold (checksFrom p (width p) bytes (mapLength n) count) → AllHold (frameChecks p n bytes)
         unfolding frameNumbers frameValue valueAfter
         frame-good a = c .mapped .fits and-then (long ∙ length-told) and-then unpadded and-then rw count-bytes at a
 
-      pub value-read : valueAfter bytes (mapLength n) count ≡ frameValue n bytes
+      pub value-read : valueAfter (width p) bytes (mapLength n) count ≡ frameValue p n bytes
       unfolding frameValue valueAfter
       value-read = rw count-bytes
 
@@ -97,7 +97,7 @@ module _ (p n : ℕ) (bytes lent : List ℕ) where
   frame-refused f = ap (readOutcome lent) (sym (in-order-refused _ _ f))
 
   pub frame-accepted :
-      {v : ℕ} {xs : List ℕ} → AllHold (frameChecks p n bytes) → v ≡ frameValue n bytes → xs ≡ frameMultipliers n bytes
+      {v : ℕ} {xs : List ℕ} → AllHold (frameChecks p n bytes) → v ≡ frameValue p n bytes → xs ≡ frameMultipliers p n bytes
       → outcome (gives (pos v)) xs ≡ readOutcome lent (readFrame p n bytes)
   unfolding readFrame readOutcome
   frame-accepted a e w = ap (readOutcome lent) (ap₂ accepted w e ∙ sym (in-order-done _ _ _ a (λ _. refl)))

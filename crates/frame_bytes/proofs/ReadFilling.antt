@@ -10,7 +10,7 @@ use native.Mathlib.Omega.{arith}
 use lib.ListN.{length, set, take, length-set}
 use lib.Seq.{take-suc-set, take-all, append-snoc}
 use Rattle.algebra.specs.Choice.{choose}
-use Rattle.codec.specs.BigEndian.{width, numberAt}
+use Rattle.codec.specs.BigEndian.{numberAt}
 use Rattle.frame.specs.Bitmap.{bitAt, bitsFrom, standing, recordBits}
 use Rattle.frame.specs.Reading.{spread}
 use Rattle.frame.proofs.Bits.{bits-more, count, count-more, count-record-bits}
@@ -35,31 +35,31 @@ unfolding spread
 spread-absent bs xs = refl
 
 -- the multipliers from record j on, by the bit of record j
-module _ (map bytes : List ℕ) (at j : ℕ) where
-  multipliers-none : multipliersFrom map bytes at j 0 ≡ []
+module _ (w : ℕ) (map bytes : List ℕ) (at j : ℕ) where
+  multipliers-none : multipliersFrom w map bytes at j 0 ≡ []
   unfolding multipliersFrom bitsFrom spread
   multipliers-none = refl
 
   multipliers-stands : (k : ℕ) → bitAt map j ≡ true
-      → multipliersFrom map bytes at j (suc k) ≡ numberAt width bytes at ∷ multipliersFrom map bytes (at + width) (suc j) k
+      → multipliersFrom w map bytes at j (suc k) ≡ numberAt w bytes at ∷ multipliersFrom w map bytes (at + w) (suc j) k
   unfolding multipliersFrom
   multipliers-stands k e = rw (bits-more, e, standing-true, numbers-more, spread-stands)
 
-  multipliers-absent : (k : ℕ) → bitAt map j ≡ false → multipliersFrom map bytes at j (suc k) ≡ 0 ∷ multipliersFrom map bytes at (suc j) k
+  multipliers-absent : (k : ℕ) → bitAt map j ≡ false → multipliersFrom w map bytes at j (suc k) ≡ 0 ∷ multipliersFrom w map bytes at (suc j) k
   unfolding multipliersFrom
   multipliers-absent k e = rw (bits-more, e, standing-false, spread-absent)
 
 -- the first j of n multipliers are written, and those that are left are to be read from the place on
-pub record Filling (map bytes : List ℕ) (start n at j : ℕ) (xs : List ℕ) : Type 0 where
+pub record Filling (w : ℕ) (map bytes : List ℕ) (start n at j : ℕ) (xs : List ℕ) : Type 0 where
   pub reached : j ≤ n
   pub long : length xs ≡ n
-  pub room : at + width * count map j (n - j) ≤ length bytes
-  pub filled : take j xs ++ multipliersFrom map bytes at j (n - j) ≡ multipliersFrom map bytes start 0 n
+  pub room : at + w * count map j (n - j) ≤ length bytes
+  pub filled : take j xs ++ multipliersFrom w map bytes at j (n - j) ≡ multipliersFrom w map bytes start 0 n
 
 pub filling-none :
-    (map bytes : List ℕ) (start : ℕ) (xs : List ℕ) → start + width * standing (recordBits (length xs) map) ≤ length bytes
-    → Filling map bytes start (length xs) start 0 xs
-filling-none map bytes start xs h =
+    (w : ℕ) (map bytes : List ℕ) (start : ℕ) (xs : List ℕ) → start + w * standing (recordBits (length xs) map) ≤ length bytes
+    → Filling w map bytes start (length xs) start 0 xs
+filling-none w map bytes start xs h =
     let all : length xs - 0 ≡ length xs = omega arith in
     record {
       reached = omega arith;
@@ -68,25 +68,24 @@ filling-none map bytes start xs h =
       filled = rw all;
     }
 
-module _ (map bytes : List ℕ) (start n at j : ℕ) (xs : List ℕ) (f : Filling map bytes start n at j xs) (more : j < n) where
+module _ (w : ℕ) (map bytes : List ℕ) (start n at j : ℕ) (xs : List ℕ) (f : Filling w map bytes start n at j xs) (more : j < n) where
   left : n - j ≡ suc (n - suc j)
   left = omega arith
 
   -- the bytes reach for the number of this record, if its bit stands, and for those after it
-  reach : (b : Bool) → bitAt map j ≡ b → at + width * (choose b 1 0 + count map (suc j) (n - suc j)) ≤ length bytes
+  reach : (b : Bool) → bitAt map j ≡ b → at + w * (choose b 1 0 + count map (suc j) (n - suc j)) ≤ length bytes
   reach b e = rw (← e, ← count-more map j (n - suc j), ← left) (f .room)
 
   -- a number stands at the place of a standing bit
-  pub filling-room : bitAt map j ≡ true → at + width ≤ length bytes
-  unfolding width
+  pub filling-room : bitAt map j ≡ true → at + w ≤ length bytes
   filling-room e = omega (arith, reach true e)
 
   -- one multiplier more
   next :
       (v place : ℕ) →
-      place + width * count map (suc j) (n - suc j) ≤ length bytes →
-      multipliersFrom map bytes at j (suc (n - suc j)) ≡ v ∷ multipliersFrom map bytes place (suc j) (n - suc j) →
-      Filling map bytes start n place (j + 1) (set xs j v)
+      place + w * count map (suc j) (n - suc j) ≤ length bytes →
+      multipliersFrom w map bytes at j (suc (n - suc j)) ≡ v ∷ multipliersFrom w map bytes place (suc j) (n - suc j) →
+      Filling w map bytes start n place (j + 1) (set xs j v)
   next v place room step =
       let fits : j < length xs = rw (f .long) more in
       record {
@@ -96,18 +95,18 @@ module _ (map bytes : List ℕ) (start n at j : ℕ) (xs : List ℕ) (f : Fillin
         filled = rw (add-one, take-suc-set xs j v fits, append-snoc, ← step, ← left) (f .filled);
       }
 
-  pub filling-stands : bitAt map j ≡ true → Filling map bytes start n (at + width) (j + 1) (set xs j (numberAt width bytes at))
-  unfolding width
+  pub filling-stands : bitAt map j ≡ true → Filling w map bytes start n (at + w) (j + 1) (set xs j (numberAt w bytes at))
   filling-stands e =
-      next (numberAt width bytes at) (at + width) (omega (arith, reach true e)) (multipliers-stands map bytes at j (n - suc j) e)
+      next (numberAt w bytes at) (at + w) (omega (arith, reach true e)) (multipliers-stands w map bytes at j (n - suc j) e)
 
-  pub filling-absent : bitAt map j ≡ false → Filling map bytes start n at (j + 1) (set xs j 0)
-  unfolding width
-  filling-absent e = next 0 at (omega (arith, reach false e)) (multipliers-absent map bytes at j (n - suc j) e)
+  pub filling-absent : bitAt map j ≡ false → Filling w map bytes start n at (j + 1) (set xs j 0)
+  filling-absent e = next 0 at (omega (arith, reach false e)) (multipliers-absent w map bytes at j (n - suc j) e)
 
 -- past the last record all are written
-pub filling-all : (map bytes : List ℕ) (start n at j : ℕ) (xs : List ℕ) → Filling map bytes start n at j xs → n ≤ j → xs ≡ multipliersFrom map bytes start 0 n
-filling-all map bytes start n at j xs f h =
+pub filling-all :
+    (w : ℕ) (map bytes : List ℕ) (start n at j : ℕ) (xs : List ℕ) → Filling w map bytes start n at j xs → n ≤ j
+    → xs ≡ multipliersFrom w map bytes start 0 n
+filling-all w map bytes start n at j xs f h =
     let none : n - j ≡ 0 = omega arith in
     let whole : take j xs ≡ xs = take-all j xs (omega (arith, f .long)) in
     sym (append-nil xs) ∙ (rw (none, whole, multipliers-none) at (f .filled))

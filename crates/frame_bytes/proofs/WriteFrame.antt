@@ -3,14 +3,15 @@
 use mathlib.Core.Path.{_≡_, refl, ap, _∙_}
 use mathlib.Core.List.{List, [], _∷_, _++_}
 use Prim.Native.Nat.{ℕ, zero, suc, _+_, _*_, _≤_}
+use native.Mathlib.Nat.{mul-le-mul}
 use native.Mathlib.Omega.{arith}
 use lib.ListN.{length, take, length-append}
-use Rattle.codec.specs.BigEndian.{width, bytesOf}
+use Rattle.codec.specs.BigEndian.{bytesOf}
 use Rattle.codec.specs.Placed.{placed}
 use Rattle.codec.proofs.BigEndian.{bytes-length}
 use Rattle.codec.proofs.Placed.{placed-length, placed-next}
 use Rattle.field.specs.Written.{tabulate}
-use Rattle.frame.specs.Format.{mapLength, longest, stands, mapByte, mapBytes, packed, frameOf}
+use Rattle.frame.specs.Format.{mapLength, longest, stands, mapByte, mapBytes, packed, frameIn}
 use Rattle.frame.specs.Bitmap.{standing, mapOf, mapBits}
 use Rattle.frame.proofs.Bytes.{one-value}
 use Rattle.frame.proofs.RoundMap.{map-length}
@@ -32,54 +33,60 @@ pub map-front : (n : ℕ) (xs : List ℕ) → n ≤ 64 → take (mapLength n) (m
 unfolding mapBytes mapOf
 map-front n xs h = take-tabulate (mapLength n) 8 (mapByte (stands xs)) (map-short n h)
 
-module _ (n : ℕ) (xs : List ℕ) (size : n ≤ 64) (long : length xs ≡ n) (old : List ℕ) (lent : length old ≡ longest) where
-  abbrev with-map : List ℕ
-  with-map = placed 0 (mapBytes n (stands xs)) old
+module _
+    (w n : ℕ) (xs : List ℕ) (few : w ≤ 4) (size : n ≤ 64) (long : length xs ≡ n) (old : List ℕ) (lent : length old ≡ longest)
+  where
+    abbrev with-map : List ℕ
+    with-map = placed 0 (mapBytes n (stands xs)) old
 
-  abbrev with-numbers : List ℕ
-  with-numbers = placed (mapLength n) (packed xs) with-map
+    abbrev with-numbers : List ℕ
+    with-numbers = placed (mapLength n) (packed w xs) with-map
 
-  -- the lent bytes keep their length, so every step has room
-  map-long : length with-map ≡ longest
-  unfolding longest
-  map-long = placed-length 0 (mapBytes n (stands xs)) old (omega (arith, map-length n (stands xs), map-short n size)) ∙ lent
+    -- the lent bytes keep their length, so every step has room
+    map-long : length with-map ≡ longest
+    unfolding longest
+    map-long = placed-length 0 (mapBytes n (stands xs)) old (omega (arith, map-length n (stands xs), map-short n size)) ∙ lent
 
-  pub numbers-room : mapLength n + width * length xs ≤ length with-map
-  unfolding longest width
-  numbers-room = omega (arith, map-long, map-short n size)
+    -- as many numbers as there are records have at most 256 bytes
+    numbers-short : w * length xs ≤ 256
+    numbers-short = omega (arith, mul-le-mul {n₁ = w} {m₁ = length xs} {n₂ = 4} {m₂ = 64} few (omega arith))
 
-  numbers-long : length with-numbers ≡ longest
-  numbers-long =
-      placed-length (mapLength n) (packed xs) with-map (omega (arith, packed-short xs, numbers-room)) ∙ map-long
+    pub numbers-room : mapLength n + w * length xs ≤ length with-map
+    unfolding longest
+    numbers-room = omega (arith, map-long, map-short n size, numbers-short)
 
-  -- the steps put the frame at once
-  front : with-numbers ≡ placed 0 (mapBytes n (stands xs) ++ packed xs) old
-  front =
-      let map = mapBytes n (stands xs) in
-      let at : mapLength n ≡ 0 + length map = omega (arith, map-length n (stands xs)) in
-      ap (λ (k : ℕ). placed k (packed xs) with-map) at
-      ∙ placed-next 0 map (packed xs) old (omega arith)
+    numbers-long : length with-numbers ≡ longest
+    numbers-long =
+        placed-length (mapLength n) (packed w xs) with-map (omega (arith, packed-short w xs, numbers-room)) ∙ map-long
 
-  one-frame : (v : ℕ) → frameOf n xs (v ∷ []) ≡ mapBytes n (stands xs) ++ packed xs ++ bytesOf width v
-  unfolding frameOf
-  one-frame v = rw (one-value v)
+    -- the steps put the frame at once
+    front : with-numbers ≡ placed 0 (mapBytes n (stands xs) ++ packed w xs) old
+    front =
+        let map = mapBytes n (stands xs) in
+        let at : mapLength n ≡ 0 + length map = omega (arith, map-length n (stands xs)) in
+        ap (λ (k : ℕ). placed k (packed w xs) with-map) at
+        ∙ placed-next 0 map (packed w xs) old (omega arith)
 
-  -- the value stands where the map's count says
-  module _ (count : ℕ) (counted : count ≡ standing (mapBits (mapOf xs))) (v : ℕ) where
-    place : mapLength n + width * count ≡ mapLength n + length (packed xs)
-    place = rw (counted, standing-of xs (omega arith), packed-length)
+    one-frame : (v : ℕ) → frameIn w n xs (v ∷ []) ≡ mapBytes n (stands xs) ++ packed w xs ++ bytesOf w v
+    unfolding frameIn
+    one-frame v = rw (one-value w v)
 
-    pub value-room : mapLength n + width * count + width ≤ length with-numbers
-    unfolding longest width
-    value-room = omega (arith, place, numbers-long, map-short n size, packed-short xs)
+    -- the value stands where the map's count says
+    module _ (count : ℕ) (counted : count ≡ standing (mapBits (mapOf xs))) (v : ℕ) where
+      place : mapLength n + w * count ≡ mapLength n + length (packed w xs)
+      place = rw (counted, standing-of xs (omega arith), packed-length)
 
-    -- and what is left is the frame, and behind it what stood there
-    pub frame-written : placed (mapLength n + width * count) (bytesOf width v) with-numbers ≡ placed 0 (frameOf n xs (v ∷ [])) old
-    frame-written =
-        let done = mapBytes n (stands xs) ++ packed xs in
-        let at : mapLength n + width * count ≡ 0 + length done =
-        omega (arith, place, map-length n (stands xs), length-append (mapBytes n (stands xs)) (packed xs)) in
-        rw (front, at, one-frame v) (placed-next 0 done (bytesOf width v) old (omega arith))
+      pub value-room : mapLength n + w * count + w ≤ length with-numbers
+      unfolding longest
+      value-room = omega (arith, place, numbers-long, map-short n size, packed-short w xs, numbers-short)
 
-    pub frame-end : mapLength n + width * count + width ≡ 0 + length (frameOf n xs (v ∷ []))
-    frame-end = rw (place, one-frame v, length-append, length-append, map-length, bytes-length width v) (omega arith)
+      -- and what is left is the frame, and behind it what stood there
+      pub frame-written : placed (mapLength n + w * count) (bytesOf w v) with-numbers ≡ placed 0 (frameIn w n xs (v ∷ [])) old
+      frame-written =
+          let done = mapBytes n (stands xs) ++ packed w xs in
+          let at : mapLength n + w * count ≡ 0 + length done =
+          omega (arith, place, map-length n (stands xs), length-append (mapBytes n (stands xs)) (packed w xs)) in
+          rw (front, at, one-frame v) (placed-next 0 done (bytesOf w v) old (omega arith))
+
+      pub frame-end : mapLength n + w * count + w ≡ 0 + length (frameIn w n xs (v ∷ []))
+      frame-end = rw (place, one-frame v, length-append, length-append, map-length, bytes-length w v) (omega arith)

@@ -3,4 +3,5 @@
 mod bitmap;
 pub mod reading;
 pub mod records;
+mod width;
 pub mod writer;

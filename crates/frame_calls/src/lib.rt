@@ -54,7 +54,7 @@ pub fn write(p: u32, n: u32, multipliers: &[u32], value: u32, bytes: &mut [u8]) 
     if p <= value {
         return WriteAnswer::Refused(Refusal::Number);
     }
-    WriteAnswer::Length(write_frame(n as usize, multipliers, value, bytes) as u32)
+    WriteAnswer::Length(write_frame(p, n as usize, multipliers, value, bytes) as u32)
 }
 
 // The value of the frame of n records, from -low to p - 1 - low, and n multipliers modulo p. Refused are 1, p no modulus; 2, n not 1 to

@@ -80,9 +80,9 @@ module _ (p : ℕ) (ok : IsModulus p) (n : ℕ) (ws : List ℕ) (done : openCall
   turn-standing t = ap (λ (l : Ledger). l .entries) (turn-left (ledgerStep p ok n) (ledger []) t)
 
   turn-changes : {cs : List Call} (t : Turn cs)
-      → Changes n (t .call) (replyAt p n ws t .told) (standing p ok n (t .before)) (standing p ok n (t .before ++ (t .call ∷ [])))
+      → Changes p n (t .call) (replyAt p n ws t .told) (standing p ok n (t .before)) (standing p ok n (t .before ++ (t .call ∷ [])))
   turn-changes t =
-      subst₂ (λ (r : Reply) fs. Changes n (t .call) (r .told) (standing p ok n (t .before)) fs) (sym (turn-replied t)) (sym (turn-standing t))
+      subst₂ (λ (r : Reply) fs. Changes p n (t .call) (r .told) (standing p ok n (t .before)) fs) (sym (turn-replied t)) (sym (turn-standing t))
       (step-changes p ok n (ledger (standing p ok n (t .before))) (t .call))
 
   -- the count of the board that it left is that of the ledger's step
@@ -110,12 +110,12 @@ module _ (p : ℕ) (ok : IsModulus p) (n : ℕ) (ws : List ℕ) (done : openCall
 
   turn-mixes : {cs : List Call} (t : Turn cs) (frame mix : List ℕ) → t .call ≡ Call.take frame mix
       → (replyAt p n ws t .told .number ≡ 100) ⊎ (replyAt p n ws t .told .number ≡ 9)
-      → IsMix p n (standing p ok n (t .before)) (frameMultipliers n frame) (replyAt p n ws t .words)
+      → IsMix p n (standing p ok n (t .before)) (frameMultipliers p n frame) (replyAt p n ws t .words)
   unfolding ledgerStep
   turn-mixes t frame mix e d =
       let es = standing p ok n (t .before) in
       let same = turn-replied t ∙ ap (λ c. replyOf (ledgerStep p ok n (ledger es) c)) e in
-      subst (λ (r : Reply). IsMix p n es (frameMultipliers n frame) (r .words)) (sym same)
+      subst (λ (r : Reply). IsMix p n es (frameMultipliers p n frame) (r .words)) (sym same)
       (take-mixes p ok n es (standing-proper (t .before)) frame mix (took p ok n (ledger es) frame mix)
       (subst (λ (r : Reply). (r .told .number ≡ 100) ⊎ (r .told .number ≡ 9)) same d))
 
@@ -144,12 +144,12 @@ module _ (p : ℕ) (ok : IsModulus p) (n : ℕ) (ws : List ℕ) (done : openCall
   enough : (cs : List Call) → SettlingTakes p ok n ws cs
   enough cs =
       let (columns, many, settling) = missing.missing-enough p ok n (standing p ok n cs) (standing-proper cs) in
-      let replies = further-replies cs (map (unitTake n) columns) in (
+      let replies = further-replies cs (map (unitTake p n) columns) in (
         columns,
         many ∙ ap (λ k. n - k) (sym (reached-count cs)),
         (λ r m. settling .all-new r (subst (List·Memᴰ r) replies m)),
-        ap (news (map (unitTake n) columns)) replies ∙ settling .news-told ∙ length-map columns (unitTake n),
-        subst (AllSettled p n) (further-standing cs (map (unitTake n) columns)) (settling .settles),
+        ap (news (map (unitTake p n) columns)) replies ∙ settling .news-told ∙ length-map columns (unitTake p n),
+        subst (AllSettled p n) (further-standing cs (map (unitTake p n) columns)) (settling .settles),
       )
 
   -- ---- all of it

@@ -28,13 +28,13 @@ use Rattle.ledger.proofs.Turns.{RepliesOnce, board-once, turn-answered}
 
 -- on the ledger, behind the length of the mix
 step-moves : (p : ℕ) (ok : IsModulus p) (n : ℕ) (l : Ledger) (frame mix : List ℕ)
-    → MovesExactly ((length mix ≡ n) × Moved n frame) (untouched (l, mix) Padding) (untouched (l, mix) FrameLength)
+    → MovesExactly ((length mix ≡ n) × Moved p n frame) (untouched (l, mix) Padding) (untouched (l, mix) FrameLength)
     (earlierTake p ok n l frame mix) (ledgerTake p ok n l frame mix)
 unfolding ledgerTake earlierTake
 step-moves p ok n l frame mix =
     let room = long? mix n else Length ⨾ passed in
     let lent : Ledger × List ℕ = (l, mix) in
-    let o = takeAccepted p ok n l (frameMultipliers n frame) (frameValue n frame) mix in
+    let o = takeAccepted p ok n l (frameMultipliers p n frame) (frameValue p n frame) mix in
     rw (in-order-then room (frameChecks p n frame) o (untouched lent), in-order-then room (earlierChecks p n frame) o (untouched lent))
     (behind room (untouched lent) (λ hs. hs .0) (λ h. h and-then none-left) _ _ (λ _. reading-moves p n frame o (untouched lent)))
 
@@ -44,7 +44,7 @@ module _ (ws frame mix : List ℕ) where
   lent = (ws, mix)
 
   on-board : (b : IsBoard ws)
-      → MovesExactly ((length mix ≡ sizeWord ws) × Moved (sizeWord ws) frame) (untouched lent Padding) (untouched lent FrameLength)
+      → MovesExactly ((length mix ≡ sizeWord ws) × Moved (modulusWord ws) (sizeWord ws) frame) (untouched lent Padding) (untouched lent FrameLength)
       (laidOut (modulusWord ws) (sizeWord ws) (earlierTake (modulusWord ws) (b .prime) (sizeWord ws) (ledgerOf ws) frame mix))
       (laidOut (modulusWord ws) (sizeWord ws) (ledgerTake (modulusWord ws) (b .prime) (sizeWord ws) (ledgerOf ws) frame mix))
   on-board b =

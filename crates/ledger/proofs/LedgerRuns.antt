@@ -95,7 +95,7 @@ module _ (p : ℕ) (ok : IsModulus p) (n : ℕ) where
   -- ---- how the entries change
 
   took-changes : (l : Ledger) (frame mix : List ℕ) {r : Outcome (Ledger × List ℕ)} → Took p ok n l frame mix r
-      → Changes n (Call.take frame mix) (r .told) (l .entries) (r .lent .0 .entries)
+      → Changes p n (Call.take frame mix) (r .told) (l .entries) (r .lent .0 .entries)
   took-changes l frame mix (new xs v e f) =
       let (xs-found, v-found) = accepted-found p n frame xs v e in
       (λ _. ap₂ (λ ys w. l .entries ++ (entry ys w ∷ [])) (sym xs-found) (sym v-found), λ h. absurd (h refl))
@@ -104,12 +104,12 @@ module _ (p : ℕ) (ok : IsModulus p) (n : ℕ) where
   took-changes l frame mix (refusal k i) = (λ d. absurd (omega (arith, refusal-number k)), λ _. refl)
 
   withdrew-changes : (l : Ledger) (t : ℕ) {r : Outcome Ledger} → Withdrew l t r
-      → Changes n (Call.withdraw t) (r .told) (l .entries) (r .lent .entries)
+      → Changes p n (Call.withdraw t) (r .told) (l .entries) (r .lent .entries)
   withdrew-changes l t (dropped h) = (λ _. refl, λ i. absurd (omega arith))
   withdrew-changes l t overlong = (λ f. absurd (f (refusal-number Withdrawal)), λ _. refl)
 
   pub step-changes : (l : Ledger) (c : Call)
-      → Changes n c (replyOf (ledgerStep p ok n l c) .told) (l .entries) (ledgerStep p ok n l c .state .entries)
+      → Changes p n c (replyOf (ledgerStep p ok n l c) .told) (l .entries) (ledgerStep p ok n l c .state .entries)
   unfolding ledgerStep
   step-changes l (Call.take frame mix) = took-changes l frame mix (took p ok n l frame mix)
   step-changes l (Call.withdraw t) = withdrew-changes l t (withdrew l t)

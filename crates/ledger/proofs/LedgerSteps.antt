@@ -53,7 +53,7 @@ module _ (p : ℕ) (ok : IsModulus p) (n : ℕ) (l : Ledger) where
       ≡ inOrder (long? mix n else Length ⨾ passed) (λ _. takeFound (readFrame p n frame) mix) (untouched (l, mix))
   unfolding ledgerTake readFrame takeFound
   take-found frame mix =
-      let o = takeAccepted p ok n l (frameMultipliers n frame) (frameValue n frame) mix in
+      let o = takeAccepted p ok n l (frameMultipliers p n frame) (frameValue p n frame) mix in
       let lent : Ledger × List ℕ = (l, mix) in
       in-order-then (long? mix n else Length ⨾ passed) (frameChecks p n frame) o (untouched lent)
       ∙ ap (λ x. inOrder (long? mix n else Length ⨾ passed) (λ _. x) (untouched (l, mix)))

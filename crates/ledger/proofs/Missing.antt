@@ -111,13 +111,13 @@ module _ (p : ℕ) (ok : IsModulus p) (n : ℕ) where
 
   -- a unit row that is no combination is answered new and appended
   unit-step : (es : List Entry) (c : ℕ) → (InSpan p n es (unitRow n c) → ⊥)
-      → ledgerStep p ok n (ledger es) (unitTake n c)
+      → ledgerStep p ok n (ledger es) (unitTake p n c)
       ≡ after (ledger (es ++ (entry (unitRow n c) 0 ∷ []))) (reply (newTold (suc (length es))) (replicate n 0) [] ∷ [])
   unfolding ledgerStep unitTake
   unit-step es c free =
       let row = unit-numbers c in
       ap (λ (r : Outcome (Ledger × List ℕ)). after (r .lent .0) (reply (r .told) (r .lent .1) [] ∷ []))
-      (take-accepted p ok n es (frameOf n (unitRow n c) (0 ∷ [])) (replicate n 0) (unitRow n c) 0 (length-replicate n 0)
+      (take-accepted p ok n es (frameOf p n (unitRow n c) (0 ∷ [])) (replicate n 0) (unitRow n c) 0 (length-replicate n 0)
       (written-reads-back p n (unitRow n c) 0 (ok .in-range) (row .long) (row .below) (row .value-below))
       ∙ take-new p ok n es (unitRow n c) 0 (replicate n 0) free)
 
@@ -138,12 +138,12 @@ module _ (p : ℕ) (ok : IsModulus p) (n : ℕ) where
   -- its take, before takes that settle what is then left
   settling-next : (es : List Entry) (c : ℕ) → (InSpan p n es (unitRow n c) → ⊥) → (cs : List Call)
       → Settling p n cs (ledgerRun p ok n (ledger (withUnit es c)) cs)
-      → Settling p n (unitTake n c ∷ cs) (ledgerRun p ok n (ledger es) (unitTake n c ∷ cs))
+      → Settling p n (unitTake p n c ∷ cs) (ledgerRun p ok n (ledger es) (unitTake p n c ∷ cs))
   unfolding run news newIn unitTake
   settling-next es c free cs rest =
       subst
       (λ (one : After Ledger).
-      Settling p n (unitTake n c ∷ cs)
+      Settling p n (unitTake p n c ∷ cs)
       (after (ledgerRun p ok n (one .state) cs .state) (one .replies ++ ledgerRun p ok n (one .state) cs .replies)))
       (sym (unit-step es c free))
       (record {
@@ -155,7 +155,7 @@ module _ (p : ℕ) (ok : IsModulus p) (n : ℕ) where
   -- takes of the unit frames of d records settle all where d entries are missing
   unit-frames : (d : ℕ) (es : List Entry) → Proper p n es → length es + d ≡ n
       → (columns : List ℕ) × (length columns ≡ d)
-      × Settling p n (map (unitTake n) columns) (ledgerRun p ok n (ledger es) (map (unitTake n) columns))
+      × Settling p n (map (unitTake p n) columns) (ledgerRun p ok n (ledger es) (map (unitTake p n) columns))
   unfolding run news
   unit-frames zero es proper e = (
     [],
@@ -171,16 +171,16 @@ module _ (p : ℕ) (ok : IsModulus p) (n : ℕ) where
       Found : ℕ → List Entry → Type 0
       Found k ds =
           (columns : List ℕ) × (length columns ≡ k)
-          × Settling p n (map (unitTake n) columns) (ledgerRun p ok n (ledger ds) (map (unitTake n) columns))
+          × Settling p n (map (unitTake p n) columns) (ledgerRun p ok n (ledger ds) (map (unitTake p n) columns))
 
       go : ((c : ℕ) × (InSpan p n es (unitRow n c) → ⊥))
           → ((c : ℕ) → (InSpan p n es (unitRow n c) → ⊥) → Found d (withUnit es c)) → Found (suc d) es
       go (c, free) more =
           let (columns, many, rest) = more c free in
-          (c ∷ columns, ap suc many, settling-next es c free (map (unitTake n) columns) rest)
+          (c ∷ columns, ap suc many, settling-next es c free (map (unitTake p n) columns) rest)
 
   -- after some n - k takes, all answered new, all are settled: the takes of the unit frames of some records
   pub missing-enough : (es : List Entry) → Proper p n es
       → (columns : List ℕ) × (length columns ≡ n - length es)
-      × Settling p n (map (unitTake n) columns) (ledgerRun p ok n (ledger es) (map (unitTake n) columns))
+      × Settling p n (map (unitTake p n) columns) (ledgerRun p ok n (ledger es) (map (unitTake p n) columns))
   missing-enough es proper = unit-frames (n - length es) es proper (omega (arith, proper .fits))

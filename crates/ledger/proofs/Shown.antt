@@ -61,10 +61,10 @@ module _ (p : ℕ) (ok : IsModulus p) (n : ℕ) (es : List Entry) (proper : Prop
       }
     where
       xs : List ℕ
-      xs = frameMultipliers n frame
+      xs = frameMultipliers p n frame
 
       v : ℕ
-      v = frameValue n frame
+      v = frameValue p n frame
 
       told : Outcome (Ledger × List ℕ) → Told
       told r = r .told
@@ -163,7 +163,7 @@ module _ (p : ℕ) (ok : IsModulus p) (n : ℕ) (es : List Entry) (proper : Prop
 
   -- a frame answered repeat, or refused by 9, leaves the mix of its multipliers
   pub take-mixes : (frame mix : List ℕ) {r : Outcome (Ledger × List ℕ)} → Took p ok n (ledger es) frame mix r
-      → (r .told .number ≡ 100) ⊎ (r .told .number ≡ 9) → IsMix p n es (frameMultipliers n frame) (r .lent .1)
+      → (r .told .number ≡ 100) ⊎ (r .told .number ≡ 9) → IsMix p n es (frameMultipliers p n frame) (r .lent .1)
   take-mixes frame mix (new xs v e f) d = absurd (⊎-elim (λ q. omega arith) (λ q. omega arith) d)
   take-mixes frame mix (repeat xs v e c g) d = rw (accepted-found p n frame xs v e .0) (mix-is xs c)
   take-mixes frame mix (conflict xs v e c g) d = rw (accepted-found p n frame xs v e .0) (mix-is xs c)

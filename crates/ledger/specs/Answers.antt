@@ -29,11 +29,11 @@ use Rattle.ledger.specs.Settle.{Gives}
 -- otherwise refusal 9."
 pub record TakeAnswers (p n : ℕ) (es : List Entry) (frame mix : List ℕ) (told : Told) : Type 0 where
   pub refuses : (k : Refusal) → FirstFailing (takeChecks p n frame mix) k → told ≡ refused k
-  pub news : AllHold (takeChecks p n frame mix) → (InSpan p n es (frameMultipliers n frame) → ⊥) → told ≡ newTold (suc (length es))
-  pub repeats : AllHold (takeChecks p n frame mix) → (c : InSpan p n es (frameMultipliers n frame))
-      → GivesValue p es (c .0) (frameValue n frame) → told ≡ repeatTold (length es)
-  pub conflicts : AllHold (takeChecks p n frame mix) → (c : InSpan p n es (frameMultipliers n frame))
-      → (GivesValue p es (c .0) (frameValue n frame) → ⊥) → told ≡ refused Conflict
+  pub news : AllHold (takeChecks p n frame mix) → (InSpan p n es (frameMultipliers p n frame) → ⊥) → told ≡ newTold (suc (length es))
+  pub repeats : AllHold (takeChecks p n frame mix) → (c : InSpan p n es (frameMultipliers p n frame))
+      → GivesValue p es (c .0) (frameValue p n frame) → told ≡ repeatTold (length es)
+  pub conflicts : AllHold (takeChecks p n frame mix) → (c : InSpan p n es (frameMultipliers p n frame))
+      → (GivesValue p es (c .0) (frameValue p n frame) → ⊥) → told ≡ refused Conflict
 
 -- "Withdraw t: checks .. 10, then drops the last t entries. .. The answer is the count."
 pub record WithdrawAnswers (es : List Entry) (t : ℕ) (told : Told) : Type 0 where
@@ -56,12 +56,12 @@ Answers p n es (show low marks numbers) told = ShowAnswers p n es low marks numb
 
 -- how a call changes the standing frames, from es to fs, by what it told: "append: answer new, .. Neither changes the list", "drops the last
 -- t entries", "A refused call leaves it as it is"; a show only reads them
-abbrev pub Changes : (n : ℕ) → Call → Told → (es fs : List Entry) → Type 0
-Changes n (take frame mix) told es fs =
-    (told .number ≡ 0 → fs ≡ es ++ (entry (frameMultipliers n frame) (frameValue n frame) ∷ [])) × ((told .number ≡ 0 → ⊥) → fs ≡ es)
-Changes n (withdraw t) told es fs =
+abbrev pub Changes : (p n : ℕ) → Call → Told → (es fs : List Entry) → Type 0
+Changes p n (take frame mix) told es fs =
+    (told .number ≡ 0 → fs ≡ es ++ (entry (frameMultipliers p n frame) (frameValue p n frame) ∷ [])) × ((told .number ≡ 0 → ⊥) → fs ≡ es)
+Changes p n (withdraw t) told es fs =
     ((IsRefusal (told .number) → ⊥) → fs ≡ lists.take (length es - t) es) × (IsRefusal (told .number) → fs ≡ es)
-Changes n (show low marks numbers) told es fs = fs ≡ es
+Changes p n (show low marks numbers) told es fs = fs ≡ es
 
 -- ---- what is written
 

@@ -43,9 +43,9 @@ module _ (p : ℕ) (ok : IsModulus p) (n : ℕ) (ws : List ℕ) where
   abbrev pub SettlingTakes : List Call → Type 0
   SettlingTakes cs =
       (columns : List ℕ) × (length columns ≡ n - countWord (wordsAfter p n ws cs))
-      × ((r : Reply) → List·Memᴰ r (boardRun (wordsAfter p n ws cs) (map (unitTake n) columns) .replies) → r .told .number ≡ 0)
-      × (news (map (unitTake n) columns) (boardRun (wordsAfter p n ws cs) (map (unitTake n) columns) .replies) ≡ length columns)
-      × AllSettled p n (standing p ok n (cs ++ map (unitTake n) columns))
+      × ((r : Reply) → List·Memᴰ r (boardRun (wordsAfter p n ws cs) (map (unitTake p n) columns) .replies) → r .told .number ≡ 0)
+      × (news (map (unitTake p n) columns) (boardRun (wordsAfter p n ws cs) (map (unitTake p n) columns) .replies) ≡ length columns)
+      × AllSettled p n (standing p ok n (cs ++ map (unitTake p n) columns))
 
   pub record Demand3 (cs : List Call) : Type 0 where
     -- "After the list these equal the ledger's: every answer ..; every mix, mark and number as its call left it; all board words,
@@ -56,7 +56,7 @@ module _ (p : ℕ) (ok : IsModulus p) (n : ℕ) (ws : List ℕ) where
     pub answers : (t : Turn cs) → Answers p n (standing p ok n (t .before)) (t .call) (replyAt p n ws t .told)
     -- and changes the standing frames as 01 says
     pub changes : (t : Turn cs)
-        → Changes n (t .call) (replyAt p n ws t .told) (standing p ok n (t .before)) (standing p ok n (t .before ++ (t .call ∷ [])))
+        → Changes p n (t .call) (replyAt p n ws t .told) (standing p ok n (t .before)) (standing p ok n (t .before ++ (t .call ∷ [])))
     -- "answer new, with the count", "The answer is the count": of the board that the call left
     pub counted : (t : Turn cs) → Counted n (t .call) (replyAt p n ws t .told) (countWord (left boardStep (freshBoard p n ws) t))
     -- memory that a call is lent and does not write is as it was
@@ -88,7 +88,7 @@ module _ (p : ℕ) (ok : IsModulus p) (n : ℕ) (ws : List ℕ) where
     -- repeat, 100, or refused by 9
     pub mixes : (t : Turn cs) (frame mix : List ℕ) → t .call ≡ take frame mix
         → (replyAt p n ws t .told .number ≡ 100) ⊎ (replyAt p n ws t .told .number ≡ 9)
-        → IsMix p n (standing p ok n (t .before)) (frameMultipliers n frame) (replyAt p n ws t .words)
+        → IsMix p n (standing p ok n (t .before)) (frameMultipliers p n frame) (replyAt p n ws t .words)
     -- "Missing = n - k: every list of further calls after which all records are settled has at least n - k takes answered new"
     pub missing-at-least : (ds : List Call) → AllSettled p n (standing p ok n (cs ++ ds))
         → n - countWord (wordsAfter p n ws cs) ≤ news ds (boardRun (wordsAfter p n ws cs) ds .replies)

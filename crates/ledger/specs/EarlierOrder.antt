@@ -23,7 +23,7 @@ use Rattle.ledger.specs.Turns.{Turn, got, left, answered}
 unfoldable pub earlierTake : (p : ℕ) → IsModulus p → (n : ℕ) → Ledger → (frame mix : List ℕ) → Outcome (Ledger × List ℕ)
 earlierTake p ok n l frame mix =
     inOrder (long? mix n else Length ⨾ earlierChecks p n frame)
-    (λ _. takeAccepted p ok n l (frameMultipliers n frame) (frameValue n frame) mix) (untouched (l, mix))
+    (λ _. takeAccepted p ok n l (frameMultipliers p n frame) (frameValue p n frame) mix) (untouched (l, mix))
 
 unfoldable pub earlierTakeCall : (ws frame mix : List ℕ) → Outcome (List ℕ × List ℕ)
 earlierTakeCall ws frame mix =
@@ -39,7 +39,7 @@ earlierStep ws (Call.show low marks numbers) = boardStep ws (Call.show low marks
 
 -- where the answer of take moved: 11 and 3 are passed, and the frame is one of those that the request names
 abbrev pub TakeMoved : (ws frame mix : List ℕ) → Type 0
-TakeMoved ws frame mix = IsBoard ws × ((length mix ≡ sizeWord ws) × Moved (sizeWord ws) frame)
+TakeMoved ws frame mix = IsBoard ws × ((length mix ≡ sizeWord ws) × Moved (modulusWord ws) (sizeWord ws) frame)
 
 -- there take gave 7 and gives 6, with board and mix as they were either way
 abbrev pub TakeMoves : (ws frame mix : List ℕ) → Type 0

@@ -38,5 +38,5 @@ unfoldable pub unitRow : (n c : ℕ) → List ℕ
 unitRow n c = tabulate n (λ j. choose (eqb c j) 1 0)
 
 -- the take that is lent the bytes of the frame with these multipliers and value 0, and a mix of n words
-unfoldable pub unitTake : (n c : ℕ) → Call
-unitTake n c = take (frameOf n (unitRow n c) (0 ∷ [])) (replicate n 0)
+unfoldable pub unitTake : (p n c : ℕ) → Call
+unitTake p n c = take (frameOf p n (unitRow n c) (0 ∷ [])) (replicate n 0)

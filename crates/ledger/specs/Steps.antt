@@ -57,7 +57,7 @@ module _ (p : ℕ) (ok : IsModulus p) (n : ℕ) (l : Ledger) where
 
   unfoldable pub ledgerTake : (frame mix : List ℕ) → Outcome (Ledger × List ℕ)
   ledgerTake frame mix =
-      inOrder (takeChecks p n frame mix) (λ _. takeAccepted (frameMultipliers n frame) (frameValue n frame) mix) (untouched (l, mix))
+      inOrder (takeChecks p n frame mix) (λ _. takeAccepted (frameMultipliers p n frame) (frameValue p n frame) mix) (untouched (l, mix))
 
 -- ---- withdraw: 10, then the last t entries are dropped
 

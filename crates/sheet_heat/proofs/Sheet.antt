@@ -21,7 +21,7 @@ use Rattle.checks.specs.Largest.{largest, FrameSize}
 use Rattle.checks.specs.Sizes.{frameSizes}
 use Rattle.checks.proofs.Refusals.{refusal-number}
 use Rattle.checks.proofs.InOrder.{in-order-elim}
-use Rattle.codec.specs.BigEndian.{width, numberFrom, numberAt}
+use Rattle.codec.specs.BigEndian.{numberFrom, numberAt}
 use Rattle.ledger.specs.Ledger.{Ledger, ledger}
 use Rattle.ledger.specs.Steps.{ledgerTake}
 use Rattle.signed.specs.Balanced.{balancedLow}
@@ -180,7 +180,7 @@ module _ (board mix : ℕ → List ℕ) (board-long : (n : ℕ) → n ≤ larges
 
   -- for every input that is no longer than the budget
   pub sheet-by-calls : (budget : ℕ) (input : List ℕ) → length input ≤ budget → sheetByCalls board mix budget input ≡ sheetOf input
-  unfolding sheetByCalls sheetOf headerCall numberAt width
+  unfolding sheetByCalls sheetOf headerCall numberAt
   sheet-by-calls budget [] h = refl
   sheet-by-calls budget (a ∷ []) h = refl
   sheet-by-calls budget (a ∷ b ∷ []) h = refl

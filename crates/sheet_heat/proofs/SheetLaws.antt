@@ -16,7 +16,7 @@ use Rattle.checks.specs.Largest.{FrameSize}
 use Rattle.checks.specs.Sizes.{frameSizes}
 use Rattle.checks.proofs.Modulus.{modulus-prop}
 use Rattle.checks.proofs.InOrder.{none-left, in-order-done, in-order-refused, _and-then_}
-use Rattle.codec.specs.BigEndian.{width, numberFrom, numberAt}
+use Rattle.codec.specs.BigEndian.{numberFrom, numberAt}
 use Rattle.ledger.specs.Ledger.{Ledger, ledger}
 use Rattle.sheet_text.specs.Lines.{refusedLine}
 use Rattle.sheet_heat.specs.Sheet.{cutLine, ledgerEnding, cutEnding, ledgerAfter, ledgerLine, linesWithin, linesFrom, heatOf, sheetOf}
@@ -107,7 +107,7 @@ sheet-cut-header input h = rw (lt-ltb (length input) 5 h)
 
 module _ (input : List ℕ) (whole : 5 ≤ length input) where
   abbrev modulus : ℕ
-  modulus = numberAt width input 0
+  modulus = numberAt 4 input 0
 
   abbrev records : ℕ
   records = getD input 4 0

@@ -13,7 +13,7 @@ use Rattle.checks.specs.Told.{Told}
 use Rattle.checks.specs.Outcome.{Outcome}
 use Rattle.checks.specs.Prime.{IsModulus}
 use Rattle.checks.specs.Sizes.{frameSizes}
-use Rattle.codec.specs.BigEndian.{width, numberFrom, numberAt}
+use Rattle.codec.specs.BigEndian.{numberFrom, numberAt}
 use Rattle.signed.specs.Balanced.{balancedLow}
 use Rattle.ledger.specs.Ledger.{Ledger, ledger}
 use Rattle.ledger.specs.Steps.{ledgerTake, ledgerShow}
@@ -75,4 +75,4 @@ heatOf p n bytes = inOrder (frameSizes p n) (λ given. linesFrom p (given .0) n 
 
 -- "A cut header prints the line `refused 6` alone"
 unfoldable pub sheetOf : List ℕ → List ℕ
-sheetOf input = choose (ltb (length input) 5) cutLine (heatOf (numberAt width input 0) (getD input 4 0) (drop 5 input))
+sheetOf input = choose (ltb (length input) 5) cutLine (heatOf (numberAt 4 input 0) (getD input 4 0) (drop 5 input))

@@ -8,7 +8,7 @@ use lib.IntN.{pos}
 use lib.ListN.{length, getD}
 use Rattle.checks.specs.declared.Refusal.the-variants.{FrameLength}
 use Rattle.checks.specs.Told.{refused, done, gives}
-use Rattle.codec.specs.BigEndian.{width, numberAt}
+use Rattle.codec.specs.BigEndian.{numberAt}
 use Rattle.sheet_text.specs.Input.{headerCall, frameStart, frameBody}
 
 -- the header's answers
@@ -18,7 +18,7 @@ header-cut bs h = rw (lt-ltb (length bs) 5 h)
 
 pub header-open :
     (bs : List ℕ) → 5 ≤ length bs
-    → headerCall bs ≡ record { number = 0; values = pos (numberAt width bs 0) ∷ pos (getD bs 4 0) ∷ [] }
+    → headerCall bs ≡ record { number = 0; values = pos (numberAt 4 bs 0) ∷ pos (getD bs 4 0) ∷ [] }
 unfolding headerCall
 header-open bs h = rw (le-ltb (length bs) 5 h)
 

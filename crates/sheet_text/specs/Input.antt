@@ -9,7 +9,7 @@ use lib.ListN.{length, getD}
 use Rattle.algebra.specs.Choice.{choose}
 use Rattle.checks.specs.declared.Refusal.the-variants.{FrameLength}
 use Rattle.checks.specs.Told.{Told, refused, done, gives}
-use Rattle.codec.specs.BigEndian.{width, numberFrom, numberAt}
+use Rattle.codec.specs.BigEndian.{numberFrom, numberAt}
 use Rattle.sheet_text.specs.declared.HeaderAnswer.{HeaderAnswer}
 use Rattle.sheet_text.specs.declared.HeaderAnswer.the-variants as heading
 use Rattle.sheet_text.specs.declared.FrameInput.{FrameInput}
@@ -27,7 +27,7 @@ unfoldable pub headerCall : List ℕ → Told
 headerCall bytes =
     choose (ltb (length bytes) 5)
     (refused FrameLength)
-    (record { number = 0; values = pos (numberAt width bytes 0) ∷ pos (getD bytes 4 0) ∷ [] })
+    (record { number = 0; values = pos (numberAt 4 bytes 0) ∷ pos (getD bytes 4 0) ∷ [] })
 
 -- ---- frames
 

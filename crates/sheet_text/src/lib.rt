@@ -106,7 +106,7 @@ pub fn header(bytes: &[u8]) -> HeaderAnswer
     if bytes.len() < 5 {
         return HeaderAnswer::Cut;
     }
-    HeaderAnswer::Open(codec::number_at(bytes, 0), bytes[4] as u32)
+    HeaderAnswer::Open(codec::number_at(bytes, 0, 4), bytes[4] as u32)
 }
 
 // What comes next, from the bytes that came of a frame's two length bytes: none where the input ends.
@@ -120,7 +120,7 @@ pub fn frame_start(bytes: &[u8]) -> FrameInput
     if bytes.len() < 2 {
         return FrameInput::Cut;
     }
-    FrameInput::Frame(codec::pair_at(bytes, 0) as usize)
+    FrameInput::Frame(codec::number_at(bytes, 0, 2) as usize)
 }
 
 // Whether a frame of that length is whole, from how many of its bytes came.

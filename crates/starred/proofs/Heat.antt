@@ -17,8 +17,9 @@ use Rattle.field.specs.Residue.{reduce, _⊕_, _⊗_}
 use Rattle.field.specs.Written.{tabulate}
 use Rattle.field.proofs.Written.{is-tabulate}
 use Rattle.algebra.specs.Matrix.{sum, unit, apply, mixed}
-use Rattle.codec.specs.BigEndian.{width, bytesOf}
-use Rattle.frame.specs.Format.{mapLength, stands, mapByte, mapBytes, packed, valueBytes, frameOf}
+use Rattle.codec.specs.BigEndian.{bytesOf}
+use Rattle.frame.specs.Width.{width}
+use Rattle.frame.specs.Format.{mapLength, stands, mapByte, mapBytes, packed, valueBytes, frameIn, frameOf}
 use Rattle.frame.specs.Reading.{accepted, readFrame}
 use Rattle.frame.proofs.Round.{written-reads-back}
 use Rattle.signed.specs.Reading.{reading}
@@ -50,7 +51,7 @@ module _ (p n : ℕ) where
       eqb (length (f .multipliers)) n
       and areBelow p (f .multipliers)
       and ltb (f .value) p
-      and areSame (frameOf n (f .multipliers) (f .value ∷ [])) (f .bytes)
+      and areSame (frameOf p n (f .multipliers) (f .value ∷ [])) (f .bytes)
 
   -- the frame is answered so where the entries es stand; a vector in xs separates a new one from them
   unfoldable pub isTaken : List (List ℕ) → List Entry → HeatFrame → Bool
@@ -218,7 +219,7 @@ all-pass : every (λ (q : HeatExample × Witnesses). passes (q .0) (q .1)) witne
 unfolding every witnessed sheetHeat sheetWitnesses unsettledHeat unsettledWitnesses firstFrames keptEntries passes areSizes isPrime
     areTaken isTaken isWritten isAnswer isMix areShown isShown sendToZero isCombination areBelow areSame everyBelow _and_ same sameℤ
     multiplierRows valueColumn mixWords sum unit apply mixed tabulate reduce _⊕_ _⊗_ reading balancedLow
-    frameOf mapBytes mapByte mapLength stands packed valueBytes bytesOf width
+    frameIn mapBytes mapByte mapLength stands packed valueBytes bytesOf width
 all-pass = refl
 
 -- every heat holds

@@ -17,11 +17,12 @@ use Rattle.checks.specs.Outcome.{Outcome}
 use Rattle.checks.specs.Prime.{IsModulus}
 use Rattle.checks.proofs.InOrder.{in-order-done}
 use Rattle.checks.proofs.Modulus.{modulus-prop}
-use Rattle.codec.specs.BigEndian.{width, bytesOf, numberFrom, numberAt}
+use Rattle.codec.specs.BigEndian.{bytesOf, numberFrom, numberAt}
 use Rattle.codec.specs.Decimal.{digitsWithin, decimal, minus, signedDecimal}
 use Rattle.field.specs.Residue.{reduce, _⊕_, _⊗_}
 use Rattle.field.specs.Written.{tabulate}
-use Rattle.frame.specs.Format.{mapLength, stands, mapByte, mapBytes, packed, valueBytes, frameOf}
+use Rattle.frame.specs.Width.{width}
+use Rattle.frame.specs.Format.{mapLength, stands, mapByte, mapBytes, packed, valueBytes, frameIn}
 use Rattle.frame.proofs.Calls.{sizes-hold}
 use Rattle.signed.specs.Reading.{reading}
 use Rattle.signed.specs.Balanced.{balancedLow}
@@ -64,7 +65,7 @@ areShort (f ∷ fs) = eqb (numberFrom 0 (bytesOf 2 (length (f .bytes)))) (length
 unfoldable isStream : HeatExample → Bool
 isStream h =
     not (ltb (length (streamOf h)) 5)
-    and eqb (numberAt width (streamOf h) 0) (h .modulus)
+    and eqb (numberAt 4 (streamOf h) 0) (h .modulus)
     and eqb (getD (streamOf h) 4 0) (h .size)
     and areSame (drop 5 (streamOf h)) (framesStream (h .frames))
     and areShort (h .frames)
@@ -137,7 +138,7 @@ passed-prints e w t =
     let (stream, n-read) = both _ _ stream in
     let (long, p-read) = both _ _ stream in
     let (ok, size) = sizes-checked p n sizes in
-    ap (λ b. choose b cutLine (heatOf (numberAt width input 0) (getD input 4 0) (drop 5 input))) (not-true (ltb (length input) 5) long)
+    ap (λ b. choose b cutLine (heatOf (numberAt 4 input 0) (getD input 4 0) (drop 5 input))) (not-true (ltb (length input) 5) long)
     ∙ ap (λ q. heatOf q (getD input 4 0) (drop 5 input)) (eqb-true _ _ p-read)
     ∙ ap₂ (heatOf p) (eqb-true _ _ n-read) (all-same _ _ frames)
     ∙ in-order-done _ _ _ (sizes-hold p n ok size)
@@ -156,7 +157,7 @@ all-pass : every (λ (q : SheetExample × Witnesses). prints (q .0) (q .1)) witn
 unfolding every witnessed nineLines unknownLines sheetHeat sheetWitnesses unsettledHeat unsettledWitnesses firstFrames keptEntries
     prints passes areSizes isPrime areTaken isTaken isWritten isAnswer isMix areShown isShown sendToZero isCombination areBelow areSame
     everyBelow _and_ same sameℤ multiplierRows valueColumn mixWords sum unit apply mixed tabulate reduce _⊕_ _⊗_ reading balancedLow
-    frameOf mapBytes mapByte mapLength stands packed valueBytes bytesOf width
+    frameIn mapBytes mapByte mapLength stands packed valueBytes bytesOf width
     isStream areShort streamOf framesStream numberFrom numberAt textOf framesText frameLine wordLine recordLines recordLine recordText
     newWord repeatWord conflictWord refusedWord missingWord unknownWord space lineFeed decimal digitsWithin minus signedDecimal
 all-pass = refl

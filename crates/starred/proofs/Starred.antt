@@ -6,16 +6,17 @@ use mathlib.Core.Logic.{⊎-elim}
 use mathlib.Core.List.{List, [], map, Memᴰ·of-map, List·Memᴰ, List·Memᴰ·append-cases}
 use Rattle.algebra.specs.Matrix.{sum, mixed}
 use Rattle.checks.specs.Outcome.{Outcome}
-use Rattle.codec.specs.BigEndian.{width, bytesOf}
+use Rattle.codec.specs.BigEndian.{bytesOf}
 use Rattle.field.specs.Residue.{reduce, _⊕_, _⊗_}
 use Rattle.field.specs.Written.{tabulate}
 use Rattle.matrix.specs.Examples.{tableExamples}
 use Rattle.matrix.proofs.Checker.{_and_, every, everyBelow, both, every-member}
 use Rattle.matrix.proofs.CheckedTables.{areBelow, areSame, isPrime, same}
 use Rattle.matrix.proofs.Examples.{starred-tables-hold}
-use Rattle.frame.specs.Examples.{FrameExample, frameExamples, FrameHolds}
-use Rattle.frame.specs.Format.{mapLength, stands, mapByte, mapBytes, packed, valueBytes, frameOf}
-use Rattle.frame.proofs.Examples.{starred-frames-read}
+use Rattle.frame.specs.Examples.{FrameExample, starredFrame, frameExamples, oneByteFrame, twoByteFrame, widthFrames, FrameHolds}
+use Rattle.frame.specs.Width.{width}
+use Rattle.frame.specs.Format.{mapLength, stands, mapByte, mapBytes, packed, valueBytes, frameIn}
+use Rattle.frame.proofs.Examples.{starred-frames-read, width-frames-read}
 use Rattle.ledger.specs.Calls.{laidOut, takeCall}
 use Rattle.ledger.specs.Ledger.{valueColumn}
 use Rattle.ledger.specs.Steps.{mixWords}
@@ -31,13 +32,22 @@ use Rattle.starred.proofs.Heat.{isWritten, isTaken, frame-taken}
 
 -- the sizes of every example pass, computed
 frame-sizes : every (λ (e : FrameExample). areSizes (e .modulus) (e .size)) frameExamples ≡ true
-unfolding every frameExamples areSizes isPrime everyBelow _and_
+unfolding every frameExamples starredFrame areSizes isPrime everyBelow _and_
 frame-sizes = refl
 
 -- so read gives what the example says
 starred-frames-hold : (e : FrameExample) → List·Memᴰ e frameExamples → FrameHolds e
 starred-frames-hold e m lent long =
     starred-frames-read e m (sizes-checked (e .modulus) (e .size) (every-member _ frameExamples frame-sizes e m) .0) lent long
+
+-- and likewise of the frames of 02, #111, on both sides of a width's end
+width-sizes : every (λ (e : FrameExample). areSizes (e .modulus) (e .size)) widthFrames ≡ true
+unfolding every widthFrames oneByteFrame twoByteFrame areSizes isPrime everyBelow _and_
+width-sizes = refl
+
+pub width-frames-hold : (e : FrameExample) → List·Memᴰ e widthFrames → FrameHolds e
+width-frames-hold e m lent long =
+    width-frames-read e m (sizes-checked (e .modulus) (e .size) (every-member _ widthFrames width-sizes e m) .0) lent long
 
 -- ---- the board
 
@@ -58,7 +68,7 @@ passed-holds e t ws mix ws-long long =
 -- every example passes, computed
 boards-pass : every passes boardExamples ≡ true
 unfolding every passes boardExamples areSizes isPrime isTaken isWritten isAnswer isMix isCombination areBelow areSame everyBelow _and_ same
-    valueColumn mixWords sum mixed tabulate reduce _⊕_ _⊗_ frameOf mapBytes mapByte mapLength stands packed valueBytes bytesOf width
+    valueColumn mixWords sum mixed tabulate reduce _⊕_ _⊗_ frameIn mapBytes mapByte mapLength stands packed valueBytes bytesOf width
 boards-pass = refl
 
 starred-boards-hold : (e : BoardExample) → List·Memᴰ e boardExamples → BoardHolds e

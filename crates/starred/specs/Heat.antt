@@ -1,6 +1,7 @@
 -- Heats from open to show, as data, and what it is for one to hold of the definitions that the calls' contracts name. 01, "The
 -- sheet program and the C side": "With p = 7, n = 3 and the frames (1 2 0) 5, (0 1 3) 4, (1 3 3) 2, (1 3 3) 3, (0 0 1) 6 it prints
--- all of: `new 1`, `new 2`, `repeat 2`, `conflict 2`, `new 3`, `0 -2`, `1 0`, `2 -1`, `missing 0`."
+-- all of: `new 1`, `new 2`, `repeat 2`, `conflict 2`, `new 3`, `0 -2`, `1 0`, `2 -1`, `missing 0`." A number of these frames has one byte
+-- (02, #111).
 use mathlib.Core.Path.{_≡_}
 use mathlib.Core.List.{List, [], _∷_, _++_}
 use Prim.Native.Nat.{ℕ, suc}
@@ -43,13 +44,13 @@ pub record HeatExample : Type 0 where
 unfoldable pub firstFrames : List HeatFrame
 firstFrames =
     record {
-      bytes = 0x03 ∷ 0 ∷ 0 ∷ 0 ∷ 1 ∷ 0 ∷ 0 ∷ 0 ∷ 2 ∷ 0 ∷ 0 ∷ 0 ∷ 5 ∷ [];
+      bytes = 0x03 ∷ 1 ∷ 2 ∷ 5 ∷ [];
       multipliers = 1 ∷ 2 ∷ 0 ∷ [];
       value = 5;
       answer = new 1;
     }
     ∷ record {
-      bytes = 0x06 ∷ 0 ∷ 0 ∷ 0 ∷ 1 ∷ 0 ∷ 0 ∷ 0 ∷ 3 ∷ 0 ∷ 0 ∷ 0 ∷ 4 ∷ [];
+      bytes = 0x06 ∷ 1 ∷ 3 ∷ 4 ∷ [];
       multipliers = 0 ∷ 1 ∷ 3 ∷ [];
       value = 4;
       answer = new 2;
@@ -65,19 +66,19 @@ sheetHeat =
       frames =
           firstFrames
           ++ (record {
-            bytes = 0x07 ∷ 0 ∷ 0 ∷ 0 ∷ 1 ∷ 0 ∷ 0 ∷ 0 ∷ 3 ∷ 0 ∷ 0 ∷ 0 ∷ 3 ∷ 0 ∷ 0 ∷ 0 ∷ 2 ∷ [];
+            bytes = 0x07 ∷ 1 ∷ 3 ∷ 3 ∷ 2 ∷ [];
             multipliers = 1 ∷ 3 ∷ 3 ∷ [];
             value = 2;
             answer = repeat 2 (1 ∷ 1 ∷ 0 ∷ []);
           }
           ∷ record {
-            bytes = 0x07 ∷ 0 ∷ 0 ∷ 0 ∷ 1 ∷ 0 ∷ 0 ∷ 0 ∷ 3 ∷ 0 ∷ 0 ∷ 0 ∷ 3 ∷ 0 ∷ 0 ∷ 0 ∷ 3 ∷ [];
+            bytes = 0x07 ∷ 1 ∷ 3 ∷ 3 ∷ 3 ∷ [];
             multipliers = 1 ∷ 3 ∷ 3 ∷ [];
             value = 3;
             answer = conflict (1 ∷ 1 ∷ 0 ∷ []);
           }
           ∷ record {
-            bytes = 0x04 ∷ 0 ∷ 0 ∷ 0 ∷ 1 ∷ 0 ∷ 0 ∷ 0 ∷ 6 ∷ [];
+            bytes = 0x04 ∷ 1 ∷ 6 ∷ [];
             multipliers = 0 ∷ 0 ∷ 1 ∷ [];
             value = 6;
             answer = new 3;

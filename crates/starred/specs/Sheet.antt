@@ -4,7 +4,7 @@ use mathlib.Core.Path.{_≡_}
 use mathlib.Core.List.{List, [], _∷_, _++_}
 use Prim.Native.Nat.{ℕ}
 use lib.ListN.{length}
-use Rattle.codec.specs.BigEndian.{width, bytesOf}
+use Rattle.codec.specs.BigEndian.{bytesOf}
 use Rattle.sheet_text.specs.Text.{ascii}
 use Rattle.sheet_heat.specs.Sheet.{sheetOf}
 use Rattle.starred.specs.Heat.{HeatFrame, HeatExample, sheetHeat, unsettledHeat}
@@ -15,7 +15,7 @@ framesStream [] = []
 framesStream (f ∷ fs) = bytesOf 2 (length (f .bytes)) ++ (f .bytes ++ framesStream fs)
 
 unfoldable pub streamOf : HeatExample → List ℕ
-streamOf h = bytesOf width (h .modulus) ++ (h .size ∷ framesStream (h .frames))
+streamOf h = bytesOf 4 (h .modulus) ++ (h .size ∷ framesStream (h .frames))
 
 -- a heat, and what is printed of it
 pub record SheetExample : Type 0 where

@@ -17,7 +17,8 @@ pub record BoardExample : Type 0 where
   pub size : ℕ
   pub taken : HeatFrame
 
--- "n = 3, p = 7: `00 00000000` on a fresh board is a repeat, and with value 1 it gives 9"
+-- "n = 3, p = 7: `00 00000000` on a fresh board is a repeat, and with value 1 it gives 9"; "the cases with p = 7 are recut to this
+-- width" (02, #111), one byte: `00 00` and `00 01`
 unfoldable pub boardExamples : List BoardExample
 boardExamples =
     record {
@@ -25,7 +26,7 @@ boardExamples =
       size = 3;
       taken =
           record {
-            bytes = 0x00 ∷ 0 ∷ 0 ∷ 0 ∷ 0 ∷ [];
+            bytes = 0x00 ∷ 0x00 ∷ [];
             multipliers = 0 ∷ 0 ∷ 0 ∷ [];
             value = 0;
             answer = repeat 0 (0 ∷ 0 ∷ 0 ∷ []);
@@ -36,7 +37,7 @@ boardExamples =
       size = 3;
       taken =
           record {
-            bytes = 0x00 ∷ 0 ∷ 0 ∷ 0 ∷ 1 ∷ [];
+            bytes = 0x00 ∷ 0x01 ∷ [];
             multipliers = 0 ∷ 0 ∷ 0 ∷ [];
             value = 1;
             answer = conflict (0 ∷ 0 ∷ 0 ∷ []);

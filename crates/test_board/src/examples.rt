@@ -1,5 +1,6 @@
-// Document 01's examples of the board that are not starred, and the order of the checks: where a function here names an
-// order, what one check refuses the later ones would refuse too. The starred examples are theorems, in starred/proofs.
+// Document 01's examples of the board that are not starred, a frame whose numbers have another width than document 02's #111 gives
+// them, and the order of the checks: where a function here names an order, what one check refuses the later ones would refuse too. The
+// starred examples are theorems, in starred/proofs.
 ghost use Prim.Native.Nat.{_≤_};
 ghost use Rattle.ledger.specs.Board.{largestBoard};
 use super::memory;
@@ -71,36 +72,16 @@ fn open_order() {
 
 // The first two frames of the sheet's example: (1 2 0) 5, (0 1 3) 4. Columns 0 and 1 are in I, and no record is settled.
 fn wrong_sheet(board: &mut [u32; 15]) {
-    take(
-        b"sheet-first",
-        board,
-        b"\x03\0\0\0\x01\0\0\0\x02\0\0\0\x05",
-        3,
-    );
-    take(
-        b"sheet-second",
-        board,
-        b"\x06\0\0\0\x01\0\0\0\x03\0\0\0\x04",
-        3,
-    );
+    take(b"sheet-first", board, b"\x03\x01\x02\x05", 3);
+    take(b"sheet-second", board, b"\x06\x01\x03\x04", 3);
     show(b"wrong-sheet", board, 3, 3, 3);
 }
 
 // The other three: (1 3 3) 2, (1 3 3) 3, (0 0 1) 6. All records are settled, and none is missing.
 fn sheet(board: &mut [u32; 15]) {
-    take(
-        b"sheet-repeat",
-        board,
-        b"\x07\0\0\0\x01\0\0\0\x03\0\0\0\x03\0\0\0\x02",
-        3,
-    );
-    take(
-        b"sheet-conflict",
-        board,
-        b"\x07\0\0\0\x01\0\0\0\x03\0\0\0\x03\0\0\0\x03",
-        3,
-    );
-    take(b"sheet-third", board, b"\x04\0\0\0\x01\0\0\0\x06", 3);
+    take(b"sheet-repeat", board, b"\x07\x01\x03\x03\x02", 3);
+    take(b"sheet-conflict", board, b"\x07\x01\x03\x03\x03", 3);
+    take(b"sheet-third", board, b"\x04\x01\x06", 3);
     show(b"sheet", board, 3, 3, 3);
 }
 
@@ -113,6 +94,12 @@ fn low_ends(board: &[u32; 15]) {
     show(b"low-6", board, 6, 3, 3);
     show(b"low-7", board, 7, 3, 3);
     show(b"low-most", board, 4294967295, 3, 3);
+}
+
+// The frame (0 0 1) 6 once more, and with numbers of four bytes, where 7 needs one.
+fn widths(board: &mut [u32; 15]) {
+    take(b"one-byte", board, b"\x04\x01\x06", 3);
+    take(b"four-bytes", board, b"\x04\0\0\0\x01\0\0\0\x06", 3);
 }
 
 // 3 before 6, which an empty frame gets, and before 4, which a low end of p gets.
@@ -139,6 +126,7 @@ fn run_on(board: &mut [u32; 15]) {
     wrong_sheet(board);
     sheet(board);
     low_ends(board);
+    widths(board);
     call_order(board);
     no_board(board);
 }

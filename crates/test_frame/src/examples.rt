@@ -1,5 +1,6 @@
-// Document 01's examples of frames that are not starred, examples of padding as document 02's #101 has it, and the order of the
-// checks: where a function here names an order, what one check refuses the later ones would refuse too. The starred example is a theorem, in frame/proofs/Examples.antt.
+// Document 01's examples of frames that are not starred, examples of padding and of the width of numbers as document 02's #101 and
+// #111 have it, and the order of the checks: where a function here names an order, what one check refuses the later ones would refuse
+// too. The starred example is a theorem, in frame/proofs/Examples.antt.
 ghost use Prim.Native.Nat.{_≤_};
 use super::memory;
 use super::report;
@@ -46,9 +47,14 @@ fn seal(name: &[u8], p: u32, n: u32, low: u32, records: &[i32], multipliers: &[u
     output::print_end();
 }
 
-// A frame of one multiplier below 256, with n = 3 and p = 7.
+// A frame of three records.
+fn read_three(name: &[u8], p: u32, bytes: &[u8]) {
+    read(name, p, 3, bytes, 3);
+}
+
+// The same with one multiplier, modulo 7, where a number has one byte.
 fn read_frame(name: &[u8], bits: u8, multiplier: u8, value: u8) {
-    read(name, 7, 3, &[bits, 0, 0, 0, multiplier, 0, 0, 0, value], 3);
+    read_three(name, 7, &[bits, multiplier, value]);
 }
 
 // An empty frame, which the last check refuses.
@@ -63,12 +69,58 @@ fn read_empty(name: &[u8], p: u32, n: u32, room: usize)
 fn padded_reads() {
     read_frame(b"padding", 8, 1, 2);
     read_frame(b"padding-and-numbers", 8, 0, 7);
-    read(b"padding-cut", 7, 3, &[8, 0, 0, 0, 1, 0, 0, 0], 3);
-    read(b"padding-without-number", 7, 3, &[8, 0, 0, 0, 2], 3);
-    read(b"padding-alone", 7, 3, &[8], 3);
-    read(b"padding-long", 7, 3, &[8, 0, 0, 0, 1, 0, 0, 0, 2, 0], 3);
-    read(b"no-padding", 7, 8, &[8, 0, 0, 0, 1, 0, 0, 0, 2], 8);
-    read(b"no-padding-cut", 7, 8, &[8, 0, 0, 0, 1, 0, 0, 0], 8);
+    read_three(b"padding-without-number", 7, b"\x08\x02");
+    read_three(b"padding-alone", 7, b"\x08");
+    read_three(b"padding-long", 7, b"\x08\x01\x02\0");
+    read(b"no-padding", 7, 8, b"\x08\x01\x02", 8);
+    read(b"no-padding-cut", 7, 8, b"\x08\x01", 8);
+    read_three(b"padding-wide", 257, b"\x08\0\x01\0\x02");
+    read_three(b"padding-wide-cut", 257, b"\x08\0\x01\0");
+    read_three(b"padding-wide-without-number", 257, b"\x08\0\x02");
+}
+
+// On both sides of where one, two and three bytes end, p - 1 as multiplier and value; then p as multiplier, and as value.
+fn width_reads() {
+    read_three(b"width-251", 251, b"\x01\xfa\xfa");
+    read_three(b"width-251-multiplier", 251, b"\x01\xfb\0");
+    read_three(b"width-251-value", 251, b"\0\xfb");
+    read_three(b"width-257", 257, b"\x01\x01\0\x01\0");
+    read_three(b"width-257-multiplier", 257, b"\x01\x01\x01\0\0");
+    read_three(b"width-257-value", 257, b"\0\x01\x01");
+    read_three(b"width-65521", 65521, b"\x01\xff\xf0\xff\xf0");
+    read_three(b"width-65521-multiplier", 65521, b"\x01\xff\xf1\0\0");
+    read_three(b"width-65521-value", 65521, b"\0\xff\xf1");
+    read_three(b"width-65537", 65537, b"\x01\x01\0\0\x01\0\0");
+    read_three(b"width-65537-multiplier", 65537, b"\x01\x01\0\x01\0\0\0");
+    read_three(b"width-65537-value", 65537, b"\0\x01\0\x01");
+    read_three(b"width-16777213", 16777213, b"\x01\xff\xff\xfc\xff\xff\xfc");
+    read_three(
+        b"width-16777213-multiplier",
+        16777213,
+        b"\x01\xff\xff\xfd\0\0\0",
+    );
+    read_three(b"width-16777213-value", 16777213, b"\0\xff\xff\xfd");
+    read_three(b"width-16777259", 16777259, b"\x01\x01\0\0\x2a\x01\0\0\x2a");
+    read_three(
+        b"width-16777259-multiplier",
+        16777259,
+        b"\x01\x01\0\0\x2b\0\0\0\0",
+    );
+    read_three(b"width-16777259-value", 16777259, b"\0\x01\0\0\x2b");
+}
+
+// Frames with numbers of four bytes, where p needs fewer, and of one byte, where p needs two.
+fn other_width_reads() {
+    read_three(b"four-bytes-7", 7, b"\x03\0\0\0\x01\0\0\0\x02\0\0\0\x05");
+    read_three(b"four-bytes-7-no-multiplier", 7, b"\0\0\0\0\0");
+    read_three(b"four-bytes-251", 251, b"\x01\0\0\0\xfa\0\0\0\xfa");
+    read_three(b"four-bytes-65521", 65521, b"\x01\0\0\xff\xf0\0\0\xff\xf0");
+    read_three(
+        b"four-bytes-16777213",
+        16777213,
+        b"\x01\0\xff\xff\xfc\0\xff\xff\xfc",
+    );
+    read_three(b"one-byte-257", 257, b"\x03\x01\x02\x05");
 }
 
 // The document's other frames, then 1, 2 and 3 before 6.
@@ -92,6 +144,20 @@ fn write_three(name: &[u8], first: u32, value: u32, room: usize)
     requires { ⌜ room ≤ 272 ⌝ }
 {
     write(name, 7, 3, &[first, 2, 0], value, room);
+}
+
+// The frame (1 2 0) 5, which has a byte for the map and three numbers.
+fn write_width(name: &[u8], p: u32) {
+    write(name, p, 3, &[1, 2, 0], 5, 268);
+}
+
+fn width_writes() {
+    write_width(b"width-251", 251);
+    write_width(b"width-257", 257);
+    write_width(b"width-65521", 65521);
+    write_width(b"width-65537", 65537);
+    write_width(b"width-16777213", 16777213);
+    write_width(b"width-16777259", 16777259);
 }
 
 // 1 and 2 before 3 and 4; 3, for the multipliers and for the bytes, before 4; 4.
@@ -162,8 +228,11 @@ fn seal_lows() {
 
 pub fn run() {
     padded_reads();
+    width_reads();
+    other_width_reads();
     reads();
     writes();
+    width_writes();
     seal_order();
     seal_numbers();
     seal_lows();

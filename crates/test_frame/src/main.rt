@@ -1,5 +1,5 @@
-// Runs the calls on frames on stored cases, on document 01's examples and on some of document 02's #101 and #106. The cases are those
-// of tools/frames.py, whose own reader and sums say what each answers:
+// Runs the calls on frames on stored cases, on document 01's examples and on some of document 02's #101, #106 and #111. The cases are
+// those of tools/frames.py, whose own reader and sums say what each answers:
 //
 //     python3 tools/frames.py > crates/test_frame/stdin
 //

@@ -10,7 +10,7 @@ use Rattle.checks.specs.Sizes.{frameSizes, Judges}
 use Rattle.checks.proofs.InOrder.{none-left, fails-here, given, _then_, _and-then_}
 use Rattle.words.specs.Words.{Below}
 use Rattle.frame.specs.Format.{longest}
-use Rattle.frame.proofs.Round.{longest-frame}
+use Rattle.frame.proofs.Lengths.{longest-frame}
 use Rattle.frame.proofs.Calls.{write-no-sizes, write-refused, write-done}
 use Rattle.frame_calls.proofs.write.Statement.{statement}
 use Rattle.frame_calls.proofs.write.Tie as tie
@@ -88,7 +88,7 @@ cast-t18 c =
     let e = w .before .before .before .before .before .before in
     let a = start (e .before) .args in
     let s = given (sized (e .before)) .1 .0 in
-    omega (arith, w .write-frame .ensures .end, longest-frame (a .n) (a .multipliers .now) (a .value) (counted e) (s .1))
+    omega (arith, w .write-frame .ensures .end, longest-frame (a .p) (a .n) (a .multipliers .now) (a .value) (counted e) (s .1))
 
 same-length : tie.Need-same-length
 same-length c = search needs

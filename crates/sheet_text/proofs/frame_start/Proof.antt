@@ -14,18 +14,18 @@ returns-2 c =
     let at-first = c .before in
     (sym (start-cut (at-first .before .before .args .bytes .now) (at-first .if1 .left) (omega arith)), omega arith)
 
-pair-at-requires : tie.Need-pair-at-requires
-pair-at-requires c κs = omega arith
+number-at-requires : tie.Need-number-at-requires
+number-at-requires c κs = omega arith
 
 cast-t2 : tie.Need-cast-t2
 cast-t2 c = omega arith
 
 returns-3 : tie.Need-returns-3
 returns-3 c = (
-  rw (c .pair-at .ensures .1) (sym (start-frame (c .before .before .before .before .args .bytes .now) (omega arith))),
+  rw (c .number-at .ensures .1) (sym (start-frame (c .before .before .before .before .args .bytes .now) (omega arith))),
   omega arith,
 )
 
 pub frame-start-spec : {M : Type 1} → statement M
 frame-start-spec =
-    tie.close (tie.spec returns returns-2 pair-at-requires cast-t2 returns-3)
+    tie.close (tie.spec returns returns-2 number-at-requires cast-t2 returns-3)

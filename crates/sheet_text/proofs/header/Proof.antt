@@ -2,7 +2,6 @@
 use borrow.Author.Needs.{needs}
 use mathlib.Core.Path.{sym}
 use native.Mathlib.Omega.{arith}
-use Rattle.codec.specs.BigEndian.{width}
 use Rattle.sheet_text.proofs.Input.{header-cut, header-open}
 use Rattle.sheet_text.proofs.header.Statement.{statement}
 use Rattle.sheet_text.proofs.header.Tie as tie
@@ -11,7 +10,6 @@ returns : tie.Need-returns
 returns c = sym (header-cut (c .before .before .args .bytes .now) (omega arith))
 
 number-at-requires : tie.Need-number-at-requires
-unfolding width
 number-at-requires c κs = omega arith
 
 shared-slice-read-t6 : tie.Need-shared-slice-read-t6
@@ -23,7 +21,7 @@ cast-t7 c = omega (arith, c .shared-slice-known2 .given 4)
 returns-2 : tie.Need-returns-2
 returns-2 c =
     let at = c .before in
-    rw (at .number-at .ensures) (sym (header-open (at .before .before .before .args .bytes .now) (omega arith)))
+    rw (at .number-at .ensures .1) (sym (header-open (at .before .before .before .args .bytes .now) (omega arith)))
 
 pub header-spec : {M : Type 1} → statement M
 header-spec =

@@ -1,26 +1,35 @@
 -- `frame_bytes::writer::write_frame` meets its contract: the three steps leave what WriteFrame says of them.
-use mathlib.Core.Path.{_≡_, _∙_}
-use Prim.Native.Nat.{_≤_}
+use mathlib.Core.Path.{_≡_, ap, _∙_}
+use mathlib.Core.List.{[], _∷_}
+use Prim.Native.Nat.{_+_, _*_, _≤_}
+use native.Mathlib.Nat.{mul-le-mul}
 use native.Mathlib.Omega.{arith}
 use borrow.Author.Needs.{needs}
+use lib.ListN.{length}
 use Rattle.checks.specs.Largest.{largest}
-use Rattle.codec.specs.BigEndian.{width}
 use Rattle.codec.specs.Placed.{placed}
-use Rattle.frame.specs.Format.{mapLength, longest, stands, mapBytes, packed}
+use Rattle.frame.specs.Format.{mapLength, longest, stands, mapBytes, packed, frameIn}
 use Rattle.frame.specs.Bitmap.{standing, mapOf, mapBits}
+use Rattle.frame.proofs.Widths.{width-small}
 use Rattle.frame.proofs.BitMaps.{standing-small}
 use Rattle.frame_bytes.proofs.WriteFrame.{map-front, numbers-room, value-room, frame-written, frame-end}
 use Rattle.frame_bytes.proofs.writer.write_frame.Statement.{statement}
 use Rattle.frame_bytes.proofs.writer.write_frame.Tie as tie
 
 abbrev start : tie.After-standing → tie.Start
-start c = c .before .before .before .before
+start c = c .before .before .before .before .before
 
-few : (c : tie.After-standing) → c .standing .result ≤ largest
-few c = rw (c .standing .ensures) (standing-small _)
+narrow : (c : tie.After-standing) → c .before .width-of .result ≤ 4
+narrow c = rw (c .before .width-of .ensures) (width-small _)
+
+-- no more than 64 numbers of at most four bytes
+few : (c : tie.After-standing) → c .before .width-of .result * c .standing .result ≤ 256
+few c =
+    let k : c .standing .result ≤ largest = rw (c .standing .ensures) (standing-small _) in
+    mul-le-mul {n₁ = c .before .width-of .result} {m₁ = c .standing .result} {n₂ = 4} {m₂ = 64} (narrow c) k
 
 counted : (c : tie.After-standing) → c .standing .result ≡ standing (mapBits (mapOf (start c .args .multipliers .now)))
-counted c = rw (c .before .of .ensures) at (c .standing .ensures)
+counted c = rw (c .before .before .of .ensures) at (c .standing .ensures)
 
 -- the bytes with the map
 mapped :
@@ -30,14 +39,15 @@ mapped :
 unfolding mapLength
 mapped c =
     let s = start (c .before .before) in
-    rw (c .before .before .before .of .ensures, map-front (s .args .n) (s .args .multipliers .now) (s .pre .1)) at (c .put .ensures)
+    rw (c .before .before .before .before .of .ensures, map-front (s .args .n) (s .args .multipliers .now) (s .pre .1)) at (c .put .ensures)
 
 -- and with the multipliers
 numbered :
     (c : tie.After-put-multipliers) →
-    let a = start (c .before .before .before .before .before .before) .args in
-    c .put-multipliers .last .1 .1 .1 .0
-    ≡ placed (mapLength (a .n)) (packed (a .multipliers .now)) (placed 0 (mapBytes (a .n) (stands (a .multipliers .now))) (a .bytes .now))
+    let t = c .before .before .before .before .before .before in
+    let a = start t .args in
+    c .put-multipliers .last .1 .1 .1 .1 .0
+    ≡ placed (mapLength (a .n)) (packed (t .before .width-of .result) (a .multipliers .now)) (placed 0 (mapBytes (a .n) (stands (a .multipliers .now))) (a .bytes .now))
 unfolding mapLength
 numbered c = rw (mapped (c .before .before .before .before)) at (c .put-multipliers .ensures)
 
@@ -49,6 +59,9 @@ add-len c = search needs
 
 standing-requires : tie.Need-standing-requires
 standing-requires c κs = search needs
+
+width-of-requires : tie.Need-width-of-requires
+width-of-requires c κs = search needs
 
 mul-end : tie.Need-mul-end
 mul-end c = omega (arith, few c)
@@ -67,43 +80,50 @@ put-multipliers-requires c κs =
     let s = start (m .before .before) in
     let a = s .args in (
       omega arith,
-      m .before .before .before .of .ensures,
-      rw (mapped m) (numbers-room (a .n) (a .multipliers .now) (s .pre .1) (s .pre .2) (a .bytes .now) (s .pre .3)),
+      m .before .before .before .before .of .ensures,
+      rw (mapped m) (numbers-room _ (a .n) (a .multipliers .now) (narrow (m .before .before)) (s .pre .1) (s .pre .2) (a .bytes .now) (s .pre .3)),
     )
 
 put-number-requires : tie.Need-put-number-requires
-unfolding mapLength width
+unfolding mapLength
 put-number-requires c κs =
     let m = c .before .before .before in
     let t = m .before .before .before .before .before .before in
     let s = start t in
     let a = s .args in
     rw (numbered m)
-    (value-room (a .n) (a .multipliers .now) (s .pre .1) (s .pre .2) (a .bytes .now) (s .pre .3) _ (counted t) (a .value))
+    (value-room _ (a .n) (a .multipliers .now) (narrow t) (s .pre .1) (s .pre .2) (a .bytes .now) (s .pre .3) _ (counted t) (a .value))
 
 add-result : tie.Need-add-result
-add-result c = omega (arith, few (c .before .before .before .before .before .before .before .before .before .before .before .before))
+add-result c =
+    let t = c .before .before .before .before .before .before .before .before .before .before .before .before in
+    omega (arith, few t, narrow t)
 
 same-length : tie.Need-same-length
 same-length c = search needs
 
 returns : tie.Need-returns
-unfolding mapLength width
+unfolding mapLength
 returns c =
     let w = c .before .before in
     let m = w .before .before .before .before in
     let t = m .before .before .before .before .before .before in
     let s = start t in
     let a = s .args in
+    let xs = a .multipliers .now in
+    let e = t .before .width-of .ensures in
     record {
       memory =
           rw (numbered m) at (w .put-number .ensures)
-          ∙ frame-written (a .n) (a .multipliers .now) (s .pre .1) (s .pre .2) (a .bytes .now) (s .pre .3) _ (counted t) (a .value);
-      end = frame-end (a .n) (a .multipliers .now) (s .pre .1) (s .pre .2) (a .bytes .now) (s .pre .3) _ (counted t) (a .value);
+          ∙ frame-written _ (a .n) xs (narrow t) (s .pre .1) (s .pre .2) (a .bytes .now) (s .pre .3) _ (counted t) (a .value)
+          ∙ ap (λ k. placed 0 (frameIn k (a .n) xs (a .value ∷ [])) (a .bytes .now)) e;
+      end =
+          frame-end _ (a .n) xs (narrow t) (s .pre .1) (s .pre .2) (a .bytes .now) (s .pre .3) _ (counted t) (a .value)
+          ∙ ap (λ k. 0 + length (frameIn k (a .n) xs (a .value ∷ []))) e;
     }
 
 pub write-frame-spec : {M : Type 1} → statement M
 write-frame-spec =
     tie.close
-    (tie.spec of-requires add-len standing-requires mul-end add-end put-requires put-multipliers-requires put-number-requires
+    (tie.spec of-requires add-len width-of-requires standing-requires mul-end add-end put-requires put-multipliers-requires put-number-requires
     add-result same-length returns)
