@@ -76,7 +76,7 @@ same-width : (a b m k : ℕ) → m + a * k + a ≡ m + b * k + b → a ≡ b
 same-width a b m k e = eq-of-mul-eq-mul-right (suc k) (omega arith) a b (omega (arith, mul-suc a k, mul-suc b k))
 
 module _ (p w n : ℕ) (xs : List ℕ) (v : ℕ) (long : length xs ≡ n) (other : w ≡ width p → ⊥) where
-  other-width-fails : FirstFailing (frameChecks p n (frameIn w n xs (v ∷ []))) FrameLength
+  pub other-width-fails : FirstFailing (frameChecks p n (frameIn w n xs (v ∷ []))) FrameLength
   other-width-fails =
       omega (arith, frame-length w n xs v)
       then fails-here

@@ -44,7 +44,7 @@ module _ (w n : ℕ) (xs : List ℕ) (v : ℕ) where
 
   -- its map is that of the multipliers, whatever the width
   module _ (long : length xs ≡ n) where
-    pub written-bits : recordBits n (frameIn w n xs (v ∷ [])) ≡ stands xs
+    written-bits : recordBits n (frameIn w n xs (v ∷ [])) ≡ stands xs
     written-bits = rw frame-parts (bits-of-map n (stands xs) _ (stands-length xs ∙ long))
 
     pub written-unpadded : Unpadded n (frameIn w n xs (v ∷ []))

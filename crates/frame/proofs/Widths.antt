@@ -1,4 +1,4 @@
--- The width of a modulus is the fewest bytes that hold p - 1: by its four cases. Then what the frames need of it: that it is from 1 to 4,
+-- The width of a modulus is the fewest bytes that hold p - 1: by its four cases. Then what the frames need of it: that it is at most 4,
 -- and that numbers below p fit it.
 use mathlib.Core.Path.{_≡_, _∙_}
 use Prim.Native.Nat.{ℕ, suc, _-_, _^_, _≤_, _<_}
@@ -72,15 +72,8 @@ fewest-unique p j k a b = omega (arith, a .fewest k (b .holds), b .fewest j (a .
 
 -- ---- what the frames need of it
 
-pub width-positive : (p : ℕ) → 1 ≤ width p
-width-positive p = by-width (λ k. 1 ≤ k) p (λ _. omega arith) (λ _ _. omega arith) (λ _ _. omega arith) (λ _. omega arith)
-
 pub width-small : (p : ℕ) → width p ≤ 4
 width-small p = by-width (λ k. k ≤ 4) p (λ _. omega arith) (λ _ _. omega arith) (λ _ _. omega arith) (λ _. omega arith)
-
--- it is 4 only above 16777216
-pub width-below-four : (p : ℕ) → p ≤ 16777216 → width p < 4
-width-below-four p h = by-width (λ k. k < 4) p (λ _. omega arith) (λ _ _. omega arith) (λ _ _. omega arith) (λ l. absurd (omega arith))
 
 -- all numbers below p fit
 pub width-fits : (p : ℕ) → p ≤ 2147483647 → p ≤ 256 ^ width p

@@ -17,6 +17,7 @@ pub mod Missing
 pub mod Shown
 pub mod Turns
 pub mod EarlierOrder
+pub mod OtherWidths
 pub mod Demand3
 pub mod Honest
 pub mod SumOfFrames
