@@ -20,7 +20,7 @@ use Rattle.frame.specs.Calls.{readOutcome, readCall, written, writeCall}
 use Rattle.frame.specs.Promises.{ReadsBack, WritesAgain}
 use Rattle.frame.proofs.Round.{written-reads-back, accepted-rewrites}
 use Rattle.frame.proofs.Calls.{sizes-hold, read-done, write-done, read-as-told}
-use Rattle.frame.proofs.Lengths.{longest-frame}
+use Rattle.frame.proofs.Lengths.{frame-most, accepted-most, longest-frame}
 
 -- what stands at the front, and behind it
 front-taken : (new old : List ℕ) → take (length new) (placed 0 new old) ≡ new
@@ -40,6 +40,7 @@ frame-done p n xs v lent ok size long below value =
       k = length frame;
       told = refl;
       short = longest-frame p n xs v long (size .1);
+      most = frame-most p n xs v long;
       behind = front-dropped frame lent;
       reads = λ multipliers room.
           ap (λ bytes. readCall p n bytes multipliers) (front-taken frame lent)
@@ -87,6 +88,7 @@ module _ (p n : ℕ) (bytes multipliers : List ℕ) where
         told = refl;
         writes = again;
         front = λ lent room. ap (λ o. take (length bytes) (o .lent)) (again lent room) ∙ front-taken bytes lent;
+        most = accepted-most p n bytes xs v small e;
       }
 
   -- what a read that is not refused gives and leaves is written again as the bytes that were read
