@@ -1,8 +1,8 @@
 -- The width of a modulus is the fewest bytes that hold p - 1: by its four cases. Then what the frames need of it: that it is at most 4,
--- and that numbers below p fit it.
+-- what that makes of 64 numbers, and that numbers below p fit it.
 use mathlib.Core.Path.{_≡_, _∙_}
-use Prim.Native.Nat.{ℕ, suc, _-_, _^_, _≤_, _<_}
-use native.Mathlib.Nat.{pow-le-pow-right}
+use Prim.Native.Nat.{ℕ, suc, _*_, _-_, _^_, _≤_, _<_}
+use native.Mathlib.Nat.{mul-le-mul, pow-le-pow-right}
 use native.Mathlib.Decide.{decLe}
 use native.Mathlib.Omega.{arith}
 use lib.Dec.{leb}
@@ -74,6 +74,10 @@ fewest-unique p j k a b = omega (arith, a .fewest k (b .holds), b .fewest j (a .
 
 pub width-small : (p : ℕ) → width p ≤ 4
 width-small p = by-width (λ k. k ≤ 4) p (λ _. omega arith) (λ _ _. omega arith) (λ _ _. omega arith) (λ _. omega arith)
+
+-- no more than 64 numbers of at most four bytes have at most 256
+pub few-bytes : (w k : ℕ) → w ≤ 4 → k ≤ 64 → w * k ≤ 256
+few-bytes w k narrow few = mul-le-mul {n₁ = w} {m₁ = k} {n₂ = 4} {m₂ = 64} narrow few
 
 -- all numbers below p fit
 pub width-fits : (p : ℕ) → p ≤ 2147483647 → p ≤ 256 ^ width p

@@ -3,7 +3,6 @@
 use mathlib.Core.Path.{_≡_, refl, ap, _∙_}
 use mathlib.Core.List.{List, [], _∷_, _++_}
 use Prim.Native.Nat.{ℕ, zero, suc, _+_, _*_, _≤_}
-use native.Mathlib.Nat.{mul-le-mul}
 use native.Mathlib.Omega.{arith}
 use lib.ListN.{length, take, length-append}
 use Rattle.codec.specs.BigEndian.{bytesOf}
@@ -13,6 +12,7 @@ use Rattle.codec.proofs.Placed.{placed-length, placed-next}
 use Rattle.field.specs.Written.{tabulate}
 use Rattle.frame.specs.Format.{mapLength, longest, stands, mapByte, mapBytes, packed, frameIn}
 use Rattle.frame.specs.Bitmap.{standing, mapOf, mapBits}
+use Rattle.frame.proofs.Widths.{few-bytes}
 use Rattle.frame.proofs.Bytes.{one-value}
 use Rattle.frame.proofs.RoundMap.{map-length}
 use Rattle.frame_bytes.proofs.WriteNumbers.{packed-length, packed-short}
@@ -49,7 +49,7 @@ module _
 
     -- as many numbers as there are records have at most 256 bytes
     numbers-short : w * length xs ≤ 256
-    numbers-short = omega (arith, mul-le-mul {n₁ = w} {m₁ = length xs} {n₂ = 4} {m₂ = 64} few (omega arith))
+    numbers-short = few-bytes w (length xs) few (omega arith)
 
     pub numbers-room : mapLength n + w * length xs ≤ length with-map
     unfolding longest

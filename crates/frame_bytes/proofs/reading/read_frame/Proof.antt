@@ -2,7 +2,6 @@
 -- hold and the multipliers are filled in.
 use mathlib.Core.Path.{_≡_, sym, _∙_, subst}
 use Prim.Native.Nat.{_+_, _*_, _/_, _≤_}
-use native.Mathlib.Nat.{mul-le-mul}
 use native.Mathlib.Omega.{arith}
 use borrow.Author.Needs.{needs}
 use lib.ListN.{length}
@@ -11,7 +10,7 @@ use Rattle.checks.specs.Largest.{largest}
 use Rattle.frame.specs.Width.{width}
 use Rattle.frame.specs.Format.{mapLength}
 use Rattle.frame.specs.Bitmap.{ClearFrom}
-use Rattle.frame.proofs.Widths.{width-small}
+use Rattle.frame.proofs.Widths.{width-small, few-bytes}
 use Rattle.frame.proofs.BitMaps.{standing-small}
 use Rattle.frame_bytes.specs.Stages.{valueAfter, checksFrom, Judged}
 use Rattle.frame_bytes.proofs.ReadChecks.{Mapped, Counted, frame-short, frame-padded, frame-other-length, frame-number, frame-good, value-read}
@@ -40,9 +39,8 @@ counted c =
 -- no more than 64 numbers of at most four bytes
 few : (c : tie.After-width-of) → (c .width-of .result ≤ 4) × (c .width-of .result * c .before .standing .result ≤ 256)
 few c =
-    let w : c .width-of .result ≤ 4 = rw (c .width-of .ensures) (width-small _) in
-    let k : c .before .standing .result ≤ 64 = rw (c .before .standing .ensures) (standing-small _) in
-    (w, mul-le-mul {n₁ = c .width-of .result} {m₁ = c .before .standing .result} {n₂ = 4} {m₂ = 64} w k)
+    let narrow : c .width-of .result ≤ 4 = rw (c .width-of .ensures) (width-small _) in
+    (narrow, few-bytes _ _ narrow (rw (c .before .standing .ensures) (standing-small _)))
 
 -- the bytes that the map tells, counted with the width
 counted-bytes :

@@ -2,15 +2,13 @@
 use mathlib.Core.Path.{_≡_, ap, _∙_}
 use mathlib.Core.List.{[], _∷_}
 use Prim.Native.Nat.{_+_, _*_, _≤_}
-use native.Mathlib.Nat.{mul-le-mul}
 use native.Mathlib.Omega.{arith}
 use borrow.Author.Needs.{needs}
 use lib.ListN.{length}
-use Rattle.checks.specs.Largest.{largest}
 use Rattle.codec.specs.Placed.{placed}
 use Rattle.frame.specs.Format.{mapLength, longest, stands, mapBytes, packed, frameIn}
 use Rattle.frame.specs.Bitmap.{standing, mapOf, mapBits}
-use Rattle.frame.proofs.Widths.{width-small}
+use Rattle.frame.proofs.Widths.{width-small, few-bytes}
 use Rattle.frame.proofs.BitMaps.{standing-small}
 use Rattle.frame_bytes.proofs.WriteFrame.{map-front, numbers-room, value-room, frame-written, frame-end}
 use Rattle.frame_bytes.proofs.writer.write_frame.Statement.{statement}
@@ -24,9 +22,7 @@ narrow c = rw (c .before .width-of .ensures) (width-small _)
 
 -- no more than 64 numbers of at most four bytes
 few : (c : tie.After-standing) → c .before .width-of .result * c .standing .result ≤ 256
-few c =
-    let k : c .standing .result ≤ largest = rw (c .standing .ensures) (standing-small _) in
-    mul-le-mul {n₁ = c .before .width-of .result} {m₁ = c .standing .result} {n₂ = 4} {m₂ = 64} (narrow c) k
+few c = few-bytes _ _ (narrow c) (rw (c .standing .ensures) (standing-small _))
 
 counted : (c : tie.After-standing) → c .standing .result ≡ standing (mapBits (mapOf (start c .args .multipliers .now)))
 counted c = rw (c .before .before .of .ensures) at (c .standing .ensures)
