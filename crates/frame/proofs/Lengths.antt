@@ -13,7 +13,7 @@ use Rattle.checks.specs.Largest.{FrameSize}
 use Rattle.checks.specs.Prime.{IsModulus}
 use Rattle.checks.specs.InOrder.{FirstFailing}
 use Rattle.checks.specs.Outcome.{untouched}
-use Rattle.checks.proofs.InOrder.{in-order-refused, fails-here, _then_}
+use Rattle.checks.proofs.InOrder.{fails-here, _then_}
 use Rattle.words.specs.Words.{Below}
 use Rattle.codec.proofs.BigEndian.{below-cons}
 use Rattle.frame.specs.Width.{width}
