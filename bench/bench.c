@@ -7,94 +7,17 @@
  * many samples. The contenders' samples take turns, so that both sides see the same machine. The library's side is the whole
  * call, the checks of p, lengths and numbers included. FLINT's side is handed its tables in FLINT's own form and checks
  * nothing; what its functions allocate for themselves is counted. */
-#include <stdint.h>
-#include <stdio.h>
-#include <stdlib.h>
-#include <string.h>
-#include <time.h>
-
 #include <flint/flint.h>
 #include <flint/nmod_mat.h>
 #include <flint/nmod_vec.h>
 #include <flint/ulong_extras.h>
 
 #include "dauneroad.h"
+#include "race.h"
 
-#define MOST 64
 #define TABLES 16
-#define RACERS 4
 
-static const uint32_t PRIMES[3] = {251, 65537, 2147483629};
 static const uint32_t SIZES[4] = {8, 16, 32, 64};
-
-static void must(int holds, const char *what) {
-    if (!holds) {
-        fflush(stdout);
-        fprintf(stderr, "bench: the two sides differ, or a call failed: %s\n", what);
-        exit(1);
-    }
-}
-
-/* ---- random numbers, the same ones in every run (splitmix64) ---- */
-
-static uint64_t state = 20281115;
-
-static uint64_t draw(void) {
-    uint64_t x = state += 0x9e3779b97f4a7c15u;
-    x = (x ^ x >> 30) * 0xbf58476d1ce4e5b9u;
-    x = (x ^ x >> 27) * 0x94d049bb133111ebu;
-    return x ^ x >> 31;
-}
-
-static uint32_t below(uint32_t bound) { return (uint32_t)(draw() % bound); }
-
-static uint32_t times(uint32_t x, uint32_t y, uint32_t p) { return (uint32_t)((uint64_t)x * y % p); }
-
-/* ---- clock ---- */
-
-static double now(void) { /* microseconds */
-    struct timespec t;
-    clock_gettime(CLOCK_MONOTONIC, &t);
-    return (double)t.tv_sec * 1e6 + (double)t.tv_nsec * 1e-3;
-}
-
-static double clock_cost; /* what two readings of the clock cost by themselves */
-
-static void weigh_clock(void) {
-    clock_cost = 1e9;
-    for (int i = 0; i < 2000; i++) {
-        double start = now(), spent = now() - start;
-        if (spent < clock_cost) clock_cost = spent;
-    }
-}
-
-typedef void (*work)(void *);
-
-static double sample(work w, void *data, long repeats) {
-    double start = now();
-    for (long i = 0; i < repeats; i++) w(data);
-    double spent = now() - start - clock_cost;
-    return spent > 0 ? spent : 0;
-}
-
-/* The fastest time of each contender, in microseconds for one run of its work. A sample lasts 50 microseconds at least; the
- * samples take turns, forwards and backwards, for about the given seconds in all, and for twenty rounds at least. */
-static void race(int count, work *works, void *data, double seconds, double *fastest) {
-    long repeats[RACERS];
-    for (int c = 0; c < count; c++) {
-        works[c](data);
-        repeats[c] = 1;
-        while (sample(works[c], data, repeats[c]) < 50 && repeats[c] < 1L << 20) repeats[c] *= 2;
-        fastest[c] = 1e18;
-    }
-    double end = now() + seconds * 1e6;
-    for (int round = 0; round < 20 || now() < end; round++)
-        for (int i = 0; i < count; i++) {
-            int c = round % 2 ? count - 1 - i : i;
-            double spent = sample(works[c], data, repeats[c]) / (double)repeats[c];
-            if (spent < fastest[c]) fastest[c] = spent;
-        }
-}
 
 /* ---- results: a line at once, the table at the end ---- */
 
@@ -403,13 +326,14 @@ static void race_tables(int prime, uint32_t n, int half, double seconds) {
 
 /* ---- the board ---- */
 
-#define WORDS DAUNEROAD_BOARD_WORDS(MOST)
+#define WORDS DAUNEROAD_BOARD_WORDS(MOST, 1) /* boards here have one word a record; words.c has sixteen */
+#define LONGEST DAUNEROAD_LONGEST_FRAME(1)
 
 typedef struct {
     uint32_t p, k;
     uint32_t board[WORDS];                                   /* k frames stand */
     uint32_t rows[MOST][MOST + 1];                           /* the frames to come: multipliers, value */
-    uint8_t fresh[MOST][DAUNEROAD_LONGEST_FRAME], again[MOST][DAUNEROAD_LONGEST_FRAME]; /* by k: a new frame, a repeat */
+    uint8_t fresh[MOST][LONGEST], again[MOST][LONGEST];      /* by k: a new frame, a repeat */
     size_t fresh_length[MOST], again_length[MOST];
     uint32_t mix[MOST], marks[MOST];
     int32_t numbers[MOST];
@@ -427,17 +351,18 @@ static void lay_out(hall *h, uint32_t k) {
     h->board[0] = h->p;
     h->board[1] = MOST;
     h->board[2] = h->k = k;
-    memcpy(h->board + 3, h->rows, (size_t)k * (MOST + 1) * sizeof(uint32_t));
+    h->board[3] = 1;
+    memcpy(h->board + 4, h->rows, (size_t)k * (MOST + 1) * sizeof(uint32_t));
 }
 
 /* After a take that was new: the board as it was. */
 static void put_back(hall *h) {
     h->board[2] = h->k;
-    memset(h->board + 3 + h->k * (MOST + 1), 0, (MOST + 1) * sizeof(uint32_t));
+    memset(h->board + 4 + h->k * (MOST + 1), 0, (MOST + 1) * sizeof(uint32_t));
 }
 
 static size_t write_frame(uint32_t p, const uint32_t *row, uint8_t *bytes) {
-    uint32_t answer = dauneroad_write(p, MOST, row, MOST, row[MOST], bytes, DAUNEROAD_LONGEST_FRAME);
+    uint32_t answer = dauneroad_write(p, MOST, 1, row, MOST, row + MOST, 1, bytes, LONGEST);
     must(answer > DAUNEROAD_DONE, "dauneroad_write");
     return answer - DAUNEROAD_DONE;
 }
@@ -570,7 +495,7 @@ static void agree_board(hall *h, int sparse) {
         must(!memcmp(h->marks, h->fmarks, sizeof h->marks), "show's marks");
         must(!memcmp(h->numbers, h->fnumbers, sizeof h->numbers), "show's numbers");
         for (uint32_t j = 0; j < MOST; j++) settled += h->marks[j];
-        uint8_t bent[DAUNEROAD_LONGEST_FRAME]; /* the repeat with another value */
+        uint8_t bent[LONGEST]; /* the repeat with another value */
         memcpy(bent, h->again[k], sizeof bent);
         uint32_t value = (uint32_t)((h->again_value[k] + 1) % h->p);
         for (size_t b = 0; b < DAUNEROAD_WIDTH(h->p); b++) bent[h->again_length[k] - 1 - b] = (uint8_t)(value >> 8 * b);
@@ -586,7 +511,7 @@ static void agree_board(hall *h, int sparse) {
             must(flint_take(h, h->fresh_row[k], h->fresh_value[k], spare) == DAUNEROAD_NEW, "FLINT's take of a new frame");
         }
         must(take(h, h->fresh[k], h->fresh_length[k]) == DAUNEROAD_NEW, "take of a new frame");
-        must(h->board[2] == k + 1 && !memcmp(h->board + 3 + k * (MOST + 1), h->rows[k], sizeof h->rows[k]), "the new row");
+        must(h->board[2] == k + 1 && !memcmp(h->board + 4 + k * (MOST + 1), h->rows[k], sizeof h->rows[k]), "the new row");
     }
     must((settled > 0) == sparse, "sparse frames settle records on the way, dense ones none before the last");
 }
@@ -785,7 +710,7 @@ static int count(const char *call) {
         uint32_t multipliers[MOST];
         p = 251; /* whose test is next to nothing */
         for (int i = 0; i < MOST; i++) records[i] = i, multipliers[i] = below(p);
-        must(dauneroad_seal(p, MOST, DAUNEROAD_LOW(p), records, MOST, multipliers, MOST, &value) == 0, call);
+        must(dauneroad_seal(p, MOST, 1, DAUNEROAD_LOW(p), records, MOST, multipliers, MOST, &value, 1) == DAUNEROAD_DONE + 1, call);
     } else if (!strcmp(call, "take") || !strcmp(call, "repeat") || !strcmp(call, "show")) {
         furnish(&h, p, 0);
         lay_out(&h, MOST - 1);

@@ -12,7 +12,7 @@
  *
  *   console 1 | sheet
  *
- * Records are sealed with the old low end, with which the sheet program shows them.
+ * Records have one word each, as in the sheet program, and are sealed with the old low end, with which it shows them.
  * The line loses about a quarter of the frames. Some are doubled, and relays send sums of two frames that they have heard, also
  * of frames that the printer has not. What happened is told on standard error. */
 #include <errno.h>
@@ -80,7 +80,7 @@ static void draw_frame(frame *f) {
             f->multipliers[j] = stands ? below(p) : 0;
             standing += f->multipliers[j] != 0;
         }
-    accepted(dauneroad_seal(p, n, DAUNEROAD_LOW(p), records, n, f->multipliers, n, &f->value), "seal");
+    accepted(dauneroad_seal(p, n, 1, DAUNEROAD_LOW(p), records, n, f->multipliers, n, &f->value, 1), "seal");
 }
 
 /* What a relay sends that has heard two frames. */
@@ -98,11 +98,12 @@ static void send_header(void) {
     put_byte(n);
 }
 
-/* Write is lent room for the longest frame of all moduli. What is sent is its front: at most DAUNEROAD_FRAME_BYTES(p, n) bytes, by
+/* Write is lent room for the longest frame of all moduli. What is sent is its front: at most DAUNEROAD_FRAME_BYTES(p, n, 1) bytes, by
  * which a receiver of this heat sizes its buffer, as examples/race.c does. */
 static void send(const frame *f) {
-    uint8_t bytes[DAUNEROAD_LONGEST_FRAME];
-    uint32_t length = accepted(dauneroad_write(p, n, f->multipliers, n, f->value, bytes, sizeof bytes), "write") - DAUNEROAD_DONE;
+    uint8_t bytes[DAUNEROAD_LONGEST_FRAME(1)];
+    uint32_t answer = dauneroad_write(p, n, 1, f->multipliers, n, &f->value, 1, bytes, sizeof bytes);
+    uint32_t length = accepted(answer, "write") - DAUNEROAD_DONE;
     put_byte(length >> 8);
     put_byte(length);
     fwrite(bytes, 1, length, stdout);

@@ -1,21 +1,24 @@
 #!/usr/bin/env python3
 """Call lists for the test program of the board: crates/test_board/stdin.
 
-A model of its own plays lists of take, withdraw and show calls: a ledger of frames, with Gaussian elimination on lists of
-Python numbers, straight from document 01's section "The board and its ledger", frames read as document 02's #101 and #111 have
-it. Frames are lost, doubled, summed, falsified and malformed, lent memory has wrong lengths now and then, boards are tampered with.
-The first 40 lists show with the old low end, (p - 1)/2 rounded down; the others with any of 0, 1, the old one, p - 2, p - 1, p,
-2^32 - 1 and others (document 02, #106), where a number is the one from -L to p - 1 - L that is congruent to the record. Outside the
-frames numbers are four bytes each, most significant first, signed ones in two's complement:
+The board of tools/model.py plays lists of take, withdraw and show calls. In drawn lists frames are lost, doubled, summed, falsified and
+malformed, lent memory has wrong lengths now and then, boards are tampered with. The first 40 have one word a record and show with the
+old low end, (p - 1)/2 rounded down; the others have 1, 2, 3 or 16 words and show with any of 0, 1, the old one, p - 2, p - 1, p,
+2^32 - 1 and others (document 02, #106), where a number is the one from -L to p - 1 - L that is congruent to the record's word.
+Then come lists made for their answers, which the board must give (document 02, #103): frames that agree in all, in the first or in the
+last value only; lent memory one longer and shorter; headers whose number of words is none or another one; words that are too few, or as
+many as a board with another number of words has; and opens refused by 1, 2, 12 and 3. Outside the frames numbers are four bytes each,
+most significant first, signed ones in two's complement:
 
-    p n, then calls, then 0
+    p n s, words of the board, open's answer; the board after; then calls, then 0
     1 frame length, frame (each byte as a number), mix length, mix; answer, count; the mix after; the board after
     2 t; answer; the board after
     3 low end, marks length, marks, numbers length, numbers; answer; marks after, numbers after
     4 place, word: the test writes that word into the board (tampering), nothing is answered
     a p of 0 ends the file
 
-An answer is the number that the firmware gets; count is the count afterwards, and is checked where the answer is 0 or 100.
+An answer is the number that the firmware gets; count is the count afterwards, and is checked where the answer is 0 or 100. Before open
+each word of a board is 9.
 
   tools/boards.py [SEED]      (seed 2028 makes the stored file)
 """
@@ -24,178 +27,86 @@ import random
 import struct
 import sys
 
+sys.dont_write_bytecode = True
+from model import Board, board_words, frame_of, width  # noqa: E402
+
 # with the primes on both sides of where one, two and three bytes end
 PRIMES = [2, 3, 5, 7, 251, 257, 65521, 65537, 16777213, 16777259, 2147483629, 2147483647]
+
+# a prime of each width
+WIDTHS = [7, 257, 65537, 2147483647]
+
+# words a record, and numbers that are none of these
+WORDS = [1, 2, 3, 16]
+NO_WORDS = [0, 17, 2 ** 32 - 1]
 
 # how many numbers come with a padding bit, none and one in turn: with one the length is that counted over the whole map
 padding_numbers = itertools.cycle([0, 1])
 
 
-def is_prime(p):
-    if p < 2 or p > 2147483647:
-        return False
-    d = 2
-    while d * d <= p:
-        if p % d == 0:
-            return False
-        d += 1
-    return True
+class Lists:
+    """The lists as they are stored, with the board's answers, and what the test program counts. A call that is made for its answer
+    names it."""
 
+    COUNTS = 'histories', 'unopened', 'takes', 'new', 'repeat', 'conflict', 'refused', 'withdrawals', 'shows', 'tampered'
 
-prime_cache = {}
+    def __init__(self):
+        self.out, self.count, self.board = bytearray(), dict.fromkeys(self.COUNTS, 0), None
 
+    def put(self, *xs):
+        self.out += struct.pack('>%dI' % len(xs), *[x % 2 ** 32 for x in xs])
 
-def prime(p):
-    if p not in prime_cache:
-        prime_cache[p] = is_prime(p)
-    return prime_cache[p]
+    def told(self, answer, expected):
+        assert expected in (None, answer), (expected, answer, self.board.words[:4])
+        self.put(answer)
 
+    def begin(self, p, n, s, length=None, expected=0):
+        self.board = Board([9] * (board_words(n, s) if length is None else length))
+        self.put(p, n, s, len(self.board.words))
+        answer = self.board.open(p, n, s)
+        self.told(answer, expected)
+        self.put(*self.board.words)
+        self.count['unopened' if answer else 'histories'] += 1
 
-def width(p):
-    """The bytes of a number in a frame modulo p: the fewest that hold p - 1, from 1 to 4."""
-    return next(w for w in (1, 2, 3, 4) if p - 1 < 256 ** w)
+    def end(self):
+        self.put(0)
 
+    def take(self, frame, mix, expected=None):
+        self.put(1, len(frame), *frame, len(mix), *mix)
+        answer, mix = self.board.take(bytes(frame), mix)
+        self.told(answer, expected)
+        self.put((self.board.words + [0] * 3)[2], *mix, *self.board.words)
+        self.count['takes'] += 1
+        self.count[{0: 'new', 100: 'repeat', 9: 'conflict'}.get(answer, 'refused')] += 1
+        return answer
 
-def frame_of(w, n, multipliers, value):
-    """With numbers of w bytes."""
-    bits = bytearray((n + 7) // 8)
-    for j, x in enumerate(multipliers):
-        if x:
-            bits[j // 8] |= 1 << (j % 8)
-    return bytes(bits) + b''.join(x.to_bytes(w, 'big') for x in multipliers if x) + value.to_bytes(w, 'big')
+    def withdraw(self, t, expected=None):
+        self.put(2, t)
+        answer = self.board.withdraw(t)
+        self.told(answer, expected)
+        self.put(*self.board.words)
+        self.count['withdrawals'] += 1
 
+    def show(self, low, marks, numbers, expected=None):
+        """Answers the marks and the numbers as they are then."""
+        self.put(3, low, len(marks), *marks, len(numbers), *numbers)
+        answer, marks, numbers = self.board.show(low, marks, numbers)
+        self.told(answer, expected)
+        self.put(*marks, *numbers)
+        self.count['shows'] += 1
+        return marks, numbers
 
-def read(p, n, frame):
-    w, size = width(p), (n + 7) // 8
-    if len(frame) < size:
-        return 6
-    bits = [frame[j // 8] >> (j % 8) & 1 for j in range(8 * size)]
-    k = sum(bits)
-    if len(frame) != size + w * k + w:
-        return 6
-    if any(bits[n:]):
-        return 7
-    numbers = [int.from_bytes(frame[size + w * t:size + w * t + w], 'big') for t in range(k + 1)]
-    for x in numbers[:-1]:
-        if x == 0:
-            return 8
-        if x >= p:
-            return 4
-    if numbers[-1] >= p:
-        return 4
-    rest = iter(numbers)
-    return [next(rest) if b else 0 for b in bits[:n]], numbers[-1]
+    def tamper(self, place, word):
+        """Answers the word that stood there."""
+        old, self.board.words[place] = self.board.words[place], word
+        self.put(4, place, word)
+        self.count['tampered'] += 1
+        return old
 
-
-def combination(p, rows, target):
-    """The multipliers of the rows that give the target, or None: elimination on the columns of the system."""
-    k, n = len(rows), len(target)
-    system = [[rows[t][j] for t in range(k)] + [target[j]] for j in range(n)]
-    at, pivots = 0, []
-    for c in range(k):
-        i = next((r for r in range(at, n) if system[r][c]), None)
-        if i is None:
-            continue
-        system[at], system[i] = system[i], system[at]
-        inv = pow(system[at][c], -1, p)
-        system[at] = [x * inv % p for x in system[at]]
-        for r in range(n):
-            if r != at and system[r][c]:
-                f = system[r][c]
-                system[r] = [(x - f * y) % p for x, y in zip(system[r], system[at])]
-        pivots.append(c)
-        at += 1
-    if any(row[k] for row in system[at:]):
-        return None
-    u = [0] * k
-    for r, c in enumerate(pivots):
-        u[c] = system[r][k]
-    return u
-
-
-def independent(p, rows):
-    return all(combination(p, rows[:t], row) is None for t, row in enumerate(rows))
-
-
-def is_board(words):
-    if len(words) < 3 or not prime(words[0]) or not 1 <= words[1] <= 64:
-        return False
-    p, n, k = words[:3]
-    if len(words) != 3 + n * (n + 1) or k > n:
-        return False
-    rows = [words[3 + i * (n + 1):3 + (i + 1) * (n + 1)] for i in range(k)]
-    if any(x >= p for row in rows for x in row) or any(words[3 + k * (n + 1):]):
-        return False
-    return independent(p, [row[:n] for row in rows])
-
-
-class Board:
-    """Words in memory; each call works on the ledger that they hold."""
-
-    def __init__(self, p, n):
-        self.words = [p, n, 0] + [0] * (n * (n + 1))
-
-    def ledger(self):
-        p, n, k = self.words[:3]
-        rows = [self.words[3 + i * (n + 1):3 + (i + 1) * (n + 1)] for i in range(k)]
-        return p, n, [(row[:n], row[n]) for row in rows]
-
-    def lay(self, entries):
-        p, n = self.words[:2]
-        flat = [x for row, v in entries for x in row + [v]]
-        self.words = [p, n, len(entries)] + flat + [0] * (n * (n + 1) - len(flat))
-
-    def take(self, frame, mix):
-        if not is_board(self.words):
-            return 11, mix
-        p, n, entries = self.ledger()
-        if len(mix) != n:
-            return 3, mix
-        found = read(p, n, frame)
-        if isinstance(found, int):
-            return found, mix
-        row, v = found
-        u = combination(p, [r for r, _ in entries], row)
-        if u is None:
-            self.lay(entries + [(row, v)])
-            return 0, mix
-        mix = u + [0] * (n - len(u))
-        return (100 if sum(x * w for x, (_, w) in zip(u, entries)) % p == v else 9), mix
-
-    def withdraw(self, t):
-        if not is_board(self.words):
-            return 11
-        _, _, entries = self.ledger()
-        if t > len(entries):
-            return 10
-        self.lay(entries[:len(entries) - t])
-        return 200 + len(entries) - t
-
-    def show(self, low, marks, numbers):
-        if not is_board(self.words):
-            return 11, marks, numbers
-        p, n, entries = self.ledger()
-        if len(marks) != n or len(numbers) != n:
-            return 3, marks, numbers
-        if low >= p:
-            return 4, marks, numbers
-        rows = [r for r, _ in entries]
-        out_marks, out_numbers = [], []
-        for j in range(n):
-            # record j is settled exactly if its unit row is a combination of the standing rows
-            u = combination(p, rows, [1 if c == j else 0 for c in range(n)])
-            if u is None:
-                out_marks.append(0)
-                out_numbers.append(0)
-            else:
-                v = sum(x * w for x, (_, w) in zip(u, entries)) % p
-                out_marks.append(1)
-                out_numbers.append((v + low) % p - low)
-        return 200 + n - len(entries), out_marks, out_numbers
-
-
-def words_of(xs):
-    return struct.pack('>%dI' % len(xs), *[x % 4294967296 for x in xs])
+    def store(self):
+        sys.stdout.buffer.write(bytes(self.out) + bytes(4))
+        for name in self.COUNTS:
+            print(name, self.count[name], file=sys.stderr)
 
 
 def old_low(rng, p):
@@ -206,11 +117,29 @@ def any_low(rng, p):
     return rng.choice([0, 1, (p - 1) // 2, p - 2, p - 1, p, 4294967295, rng.randrange(p), rng.randrange(p), rng.randrange(2 ** 32)])
 
 
-def malformed(rng, p, n, row, v):
+def any_words(rng, length):
+    return [rng.randrange(2 ** 32) for _ in range(length)]
+
+
+def any_numbers(rng, length):
+    return [rng.randrange(-2 ** 31, 2 ** 31) for _ in range(length)]
+
+
+def any_length(rng, named):
+    """Mostly the one that is named, and otherwise another, perhaps by one."""
+    return rng.choice([*[named] * 24, abs(named - 1), named + 1, rng.randrange(named + 3)])
+
+
+def values_of(p, records, row):
+    """The sum of products for each word of the records."""
+    return [sum(x * record[w] for x, record in zip(row, records)) % p for w in range(len(records[0]))]
+
+
+def malformed(rng, p, n, row, values):
     """The frame cut anywhere, longer by a byte, shorter or longer by a number, with numbers of four bytes (no fault where that is the
     width), with a padding bit, with a multiplier of 0, or with a multiplier or a value of p or more."""
-    w, size = width(p), (n + 7) // 8
-    frame = bytearray(frame_of(w, n, row, v))
+    w, size, s = width(p), (n + 7) // 8, len(values)
+    frame = bytearray(frame_of(w, n, row, values))
     beyond = rng.choice([p, 256 ** w - 1]).to_bytes(w, 'big')
     bad = rng.randrange(9)
     if bad == 0:
@@ -222,93 +151,223 @@ def malformed(rng, p, n, row, v):
     if bad == 3:
         return frame + frame[-w:]
     if bad == 4:
-        return frame_of(4, n, row, v)
+        return frame_of(4, n, row, values)
     if bad == 5 and n % 8:
         frame[size - 1] |= 128
-        frame[-w:-w] = (1).to_bytes(w, 'big') * next(padding_numbers)
-    elif bad in (6, 7) and len(frame) > size + w:
+        frame[-w * s:-w * s] = (1).to_bytes(w, 'big') * next(padding_numbers)
+    elif bad in (6, 7) and any(row):
         frame[size:size + w] = bytes(w) if bad == 6 else beyond
     else:
-        frame[-w:] = beyond
+        at = len(frame) - w * rng.randrange(1, s + 1)
+        frame[at:at + w] = beyond
     return frame
 
 
-def history(rng, p, n, calls, out, count, low_end=old_low):
-    board = Board(p, n)
-    out += words_of([p, n])
-    records = [rng.randrange(p) for _ in range(n)]
+def any_frame(rng, p, records, heard):
+    """Its multipliers and its bytes: drawn, heard before or a sum of two; now and then one value or all are falsified."""
+    n, s, part = len(records), len(records[0]), rng.choice([0.2, 0.5, 1.0])
+    row = [rng.randrange(p) if rng.random() < part else 0 for _ in range(n)]
+    how = rng.random()
+    if how < 0.2 and heard:
+        row = rng.choice(heard)
+    elif how < 0.45 and len(heard) > 1:
+        a, b = rng.choice(heard), rng.choice(heard)
+        f, g = rng.randrange(p), rng.randrange(p)
+        row = [(f * x + g * y) % p for x, y in zip(a, b)]
+    values = values_of(p, records, row)
+    if rng.random() < 0.12:
+        for w in rng.choice([[0], [s - 1], [rng.randrange(s)], range(s)]):
+            values[w] = rng.randrange(p)
+    return row, malformed(rng, p, n, row, values) if rng.random() < 0.15 else frame_of(width(p), n, row, values)
+
+
+def drawn(rng, lists, p, n, s, calls, low_end=old_low):
+    lists.begin(p, n, s)
+    records = [[rng.randrange(p) for _ in range(s)] for _ in range(n)]
     heard = []
-    tampered = False
     for _ in range(calls):
         kind = rng.random()
         if kind < 0.78:
-            part = rng.choice([0.2, 0.5, 1.0])
-            row = [rng.randrange(p) if rng.random() < part else 0 for _ in range(n)]
-            how = rng.random()
-            if how < 0.2 and heard:
-                row = rng.choice(heard)
-            elif how < 0.45 and len(heard) > 1:
-                a, b = rng.choice(heard), rng.choice(heard)
-                f, g = rng.randrange(p), rng.randrange(p)
-                row = [(f * x + g * y) % p for x, y in zip(a, b)]
-            v = sum(x * r for x, r in zip(row, records)) % p
-            if rng.random() < 0.12:
-                v = rng.randrange(p)
-            frame = malformed(rng, p, n, row, v) if rng.random() < 0.15 else frame_of(width(p), n, row, v)
-            mix = [rng.randrange(2 ** 32) for _ in range(n if rng.random() < 0.95 else rng.randrange(n + 3))]
-            out += words_of([1, len(frame)] + list(frame) + [len(mix)] + mix)
-            answer, mix = board.take(bytes(frame), mix)
-            if answer in (0, 100):
+            row, frame = any_frame(rng, p, records, heard)
+            if lists.take(frame, any_words(rng, any_length(rng, n))) in (0, 100):
                 heard.append(row)
-            out += words_of([answer, board.words[2]] + mix + board.words)
         elif kind < 0.86:
-            t = rng.choice([0, 1, 1, 2, rng.randrange(n + 2), 4294967295])
-            out += words_of([2, t])
-            answer = board.withdraw(t)
-            out += words_of([answer] + board.words)
-        elif kind < 0.97 or tampered:
-            m = n if rng.random() < 0.9 else rng.randrange(n + 3)
-            q = n if rng.random() < 0.9 else rng.randrange(n + 3)
-            marks = [rng.randrange(2 ** 32) for _ in range(m)]
-            numbers = [rng.randrange(-2 ** 31, 2 ** 31) for _ in range(q)]
-            low = low_end(rng, p)
-            out += words_of([3, low, m] + marks + [q] + numbers)
-            answer, marks, numbers = board.show(low, marks, numbers)
-            out += words_of([answer] + marks + numbers)
+            lists.withdraw(rng.choice([0, 1, 1, 2, rng.randrange(n + 2), 4294967295]))
+        elif kind < 0.97:
+            lists.show(low_end(rng, p), any_words(rng, any_length(rng, n)), any_numbers(rng, any_length(rng, n * s)))
         else:
             # a word of the board is changed, one call sees it, and it is put back
-            place = rng.choice([0, 1, 2, rng.randrange(len(board.words)), len(board.words) - 1])
-            old = board.words[place]
-            word = rng.choice([0, 1, 2, p, 4, 65, 4294967295, rng.randrange(2 ** 32)])
-            board.words[place] = word
-            out += words_of([4, place, word, 2, 0])
-            answer = board.withdraw(0)
-            count[answer] = count.get(answer, 0) + 1
-            out += words_of([answer] + board.words)
-            board.words[place] = old
-            out += words_of([4, place, old])
-            continue
-        count[answer if answer < 200 else 200] = count.get(answer if answer < 200 else 200, 0) + 1
-    out += words_of([0])
+            last = len(lists.board.words) - 1
+            place = rng.choice([0, 1, 2, 3, rng.randrange(last), last])
+            old = lists.tamper(place, rng.choice([0, 1, 2, p, 4, 65, 4294967295, rng.randrange(2 ** 32)]))
+            lists.withdraw(0)
+            lists.tamper(place, old)
+    lists.end()
+
+
+def drawn_lists(rng, lists):
+    for n in range(1, 9):
+        for _ in range(4):
+            drawn(rng, lists, rng.choice(PRIMES), n, 1, 12 + 4 * n)
+    for n in (9, 12, 15, 16, 17):
+        drawn(rng, lists, rng.choice(PRIMES), n, 1, 40)
+    drawn(rng, lists, 2147483647, 33, 1, 24)
+    drawn(rng, lists, 251, 64, 1, 10)
+    drawn(rng, lists, 2147483629, 64, 1, 10)
+    for n in range(1, 9):
+        for turn, p in enumerate(PRIMES):
+            drawn(rng, lists, p, n, WORDS[(turn + n) % 4], 16 + 2 * n, any_low)
+    drawn(rng, lists, 65521, 17, 16, 24, any_low)
+    drawn(rng, lists, 2147483647, 64, 16, 5, any_low)
+
+
+# two frames of three records, their sum, and a third with which every record is settled
+FIRST, SECOND, SUM, THIRD = [1, 1, 0], [0, 1, 1], [1, 2, 1], [0, 0, 1]
+
+
+def off(p, values, *places):
+    """The values, wrong at these places alone."""
+    return [(v + 1) % p if w in places else v for w, v in enumerate(values)]
+
+
+def agreement(rng, lists, p, s):
+    """A frame is a repeat only if all values agree: wrong in the first, the last, one between or all, it is a conflict. So is a frame
+    of no multipliers whose values are not all 0. The records come out word after word."""
+    low, records = p // 3, [[rng.randrange(p) for _ in range(s)] for _ in range(3)]
+    marks, numbers = [9] * 3, [-9] * (3 * s)
+
+    def frame(row, *places):
+        return frame_of(width(p), 3, [x % p for x in row], off(p, values_of(p, records, row), *places))
+
+    def shown(*residues):
+        return [(v + low) % p - low for values in residues for v in values]
+
+    lists.begin(p, 3, s)
+    lists.take(frame(FIRST), [9] * 3, 0)
+    lists.take(frame(SECOND), [9] * 3, 0)
+    for row in (FIRST, SECOND, SUM, [0] * 3):
+        lists.take(frame(row), [9] * 3, 100)
+        for places in sorted({(0,), (s - 1,), (s // 2,), tuple(range(s))}):
+            lists.take(frame(row, *places), [9] * 3, 9)
+    assert lists.show(low, marks, numbers, 201) == ([0] * 3, [0] * (3 * s))
+    lists.take(frame(THIRD), [9] * 3, 0)
+    assert lists.show(low, marks, numbers, 200) == ([1] * 3, shown(*records))
+    lists.withdraw(2, 201)
+    lists.take(frame(THIRD, s - 1), [9] * 3, 0)
+    assert lists.show(low, marks, numbers, 201) == ([0, 0, 1], [0] * (2 * s) + shown(off(p, records[2], s - 1)))
+    lists.end()
+
+
+def lengths(lists, p, s):
+    """3 for the mix, before 6, and for marks and numbers, before 4, which a low end of p gets; as many numbers as records are
+    wrong where s is more than 1. The marks are one for each record."""
+    lists.begin(p, 3, s)
+    for room in (2, 4):
+        lists.take(b'', [9] * room, 3)
+    lists.take(b'', [9] * 3, 6)
+    for marks, numbers in ((2, 3 * s), (4, 3 * s), (3, 3 * s - 1), (3, 3 * s + 1), *[(3, 3), (3 * s, 3 * s)] * (s > 1)):
+        lists.show(p, [9] * marks, [-9] * numbers, 3)
+    lists.show(p, [9] * 3, [-9] * (3 * s), 4)
+    lists.end()
+
+
+def no_board(lists):
+    """Each call refuses 11 before what it would refuse else."""
+    lists.take(b'', [], 11)
+    lists.withdraw(2 ** 32 - 1, 11)
+    lists.show(2 ** 32 - 1, [], [], 11)
+
+
+def headers(lists, p, s):
+    """A board whose fourth word is no number of words, or another one than its length has, is none; it is one when that is put back."""
+    lists.begin(p, 3, s)
+    lists.take(frame_of(width(p), 3, FIRST, [1] * s), [9] * 3, 0)
+    for word in [*NO_WORDS, *(t for t in (s - 1, s + 1) if 1 <= t <= 16)]:
+        lists.tamper(3, word)
+        no_board(lists)
+    lists.tamper(3, s)
+    lists.withdraw(0, 201)
+    lists.end()
+
+
+def lay_fresh(lists, p, n, s):
+    """Writes the fresh board into the words as far as they go, whatever open has said."""
+    for place, _ in enumerate(lists.board.words):
+        lists.tamper(place, [p, n, 0, s][place] if place < 4 else 0)
+
+
+def other_lengths(lists, p, n, s):
+    """Too few words for a header, a header alone, a word less and more, and before #103 a word less with n + 1 numbers a row: open is
+    refused, and a fresh board written there is none. As many words as another s needs are a board where the header says that s, if
+    it is a number of words."""
+    whole = board_words(n, s)
+    for length in sorted({0, 1, 2, 3, 4, whole - 1, whole + 1, 3 + n * (n + 1)}):
+        lists.begin(p, n, s, length, 3)
+        lay_fresh(lists, p, n, s)
+        no_board(lists)
+        lists.end()
+    for other in sorted({0, s - 1, s + 1, 17}):
+        lists.begin(p, n, s, board_words(n, other), 3)
+        lay_fresh(lists, p, n, s)
+        no_board(lists)
+        lists.tamper(3, other)
+        if 1 <= other <= 16:
+            lists.withdraw(0, 200)
+        else:
+            no_board(lists)
+        lists.end()
+
+
+def before_words(lists, p):
+    """A board as it was before #103, with a header of three words and one frame."""
+    words = [p, 3, 1] + FIRST + [1] + [0] * 8
+    lists.begin(p, 3, 1, len(words), 3)
+    for place, word in enumerate(words):
+        lists.tamper(place, word)
+    no_board(lists)
+    lists.end()
+
+
+def same_length(lists, p):
+    """Boards of 2 records with 16 words and of 4 records with 5 have 40 words each: the header says which it is."""
+    lists.begin(p, 2, 16)
+    lists.tamper(1, 4)
+    no_board(lists)
+    lists.tamper(3, 5)
+    lists.take(frame_of(width(p), 4, [0, 1, 0, 0], [1, 2, 3, 4, 5]), [9] * 4, 0)
+    assert lists.show(0, [9] * 4, [-9] * 20, 203) == ([0, 1, 0, 0], [0] * 5 + [1, 2, 3, 4, 5] + [0] * 10)
+    lists.end()
+
+
+def opens(lists):
+    """The order of 1, 2, 12 and 3; 4 is no prime."""
+    heads = [*itertools.product([4], (0, 3, 65), (0, 1), [1]), *itertools.product([7], (0, 65, 2 ** 32 - 1), (0, 1, 17), [2]),
+             *itertools.product(WIDTHS, [3], NO_WORDS, [12]), *itertools.product(WIDTHS, [3], WORDS, [3])]
+    for p, n, s, answer in heads:
+        whole = board_words(3, min(s, 17))
+        for length in (2, whole - 1, whole + 1, *[whole] * (answer == 12)):
+            lists.begin(p, n, s, length, answer)
+            lists.end()
+
+
+def made_lists(rng, lists):
+    for p, s in itertools.product(PRIMES[:1] + WIDTHS, WORDS):
+        agreement(rng, lists, p, s)
+    for p, s in zip(WIDTHS, WORDS):
+        lengths(lists, p, s)
+        headers(lists, p, s)
+        other_lengths(lists, p, 2, s)
+        before_words(lists, p)
+    same_length(lists, 7)
+    opens(lists)
 
 
 def main():
     rng = random.Random(int(sys.argv[1]) if len(sys.argv) > 1 else 2028)
-    out, count = bytearray(), {}
-    for n in range(1, 9):
-        for _ in range(4):
-            history(rng, rng.choice(PRIMES), n, 12 + 4 * n, out, count)
-    for n in (9, 12, 15, 16, 17):
-        history(rng, rng.choice(PRIMES), n, 40, out, count)
-    history(rng, 2147483647, 33, 24, out, count)
-    history(rng, 251, 64, 12, out, count)
-    history(rng, 2147483629, 64, 12, out, count)
-    for n in range(1, 9):
-        for p in PRIMES:
-            history(rng, p, n, 16 + 2 * n, out, count, any_low)
-    out += words_of([0])
-    sys.stdout.buffer.write(bytes(out))
-    print('answers', dict(sorted(count.items())), file=sys.stderr)
+    lists = Lists()
+    drawn_lists(rng, lists)
+    made_lists(rng, lists)
+    lists.store()
 
 
 if __name__ == '__main__':

@@ -2,8 +2,9 @@
 """Stored runs of the sheet program: tests/sheet/NAME.in and NAME.out, and the crate's own run, crates/sheet/stdin and stdout.
 
 A model of the sheet, straight from document 01's section "The sheet program and the C side", says what each input prints. Its
-ledger is a reduced echelon form that each new frame joins; primes and the bytes of frames are those of tools/boards.py, whose
-ledger solves a system for each frame instead. The example of document 01 is also written out here, and the model must print it.
+ledger is a reduced echelon form that each new frame joins; primes and the bytes of frames are those of tools/model.py, whose
+ledger solves a system for each frame instead; a record has one word. The example of document 01 is also written out here, and the
+model must print it.
 
   tools/sheets.py             writes all files again, from the repository's root
   tools/sheets.py FOLDER      writes the streams that are too long to store, NAME.in and NAME.out, to the folder (tests/sheet/run)
@@ -14,9 +15,15 @@ import struct
 import sys
 
 sys.dont_write_bytecode = True
-from boards import frame_of, prime, read, width  # noqa: E402
+import model  # noqa: E402
+from model import prime, width  # noqa: E402
 
 EXAMPLE = b'new 1\nnew 2\nrepeat 2\nconflict 2\nnew 3\n0 -2\n1 0\n2 -1\nmissing 0\n'
+
+
+def frame_of(w, n, multipliers, value):
+    """With numbers of w bytes and one value."""
+    return model.frame_of(w, n, multipliers, [value])
 
 
 class Ledger:
@@ -64,11 +71,12 @@ def sheet(data):
         if len(data) < at + 2 or len(frame) < size:
             lines.append('refused 6')
             break
-        found = read(p, n, frame)
+        found = model.read(p, n, 1, frame)
         if isinstance(found, int):
             lines.append('refused %d' % found)
         else:
-            answer = ledger.take(*found)
+            row, [value] = found
+            answer = ledger.take(row, value)
             lines.append('%s %d' % (answer, len(ledger.rows)))
         at += 2 + size
     lines += ['%d %s' % (j, ledger.record(j)) for j in range(n)]

@@ -1,33 +1,7 @@
-/* Document 01's examples, frames with padding as document 02's #101 has them and with numbers as its #111 has them, through the
- * header alone. One line per example group; ends with 0 only if all of them hold. */
+/* Document 01's examples, with one word a record, frames with padding as document 02's #101 has them and with numbers as its #111 has
+ * them, through the header alone. One line per example group; ends with 0 only if all of them hold. */
 #include "dauneroad.h"
-
-#include <stdio.h>
-#include <string.h>
-
-static int failures;
-static int wrong;
-
-static void expect(int holds, const char *what, int line)
-{
-    if (!holds) {
-        printf("basic.c:%d: %s does not hold\n", line, what);
-        wrong++;
-    }
-}
-
-#define EXPECT(what) expect((what), #what, __LINE__)
-#define SAME(got, ...) SAME_AS(got, ((const uint32_t[])__VA_ARGS__))
-#define SAME_AS(got, want) expect(memcmp((got), (want), sizeof(want)) == 0, #got " == " #want, __LINE__)
-
-static void group(const char *name)
-{
-    printf("%s: example, %s\n", wrong ? "error" : "ok", name);
-    failures += wrong != 0;
-    wrong = 0;
-}
-
-#define LEN(array) (sizeof(array) / sizeof((array)[0]))
+#include "expect.h"
 
 static void first_table(void)
 {
@@ -93,11 +67,11 @@ static void small_tables(void)
 static void moduli_and_sizes(void)
 {
     static const uint32_t bad[] = {0, 1, 4, 2147117569, 2147483648, 4294967295};
-    static uint32_t a[65 * 65], d[65 * 65], columns[65], rows[65], board[DAUNEROAD_BOARD_WORDS(65)];
+    static uint32_t a[65 * 65], d[65 * 65], columns[65], rows[65], board[DAUNEROAD_BOARD_WORDS(65, 1)];
     int32_t record = 0;
     for (size_t i = 0; i < LEN(bad); i++) {
         EXPECT(dauneroad_signed(bad[i], 0, 0, &record) == DAUNEROAD_MODULUS);
-        EXPECT(dauneroad_open(bad[i], 1, board, DAUNEROAD_BOARD_WORDS(1)) == DAUNEROAD_MODULUS);
+        EXPECT(dauneroad_open(bad[i], 1, 1, board, DAUNEROAD_BOARD_WORDS(1, 1)) == DAUNEROAD_MODULUS);
         EXPECT(dauneroad_kernel(bad[i], 1, 1, a, 1, d, 1) == DAUNEROAD_MODULUS);
     }
     EXPECT(dauneroad_signed(2, 0, 0, &record) == 0);
@@ -105,11 +79,11 @@ static void moduli_and_sizes(void)
     EXPECT(dauneroad_quasiinverse(7, 64, 64, a, 4096, d, 4096, columns, 64, rows, 64) == 200);
     EXPECT(dauneroad_quasiinverse(7, 65, 64, a, 4160, d, 4160, columns, 64, rows, 65) == DAUNEROAD_SIZE);
     EXPECT(dauneroad_quasiinverse(7, 64, 65, a, 4160, d, 4160, columns, 65, rows, 64) == DAUNEROAD_SIZE);
-    EXPECT(dauneroad_open(7, 64, board, DAUNEROAD_BOARD_WORDS(64)) == 0);
-    EXPECT(dauneroad_open(7, 65, board, DAUNEROAD_BOARD_WORDS(65)) == DAUNEROAD_SIZE);
-    EXPECT(dauneroad_open(7, 0, board, DAUNEROAD_BOARD_WORDS(0)) == DAUNEROAD_SIZE);
-    EXPECT(dauneroad_open(7, 64, board, DAUNEROAD_BOARD_WORDS(64) - 1) == DAUNEROAD_LENGTH);
-    EXPECT(DAUNEROAD_BOARD_WORDS(64) == 4163);
+    EXPECT(dauneroad_open(7, 64, 1, board, DAUNEROAD_BOARD_WORDS(64, 1)) == 0);
+    EXPECT(dauneroad_open(7, 65, 1, board, DAUNEROAD_BOARD_WORDS(65, 1)) == DAUNEROAD_SIZE);
+    EXPECT(dauneroad_open(7, 0, 1, board, DAUNEROAD_BOARD_WORDS(0, 1)) == DAUNEROAD_SIZE);
+    EXPECT(dauneroad_open(7, 64, 1, board, DAUNEROAD_BOARD_WORDS(64, 1) - 1) == DAUNEROAD_LENGTH);
+    EXPECT(DAUNEROAD_BOARD_WORDS(64, 1) == 4164);
     group("moduli and sizes");
 }
 
@@ -118,28 +92,28 @@ static void frames(void)
     static const uint8_t frame[] = {3, 1, 2, 5}, padded[] = {8, 1, 1, 0}, zero[] = {1, 0, 1}, large[] = {1, 7, 1};
     static const uint8_t four_bytes[] = {3, 0, 0, 0, 1, 0, 0, 0, 2, 0, 0, 0, 5};
     uint32_t multipliers[3], eight[8], value = 0;
-    uint8_t bytes[DAUNEROAD_LONGEST_FRAME];
-    EXPECT(dauneroad_read(7, 3, frame, LEN(frame), multipliers, 3, &value) == 0);
+    uint8_t bytes[DAUNEROAD_LONGEST_FRAME(1)];
+    EXPECT(dauneroad_read(7, 3, 1, frame, LEN(frame), multipliers, 3, &value, 1) == 201);
     SAME(multipliers, {1, 2, 0});
     EXPECT(value == 5);
     memset(bytes, 0xee, sizeof bytes);
-    EXPECT(dauneroad_write(7, 3, multipliers, 3, value, bytes, sizeof bytes) == 200 + LEN(frame));
+    EXPECT(dauneroad_write(7, 3, 1, multipliers, 3, &value, 1, bytes, sizeof bytes) == 200 + LEN(frame));
     EXPECT(memcmp(bytes, frame, sizeof frame) == 0);
     for (size_t i = sizeof frame; i < sizeof bytes; i++)
         EXPECT(bytes[i] == 0xee);
     /* a bit at n or above: 7 in a frame as long as its map says, that bit counted; a shorter or longer one was cut or joined */
     for (uint32_t length = 0; length <= LEN(padded); length++) {
         uint32_t number = length == 3 ? DAUNEROAD_PADDING : DAUNEROAD_FRAME_LENGTH;
-        EXPECT(dauneroad_read(7, 3, padded, length, multipliers, 3, &value) == number);
+        EXPECT(dauneroad_read(7, 3, 1, padded, length, multipliers, 3, &value, 1) == number);
     }
-    EXPECT(dauneroad_read(7, 3, zero, LEN(zero), multipliers, 3, &value) == DAUNEROAD_ZERO_MULTIPLIER);
-    EXPECT(dauneroad_read(7, 3, large, LEN(large), multipliers, 3, &value) == DAUNEROAD_NUMBER);
-    EXPECT(dauneroad_read(7, 3, frame, LEN(frame) - 1, multipliers, 3, &value) == DAUNEROAD_FRAME_LENGTH);
-    EXPECT(dauneroad_read(7, 3, frame, 0, multipliers, 3, &value) == DAUNEROAD_FRAME_LENGTH);
-    EXPECT(dauneroad_read(7, 3, four_bytes, LEN(four_bytes), multipliers, 3, &value) == DAUNEROAD_FRAME_LENGTH);
+    EXPECT(dauneroad_read(7, 3, 1, zero, LEN(zero), multipliers, 3, &value, 1) == DAUNEROAD_ZERO_MULTIPLIER);
+    EXPECT(dauneroad_read(7, 3, 1, large, LEN(large), multipliers, 3, &value, 1) == DAUNEROAD_NUMBER);
+    EXPECT(dauneroad_read(7, 3, 1, frame, LEN(frame) - 1, multipliers, 3, &value, 1) == DAUNEROAD_FRAME_LENGTH);
+    EXPECT(dauneroad_read(7, 3, 1, frame, 0, multipliers, 3, &value, 1) == DAUNEROAD_FRAME_LENGTH);
+    EXPECT(dauneroad_read(7, 3, 1, four_bytes, LEN(four_bytes), multipliers, 3, &value, 1) == DAUNEROAD_FRAME_LENGTH);
     SAME(multipliers, {1, 2, 0});
     EXPECT(value == 5);
-    EXPECT(dauneroad_read(7, 8, padded, 3, eight, 8, &value) == 0);
+    EXPECT(dauneroad_read(7, 8, 1, padded, 3, eight, 8, &value, 1) == 201);
     SAME(eight, {0, 0, 0, 1, 0, 0, 0, 0});
     EXPECT(value == 1);
     group("frames of n = 3 and n = 8, p = 7");
@@ -147,8 +121,8 @@ static void frames(void)
 
 /* The macros are constants that can stand as an array's size, and the longest frame is one of the widest numbers. */
 _Static_assert(DAUNEROAD_WIDTH(251) == 1 && DAUNEROAD_WIDTH(257) == 2, "251 needs one byte, 257 needs two");
-_Static_assert(DAUNEROAD_FRAME_BYTES(2147483647, 64) == DAUNEROAD_LONGEST_FRAME, "64 multipliers and a value of four bytes each");
-static uint8_t room[DAUNEROAD_FRAME_BYTES(16777259, 64) + 4]; /* a full frame and a number more */
+_Static_assert(DAUNEROAD_FRAME_BYTES(2147483647, 64, 1) == DAUNEROAD_LONGEST_FRAME(1), "64 multipliers and a value of four bytes each");
+static uint8_t room[DAUNEROAD_FRAME_BYTES(16777259, 64, 1) + 4]; /* a full frame and a number more */
 
 /* The frame of n records with all multipliers x and the value y, each number in `width` bytes, to `room`; its length. */
 static size_t lay(uint32_t n, uint32_t x, uint32_t y, size_t width)
@@ -166,31 +140,31 @@ static size_t lay(uint32_t n, uint32_t x, uint32_t y, size_t width)
 /* A frame of n multipliers that are all not 0: as long as the macro says; refused at other lengths and with numbers of another width. */
 static void full_frame(uint32_t p, uint32_t n, size_t width)
 {
-    uint32_t row[64], multipliers[64], value = 0;
-    uint8_t bytes[DAUNEROAD_LONGEST_FRAME];
+    uint32_t row[64], multipliers[64], value = 0, last = p / 2;
+    uint8_t bytes[DAUNEROAD_LONGEST_FRAME(1)];
     for (uint32_t j = 0; j < n; j++)
         row[j] = p - 1;
     memset(bytes, 0xee, sizeof bytes);
-    uint32_t answer = dauneroad_write(p, n, row, n, p / 2, bytes, sizeof bytes);
-    EXPECT(answer == DAUNEROAD_DONE + DAUNEROAD_FRAME_BYTES(p, n));
+    uint32_t answer = dauneroad_write(p, n, 1, row, n, &last, 1, bytes, sizeof bytes);
+    EXPECT(answer == DAUNEROAD_DONE + DAUNEROAD_FRAME_BYTES(p, n, 1));
     size_t length = lay(n, p - 1, p / 2, width);
-    EXPECT(length == DAUNEROAD_FRAME_BYTES(p, n) && memcmp(bytes, room, length) == 0);
+    EXPECT(length == DAUNEROAD_FRAME_BYTES(p, n, 1) && memcmp(bytes, room, length) == 0);
     for (size_t i = length; i < sizeof bytes; i++)
         EXPECT(bytes[i] == 0xee);
-    EXPECT(dauneroad_read(p, n, room, length, multipliers, n, &value) == 0);
+    EXPECT(dauneroad_read(p, n, 1, room, length, multipliers, n, &value, 1) == 201);
     EXPECT(memcmp(multipliers, row, n * sizeof *row) == 0 && value == p / 2);
     const size_t lengths[] = {length - width, length - 1, length + 1, length + width};
     for (size_t i = 0; i < LEN(lengths); i++)
-        EXPECT(dauneroad_read(p, n, room, lengths[i], multipliers, n, &value) == DAUNEROAD_FRAME_LENGTH);
+        EXPECT(dauneroad_read(p, n, 1, room, lengths[i], multipliers, n, &value, 1) == DAUNEROAD_FRAME_LENGTH);
     for (size_t other = 1; other <= 4; other++) {
-        uint32_t number = other == width ? 0 : DAUNEROAD_FRAME_LENGTH;
+        uint32_t number = other == width ? DAUNEROAD_DONE + 1 : DAUNEROAD_FRAME_LENGTH;
         length = lay(n, 1, 1, other);
-        EXPECT(dauneroad_read(p, n, room, length, multipliers, n, &value) == number);
+        EXPECT(dauneroad_read(p, n, 1, room, length, multipliers, n, &value, 1) == number);
     }
     length = lay(n, 1, p, width);
-    EXPECT(dauneroad_read(p, n, room, length, multipliers, n, &value) == DAUNEROAD_NUMBER);
+    EXPECT(dauneroad_read(p, n, 1, room, length, multipliers, n, &value, 1) == DAUNEROAD_NUMBER);
     length = lay(n, 1, 0xffffffff, width);
-    EXPECT(dauneroad_read(p, n, room, length, multipliers, n, &value) == DAUNEROAD_NUMBER);
+    EXPECT(dauneroad_read(p, n, 1, room, length, multipliers, n, &value, 1) == DAUNEROAD_NUMBER);
 }
 
 static void widths(void)
@@ -210,8 +184,8 @@ static void widths(void)
 static void fresh_board(void)
 {
     static const uint8_t nothing[] = {0, 0}, lie[] = {0, 1}, four_bytes[] = {0, 0, 0, 0, 0};
-    uint32_t board[DAUNEROAD_BOARD_WORDS(3)], mix[3] = {9, 9, 9};
-    EXPECT(dauneroad_open(7, 3, board, LEN(board)) == 0);
+    uint32_t board[DAUNEROAD_BOARD_WORDS(3, 1)], mix[3] = {9, 9, 9};
+    EXPECT(dauneroad_open(7, 3, 1, board, LEN(board)) == 0);
     EXPECT(dauneroad_take(board, LEN(board), nothing, LEN(nothing), mix, LEN(mix)) == DAUNEROAD_REPEAT);
     SAME(mix, {0, 0, 0});
     mix[0] = mix[1] = mix[2] = 9;
@@ -220,10 +194,10 @@ static void fresh_board(void)
     mix[0] = mix[1] = mix[2] = 9;
     EXPECT(dauneroad_take(board, LEN(board), four_bytes, LEN(four_bytes), mix, LEN(mix)) == DAUNEROAD_FRAME_LENGTH);
     SAME(mix, {9, 9, 9});
-    SAME(board, {7, 3, 0, 0, 0, 0, 0, 0, 0, 0, 0, 0, 0, 0, 0});
+    SAME(board, {7, 3, 0, 1, 0, 0, 0, 0, 0, 0, 0, 0, 0, 0, 0, 0});
     EXPECT(dauneroad_withdraw(board, LEN(board), 0) == 200);
     EXPECT(dauneroad_withdraw(board, LEN(board), 1) == DAUNEROAD_WITHDRAWAL);
-    board[14] = 1;
+    board[15] = 1;
     EXPECT(dauneroad_withdraw(board, LEN(board), 0) == DAUNEROAD_NOT_BOARD);
     group("the empty frame on a fresh board");
 }
@@ -232,10 +206,10 @@ static void fresh_board(void)
 static uint32_t take(uint32_t *board, uint32_t a, uint32_t b, uint32_t c, uint32_t value, uint32_t *mix)
 {
     const uint32_t multipliers[] = {a, b, c};
-    uint8_t bytes[DAUNEROAD_LONGEST_FRAME];
-    uint32_t answer = dauneroad_write(7, 3, multipliers, 3, value, bytes, sizeof bytes);
+    uint8_t bytes[DAUNEROAD_LONGEST_FRAME(1)];
+    uint32_t answer = dauneroad_write(7, 3, 1, multipliers, 3, &value, 1, bytes, sizeof bytes);
     EXPECT(answer >= DAUNEROAD_DONE);
-    return dauneroad_take(board, DAUNEROAD_BOARD_WORDS(3), bytes, answer - DAUNEROAD_DONE, mix, 3);
+    return dauneroad_take(board, DAUNEROAD_BOARD_WORDS(3, 1), bytes, answer - DAUNEROAD_DONE, mix, 3);
 }
 
 /* The records 5, 0 and 6 of a full board modulo 7, with each low end; with 7 and more nothing is written, and 3 comes first. */
@@ -246,15 +220,15 @@ static void shown_from_low_ends(const uint32_t *board)
     uint32_t marks[3] = {9, 9, 9};
     int32_t numbers[3] = {9, 9, 9};
     for (uint32_t low = 0; low < 7; low++) {
-        EXPECT(dauneroad_show(board, DAUNEROAD_BOARD_WORDS(3), low, marks, 3, numbers, 3) == 200);
+        EXPECT(dauneroad_show(board, DAUNEROAD_BOARD_WORDS(3, 1), low, marks, 3, numbers, 3) == 200);
         SAME(marks, {1, 1, 1});
         EXPECT(memcmp(numbers, want[low], sizeof numbers) == 0);
     }
     for (size_t i = 0; i < LEN(none); i++) {
         marks[0] = marks[1] = marks[2] = 9;
         numbers[0] = numbers[1] = numbers[2] = 9;
-        EXPECT(dauneroad_show(board, DAUNEROAD_BOARD_WORDS(3), none[i], marks, 3, numbers, 3) == DAUNEROAD_NUMBER);
-        EXPECT(dauneroad_show(board, DAUNEROAD_BOARD_WORDS(3), none[i], marks, 3, numbers, 2) == DAUNEROAD_LENGTH);
+        EXPECT(dauneroad_show(board, DAUNEROAD_BOARD_WORDS(3, 1), none[i], marks, 3, numbers, 3) == DAUNEROAD_NUMBER);
+        EXPECT(dauneroad_show(board, DAUNEROAD_BOARD_WORDS(3, 1), none[i], marks, 3, numbers, 2) == DAUNEROAD_LENGTH);
         SAME(marks, {9, 9, 9});
         EXPECT(numbers[0] == 9 && numbers[1] == 9 && numbers[2] == 9);
     }
@@ -262,9 +236,9 @@ static void shown_from_low_ends(const uint32_t *board)
 
 static void sheet(void)
 {
-    uint32_t board[DAUNEROAD_BOARD_WORDS(3)], before[DAUNEROAD_BOARD_WORDS(3)], mix[3] = {9, 9, 9}, marks[3];
+    uint32_t board[DAUNEROAD_BOARD_WORDS(3, 1)], before[DAUNEROAD_BOARD_WORDS(3, 1)], mix[3] = {9, 9, 9}, marks[3];
     int32_t numbers[3] = {5, 5, 5};
-    EXPECT(dauneroad_open(7, 3, board, LEN(board)) == 0);
+    EXPECT(dauneroad_open(7, 3, 1, board, LEN(board)) == 0);
     EXPECT(take(board, 1, 2, 0, 5, mix) == DAUNEROAD_NEW);
     EXPECT(take(board, 0, 1, 3, 4, mix) == DAUNEROAD_NEW);
     SAME(mix, {9, 9, 9});
@@ -281,7 +255,7 @@ static void sheet(void)
     EXPECT(dauneroad_show(board, LEN(board), DAUNEROAD_LOW(7), marks, 3, numbers, 3) == 200);
     SAME(marks, {1, 1, 1});
     EXPECT(numbers[0] == -2 && numbers[1] == 0 && numbers[2] == -1);
-    SAME(board, {7, 3, 3, 1, 2, 0, 5, 0, 1, 3, 4, 0, 0, 1, 6});
+    SAME(board, {7, 3, 3, 1, 1, 2, 0, 5, 0, 1, 3, 4, 0, 0, 1, 6});
     shown_from_low_ends(board);
     EXPECT(dauneroad_withdraw(board, LEN(board), 1) == 202);
     SAME_AS(board, before);
@@ -295,21 +269,21 @@ static void sealing(void)
     const uint32_t rows[][3] = {{1, 2, 0}, {0, 1, 3}, {1, 3, 3}, {0, 0, 1}}, values[] = {5, 4, 2, 6};
     uint32_t value = 99;
     for (size_t i = 0; i < LEN(values); i++) {
-        EXPECT(dauneroad_seal(7, 3, DAUNEROAD_LOW(7), records, 3, rows[i], 3, &value) == 0);
+        EXPECT(dauneroad_seal(7, 3, 1, DAUNEROAD_LOW(7), records, 3, rows[i], 3, &value, 1) == 201);
         EXPECT(value == values[i]);
         /* -2 is a record from the low end 2 on, and the low end is not in the value */
-        EXPECT(dauneroad_seal(7, 3, 6, records, 3, rows[i], 3, &value) == 0);
+        EXPECT(dauneroad_seal(7, 3, 1, 6, records, 3, rows[i], 3, &value, 1) == 201);
         EXPECT(value == values[i]);
-        EXPECT(dauneroad_seal(7, 3, 1, records, 3, rows[i], 3, &value) == DAUNEROAD_NUMBER);
+        EXPECT(dauneroad_seal(7, 3, 1, 1, records, 3, rows[i], 3, &value, 1) == DAUNEROAD_NUMBER);
         /* 7 is no low end; if it were one, the records would be -7 to -1 */
-        EXPECT(dauneroad_seal(7, 3, 7, below, 3, rows[i], 3, &value) == DAUNEROAD_NUMBER);
+        EXPECT(dauneroad_seal(7, 3, 1, 7, below, 3, rows[i], 3, &value, 1) == DAUNEROAD_NUMBER);
         EXPECT(value == values[i]);
     }
     const int32_t outside[] = {-2, 4, -1};
     value = 99;
-    EXPECT(dauneroad_seal(7, 3, DAUNEROAD_LOW(7), outside, 3, rows[0], 3, &value) == DAUNEROAD_NUMBER);
+    EXPECT(dauneroad_seal(7, 3, 1, DAUNEROAD_LOW(7), outside, 3, rows[0], 3, &value, 1) == DAUNEROAD_NUMBER);
     EXPECT(value == 99);
-    EXPECT(dauneroad_seal(7, 3, 2, outside, 3, rows[0], 3, &value) == 0);
+    EXPECT(dauneroad_seal(7, 3, 1, 2, outside, 3, rows[0], 3, &value, 1) == 201);
     EXPECT(value == 6); /* -2 + 2 * 4 */
     group("sealing the sheet's frames");
 }

@@ -5,7 +5,7 @@ use crate::model::{self, Ledger};
 
 #[rustfmt::skip]
 extern "C" {
-    fn dauneroad_open(p: u32, n: u32, board: *mut u32, board_len: usize) -> u32;
+    fn dauneroad_open(p: u32, n: u32, s: u32, board: *mut u32, board_len: usize) -> u32;
     fn dauneroad_take(
         board: *mut u32, board_len: usize, frame: *const u8, frame_len: usize, mix: *mut u32, mix_len: usize,
     ) -> u32;
@@ -15,14 +15,16 @@ extern "C" {
         numbers_len: usize,
     ) -> u32;
     fn dauneroad_read(
-        p: u32, n: u32, frame: *const u8, frame_len: usize, multipliers: *mut u32, multipliers_len: usize, value: *mut u32,
+        p: u32, n: u32, s: u32, frame: *const u8, frame_len: usize, multipliers: *mut u32, multipliers_len: usize,
+        values: *mut u32, values_len: usize,
     ) -> u32;
     fn dauneroad_write(
-        p: u32, n: u32, multipliers: *const u32, multipliers_len: usize, value: u32, bytes: *mut u8, bytes_len: usize,
+        p: u32, n: u32, s: u32, multipliers: *const u32, multipliers_len: usize, values: *const u32, values_len: usize,
+        bytes: *mut u8, bytes_len: usize,
     ) -> u32;
     fn dauneroad_seal(
-        p: u32, n: u32, low: u32, records: *const i32, records_len: usize, multipliers: *const u32, multipliers_len: usize,
-        value: *mut u32,
+        p: u32, n: u32, s: u32, low: u32, records: *const i32, records_len: usize, multipliers: *const u32,
+        multipliers_len: usize, values: *mut u32, values_len: usize,
     ) -> u32;
     fn dauneroad_signed(p: u32, low: u32, v: u32, record: *mut i32) -> u32;
     fn dauneroad_residue(p: u32, low: u32, record: i32, residue: *mut u32) -> u32;
@@ -62,15 +64,15 @@ impl Group {
     }
 }
 
-pub fn open(g: &mut Group, p: u32, n: u32, board_len: usize) -> (u32, Option<Ledger>) {
+pub fn open(g: &mut Group, p: u32, n: u32, s: u32, board_len: usize) -> (u32, Option<Ledger>) {
     let mut board = Lent::any(&mut g.rng, board_len);
     let mut want_board = board.entry().to_vec();
-    let (want, ledger) = model::open(p, n, &mut want_board);
-    let got = unsafe { dauneroad_open(p, n, board.mut_ptr(), board.len()) };
+    let (want, ledger) = model::open(p, n, s, &mut want_board);
+    let got = unsafe { dauneroad_open(p, n, s, board.mut_ptr(), board.len()) };
     g.calls += 1;
     g.demand(got == want && board.holds(&want_board), || {
         format!(
-            "open(p {p}, n {n}, {board_len} words): library {got} {:?} guards {}, document {want} {want_board:?}",
+            "open(p {p}, n {n}, s {s}, {board_len} words): library {got} {:?} guards {}, document {want} {want_board:?}",
             board.body(),
             board.guarded()
         )
@@ -167,75 +169,95 @@ pub fn show(
     (got, marks.body().to_vec(), numbers.body().to_vec())
 }
 
-pub fn read(g: &mut Group, p: u32, n: u32, frame: &[u8], multipliers_len: usize) -> (u32, Vec<u32>, u32) {
-    let lent_frame = Lent::read_only(&mut g.rng, frame);
-    let mut multipliers = Lent::any(&mut g.rng, multipliers_len);
-    let mut value = Lent::any(&mut g.rng, 1);
-    let (mut want_multipliers, mut want_value) = (multipliers.entry().to_vec(), value.entry().to_vec());
-    let want = model::read(p, n, frame, &mut want_multipliers, &mut want_value);
-    let got = unsafe {
-        let (frame, len) = (lent_frame.ptr(), lent_frame.len());
-        dauneroad_read(p, n, frame, len, multipliers.mut_ptr(), multipliers.len(), value.mut_ptr())
-    };
-    g.calls += 1;
-    let good = got == want && lent_frame.untouched() && multipliers.holds(&want_multipliers) && value.holds(&want_value);
-    g.demand(good, || {
-        format!(
-            "read(p {p}, n {n}, frame {frame:02x?}, {multipliers_len} multipliers): library {got} {:?} {:?} guards {} {} {}, \
-             document {want} {want_multipliers:?} {want_value:?}",
-            multipliers.body(),
-            value.body(),
-            lent_frame.untouched(),
-            multipliers.guarded(),
-            value.guarded()
-        )
-    });
-    (got, multipliers.body().to_vec(), value.body()[0])
+/// What a frame call is told of the heat.
+#[derive(Clone, Copy, Debug)]
+pub struct Heat {
+    pub p: u32,
+    pub n: u32,
+    pub s: u32,
 }
 
-pub fn write(g: &mut Group, p: u32, n: u32, multipliers: &[u32], value: u32, bytes_len: usize) -> (u32, Vec<u8>) {
+/// The bytes that write is lent.
+pub fn longest(s: usize) -> usize {
+    264 + 4 * s
+}
+
+pub fn read(g: &mut Group, h: Heat, frame: &[u8], multipliers_len: usize, values_len: usize) -> (u32, Vec<u32>, Vec<u32>) {
+    let lent_frame = Lent::read_only(&mut g.rng, frame);
+    let mut multipliers = Lent::any(&mut g.rng, multipliers_len);
+    let mut values = Lent::any(&mut g.rng, values_len);
+    let (mut want_multipliers, mut want_values) = (multipliers.entry().to_vec(), values.entry().to_vec());
+    let want = model::read(h.p, h.n, h.s, frame, &mut want_multipliers, &mut want_values);
+    let got = unsafe {
+        let (frame, len, values, values_len) = (lent_frame.ptr(), lent_frame.len(), values.mut_ptr(), values.len());
+        dauneroad_read(h.p, h.n, h.s, frame, len, multipliers.mut_ptr(), multipliers.len(), values, values_len)
+    };
+    g.calls += 1;
+    let good = got == want && lent_frame.untouched() && multipliers.holds(&want_multipliers) && values.holds(&want_values);
+    g.demand(good, || {
+        format!(
+            "read({h:?}, frame {frame:02x?}, {multipliers_len} multipliers, {values_len} values): library {got} {:?} {:?} guards {} \
+             {} {}, document {want} {want_multipliers:?} {want_values:?}",
+            multipliers.body(),
+            values.body(),
+            lent_frame.untouched(),
+            multipliers.guarded(),
+            values.guarded()
+        )
+    });
+    (got, multipliers.body().to_vec(), values.body().to_vec())
+}
+
+pub fn write(g: &mut Group, h: Heat, multipliers: &[u32], values: &[u32], bytes_len: usize) -> (u32, Vec<u8>) {
     let lent_multipliers = Lent::read_only(&mut g.rng, multipliers);
+    let lent_values = Lent::read_only(&mut g.rng, values);
     let mut bytes = Lent::any(&mut g.rng, bytes_len);
     let mut want_bytes = bytes.entry().to_vec();
-    let want = model::write(p, n, multipliers, value, &mut want_bytes);
-    let got =
-        unsafe { dauneroad_write(p, n, lent_multipliers.ptr(), lent_multipliers.len(), value, bytes.mut_ptr(), bytes.len()) };
+    let want = model::write(h.p, h.n, h.s, multipliers, values, &mut want_bytes);
+    let got = unsafe {
+        let (multipliers, len) = (lent_multipliers.ptr(), lent_multipliers.len());
+        let (values, values_len) = (lent_values.ptr(), lent_values.len());
+        dauneroad_write(h.p, h.n, h.s, multipliers, len, values, values_len, bytes.mut_ptr(), bytes.len())
+    };
     g.calls += 1;
-    g.demand(got == want && lent_multipliers.untouched() && bytes.holds(&want_bytes), || {
+    let good = got == want && lent_multipliers.untouched() && lent_values.untouched() && bytes.holds(&want_bytes);
+    g.demand(good, || {
         format!(
-            "write(p {p}, n {n}, multipliers {multipliers:?}, value {value}, {bytes_len} bytes): library {got} {:02x?} guards \
-             {} {}, document {want} {want_bytes:02x?}",
+            "write({h:?}, multipliers {multipliers:?}, values {values:?}, {bytes_len} bytes): library {got} {:02x?} guards {} {} {}, \
+             document {want} {want_bytes:02x?}",
             bytes.body(),
             lent_multipliers.untouched(),
+            lent_values.untouched(),
             bytes.guarded()
         )
     });
     (got, bytes.body().to_vec())
 }
 
-pub fn seal(g: &mut Group, p: u32, n: u32, low: u32, records: &[i32], multipliers: &[u32]) -> (u32, u32) {
+pub fn seal(g: &mut Group, h: Heat, low: u32, records: &[i32], multipliers: &[u32], values_len: usize) -> (u32, Vec<u32>) {
     let lent_records = Lent::read_only(&mut g.rng, records);
     let lent_multipliers = Lent::read_only(&mut g.rng, multipliers);
-    let mut value = Lent::any(&mut g.rng, 1);
-    let mut want_value = value.entry().to_vec();
-    let want = model::seal(p, n, low, records, multipliers, &mut want_value);
+    let mut values = Lent::any(&mut g.rng, values_len);
+    let mut want_values = values.entry().to_vec();
+    let want = model::seal(h.p, h.n, h.s, low, records, multipliers, &mut want_values);
     let got = unsafe {
+        let (records, records_len) = (lent_records.ptr(), lent_records.len());
         let (multipliers, len) = (lent_multipliers.ptr(), lent_multipliers.len());
-        dauneroad_seal(p, n, low, lent_records.ptr(), lent_records.len(), multipliers, len, value.mut_ptr())
+        dauneroad_seal(h.p, h.n, h.s, low, records, records_len, multipliers, len, values.mut_ptr(), values.len())
     };
     g.calls += 1;
-    let good = got == want && lent_records.untouched() && lent_multipliers.untouched() && value.holds(&want_value);
+    let good = got == want && lent_records.untouched() && lent_multipliers.untouched() && values.holds(&want_values);
     g.demand(good, || {
         format!(
-            "seal(p {p}, n {n}, low {low}, records {records:?}, multipliers {multipliers:?}): library {got} {:?} guards {} {} {}, \
-             document {want} {want_value:?}",
-            value.body(),
+            "seal({h:?}, low {low}, records {records:?}, multipliers {multipliers:?}, {values_len} values): library {got} {:?} guards \
+             {} {} {}, document {want} {want_values:?}",
+            values.body(),
             lent_records.untouched(),
             lent_multipliers.untouched(),
-            value.guarded()
+            values.guarded()
         )
     });
-    (got, value.body()[0])
+    (got, values.body().to_vec())
 }
 
 pub fn signed(g: &mut Group, p: u32, low: u32, v: u32) -> (u32, i32) {
@@ -370,22 +392,23 @@ pub fn empty_slices(g: &mut Group) {
     let none = std::ptr::NonNull::<u32>::dangling().as_ptr();
     let bytes = std::ptr::NonNull::<u8>::dangling().as_ptr();
     let signed = std::ptr::NonNull::<i32>::dangling().as_ptr();
-    let mut value = 77;
     let got = unsafe {
         [
             dauneroad_quasiinverse(7, 0, 0, none, 0, none, 0, none, 0, none, 0),
             dauneroad_kernel(7, 0, 0, none, 0, none, 0),
             dauneroad_solve(7, 0, 0, none, 0, none, 0, none, 0, none, 0),
-            dauneroad_open(7, 1, none, 0),
+            dauneroad_open(7, 1, 1, none, 0),
             dauneroad_take(none, 0, bytes, 0, none, 0),
             dauneroad_withdraw(none, 0, 0),
             dauneroad_show(none, 0, 0, none, 0, signed, 0),
-            dauneroad_read(7, 1, bytes, 0, none, 0, &mut value),
-            dauneroad_write(7, 1, none, 0, 0, bytes, 0),
-            dauneroad_seal(7, 1, 0, signed, 0, none, 0, &mut value),
+            dauneroad_read(7, 1, 1, bytes, 0, none, 0, none, 0),
+            dauneroad_write(7, 1, 1, none, 0, none, 0, bytes, 0),
+            dauneroad_seal(7, 1, 1, 0, signed, 0, none, 0, none, 0),
+            dauneroad_read(7, 1, 0, bytes, 0, none, 0, none, 0),
+            dauneroad_seal(7, 1, 0, 0, signed, 0, none, 0, none, 0),
         ]
     };
-    let want = [200, 200, 200, 3, 11, 11, 11, 3, 3, 3];
+    let want = [200, 200, 200, 3, 11, 11, 11, 3, 3, 3, 12, 12];
     g.calls += want.len() as u64;
-    g.demand(got == want && value == 77, || format!("empty slices: library {got:?} value {value}, document {want:?}"));
+    g.demand(got == want, || format!("empty slices: library {got:?}, document {want:?}"));
 }

@@ -9,6 +9,9 @@ pub const ENDS: [u32; 6] = [251, 257, 65_521, 65_537, 16_777_213, 16_777_259];
 pub const PRIMES: [u32; 12] = [2, 3, 5, 7, 251, 257, 65_521, 65_537, 16_777_213, 16_777_259, 2_147_483_629, 2_147_483_647];
 pub const BAD: [u32; 6] = [0, 1, 4, 2_147_117_569, 2_147_483_648, 4_294_967_295];
 pub const WIDE: [u32; 4] = [65, 66, 65_536, 4_294_967_295];
+/// Words a record: some that are, and some that are none. Four times 2^30 is 0 in 32 bits.
+pub const SOME_S: [usize; 4] = [1, 2, 3, 16];
+pub const BAD_S: [u32; 5] = [0, 17, 65_536, 1 << 30, 4_294_967_295];
 
 pub fn any_p(rng: &mut Rng) -> u32 {
     if !rng.once_in(8) {
@@ -31,6 +34,15 @@ pub fn any_bad_p(rng: &mut Rng) -> u32 {
         if !model::prime(p) {
             return p;
         }
+    }
+}
+
+pub fn any_s(rng: &mut Rng) -> usize {
+    match rng.below(8) {
+        0..=2 => 1,
+        3 | 4 => rng.pick(&[2, 3]),
+        5 => 16,
+        _ => 1 + rng.below(16),
     }
 }
 
@@ -167,6 +179,22 @@ pub fn multipliers(rng: &mut Rng, p: u32, n: usize) -> Vec<u32> {
     }
 }
 
+pub fn values(rng: &mut Rng, p: u32, s: usize) -> Vec<u32> {
+    (0..s).map(|_| number(rng, p)).collect()
+}
+
+/// What changes some of s values when it is added to them: the first, the last or any one alone, or all.
+pub fn changes(rng: &mut Rng, p: u32, s: usize) -> Vec<u64> {
+    let (which, any) = (rng.below(4), rng.below(s));
+    let changed = |w: usize| match which {
+        0 => w == 0,
+        1 => w == s - 1,
+        2 => w == any,
+        _ => true,
+    };
+    (0..s).map(|w| if changed(w) { 1 + rng.under(p - 1) as u64 } else { 0 }).collect()
+}
+
 /// The largest number that a frame modulo p has the bytes for; it is above p, as no prime is a power of 256 or one less.
 pub fn most(p: u32) -> u32 {
     (256u64.pow(model::width(p) as u32) - 1) as u32
@@ -186,19 +214,27 @@ pub fn with_width(p: u32, n: usize, frame: &[u8], width: usize) -> Vec<u8> {
     map.iter().copied().chain(numbers.iter().flat_map(|x| x.to_be_bytes().into_iter().skip(4 - width))).collect()
 }
 
+/// The same frame of s values with so many of them: cut behind the front ones, or with further ones.
+pub fn with_values(rng: &mut Rng, p: u32, frame: &[u8], s: usize, other: usize) -> Vec<u8> {
+    let mut bytes = frame.to_vec();
+    bytes.truncate(frame.len() - model::width(p) * s.saturating_sub(other));
+    (s..other).for_each(|_| bytes.extend(model::number_bytes(p, number(rng, p))));
+    bytes
+}
+
 /// A frame with something wrong about its bytes, most likely.
-pub fn damaged(rng: &mut Rng, p: u32, n: usize, frame: &[u8]) -> Vec<u8> {
+pub fn damaged(rng: &mut Rng, p: u32, n: usize, s: usize, frame: &[u8]) -> Vec<u8> {
     match rng.below(3) {
-        0 => damaged_length(rng, p, n, frame.to_vec()),
-        1 => damaged_numbers(rng, p, n, frame.to_vec()),
+        0 => damaged_length(rng, p, n, s, frame.to_vec()),
+        1 => damaged_numbers(rng, p, n, s, frame.to_vec()),
         _ => damaged_bits(rng, p, n, frame.to_vec()),
     }
 }
 
-/// Cut, joined, or with numbers of another width.
-fn damaged_length(rng: &mut Rng, p: u32, n: usize, mut bytes: Vec<u8>) -> Vec<u8> {
+/// Cut, joined, with another number of values, or with numbers of another width.
+fn damaged_length(rng: &mut Rng, p: u32, n: usize, s: usize, mut bytes: Vec<u8>) -> Vec<u8> {
     let (map, len, w) = (n.div_ceil(8), bytes.len(), model::width(p));
-    match rng.below(10) {
+    match rng.below(12) {
         0 => bytes.truncate(rng.below(len)),
         1 => bytes.truncate(rng.below(map + 1)),
         2 => bytes.clear(),
@@ -211,22 +247,26 @@ fn damaged_length(rng: &mut Rng, p: u32, n: usize, mut bytes: Vec<u8>) -> Vec<u8
             bytes.extend((0..more).map(|_| rng.next() as u8));
         }
         8 => return with_width(p, n, &bytes, 4),
-        _ => return with_width(p, n, &bytes, 1 + rng.below(4)),
+        9 => return with_width(p, n, &bytes, 1 + rng.below(4)),
+        _ => {
+            let other = rng.pick(&[0, 1, 2, s - 1, s + 1, 16, 17]);
+            return with_values(rng, p, &bytes, s, other);
+        }
     }
     bytes
 }
 
 /// With multipliers of 0 and numbers of p or more.
-fn damaged_numbers(rng: &mut Rng, p: u32, n: usize, mut bytes: Vec<u8>) -> Vec<u8> {
+fn damaged_numbers(rng: &mut Rng, p: u32, n: usize, s: usize, mut bytes: Vec<u8>) -> Vec<u8> {
     let (map, w) = (n.div_ceil(8), model::width(p));
-    let standing = (bytes.len() - map) / w - 1;
+    let standing = (bytes.len() - map) / w - s;
     let place = |which: usize| map + w * which..map + w * which + w;
     match rng.below(5) {
         0 | 1 if standing > 0 => bytes[place(rng.below(standing))].fill(0),
         2 if standing > 0 => bytes[place(rng.below(standing))].copy_from_slice(&too_large_bytes(rng, p)),
         3 if standing > 0 => {
             // several numbers wrong at once, perhaps the length too
-            for at in 0..standing + 1 {
+            for at in 0..standing + s {
                 match rng.below(4) {
                     0 => bytes[place(at)].fill(0),
                     1 => bytes[place(at)].copy_from_slice(&too_large_bytes(rng, p)),
@@ -237,7 +277,11 @@ fn damaged_numbers(rng: &mut Rng, p: u32, n: usize, mut bytes: Vec<u8>) -> Vec<u
                 bytes.pop();
             }
         }
-        _ => bytes[place(standing)].copy_from_slice(&too_large_bytes(rng, p)),
+        _ => {
+            let any = rng.below(s);
+            let at = rng.pick(&[0, s - 1, any]);
+            bytes[place(standing + at)].copy_from_slice(&too_large_bytes(rng, p));
+        }
     }
     bytes
 }

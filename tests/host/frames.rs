@@ -1,7 +1,8 @@
 //! Moduli, signed readings, and frames: read, written and sealed.
 
-use crate::calls::{self, Group};
+use crate::calls::{self, longest, Group, Heat};
 use crate::draw::*;
+use crate::lent::Rng;
 use crate::model;
 
 // ---- the modulus and signed readings ----
@@ -30,7 +31,7 @@ pub fn moduli(g: &mut Group, rounds: usize) {
         calls::signed(g, p, low, v);
         if g.rng.once_in(16) {
             calls::residue(g, p, low, v as i32);
-            calls::open(g, p, 1, 5);
+            calls::open(g, p, 1, 1, 6);
         }
     }
 }
@@ -65,13 +66,16 @@ pub fn readings(g: &mut Group) {
     }
     for p in PRIMES.into_iter().chain(BAD) {
         let (wide, half) = (p as i64, p / 2);
-        let near = [0, 1, half.saturating_sub(1), half, p.saturating_sub(2), p.saturating_sub(1), p, p.saturating_add(1), u32::MAX];
+        let near =
+            [0, 1, half.saturating_sub(1), half, p.saturating_sub(2), p.saturating_sub(1), p, p.saturating_add(1), u32::MAX];
         for low in near {
             let bound = p.saturating_sub(low);
-            let ends = [0, 1, bound.saturating_sub(1), bound, bound.saturating_add(1), p.saturating_sub(1), p, 1 << 31, u32::MAX];
+            let ends =
+                [0, 1, bound.saturating_sub(1), bound, bound.saturating_add(1), p.saturating_sub(1), p, 1 << 31, u32::MAX];
             ends.into_iter().for_each(|v| read_back(g, p, low, v));
             let (least, most) = (-(low as i64), wide - 1 - low as i64);
-            let ends = [least - 1, least, least + 1, -1, 0, 1, most - 1, most, most + 1, i32::MIN as i64, i32::MAX as i64, -wide];
+            let ends =
+                [least - 1, least, least + 1, -1, 0, 1, most - 1, most, most + 1, i32::MIN as i64, i32::MAX as i64, -wide];
             ends.into_iter().for_each(|record| back_read(g, p, low, record));
         }
     }
@@ -87,25 +91,31 @@ pub fn readings(g: &mut Group) {
 
 // ---- frames ----
 
+fn heat(p: u32, n: usize, s: usize) -> Heat {
+    Heat { p, n: n as u32, s: s as u32 }
+}
+
 /// A written frame reads back, and an accepted one rewrites to its bytes.
-pub fn frame_round(g: &mut Group, p: u32, n: usize, numbers: &[u32], value: u32) {
-    let (number, bytes) = calls::write(g, p, n as u32, numbers, value, 268);
-    g.demand((200..=468).contains(&number), || format!("write refuses {numbers:?} {value} modulo {p}: {number}"));
-    if (200..=468).contains(&number) {
+pub fn frame_round(g: &mut Group, p: u32, numbers: &[u32], values: &[u32]) {
+    let (n, s) = (numbers.len(), values.len());
+    let (number, bytes) = calls::write(g, heat(p, n, s), numbers, values, longest(s));
+    let written = (200..=200 + longest(s)).contains(&(number as usize));
+    g.demand(written, || format!("write refuses {numbers:?} {values:?} modulo {p}: {number}"));
+    if written {
         let frame = &bytes[..number as usize - 200];
-        let (answer, back, back_value) = calls::read(g, p, n as u32, frame, n);
-        g.demand(answer == 0 && back == numbers && back_value == value, || {
-            format!("written {frame:02x?} of {numbers:?} {value} reads as {answer} {back:?} {back_value}")
+        let (answer, back, back_values) = calls::read(g, heat(p, n, s), frame, n, s);
+        g.demand(answer as usize == 200 + s && back == numbers && back_values == values, || {
+            format!("written {frame:02x?} of {numbers:?} {values:?} reads as {answer} {back:?} {back_values:?}")
         });
     }
 }
 
-pub fn read_round(g: &mut Group, p: u32, n: usize, frame: &[u8]) {
-    let (answer, numbers, value) = calls::read(g, p, n as u32, frame, n);
-    if answer == 0 {
-        let (number, bytes) = calls::write(g, p, n as u32, &numbers, value, 268);
+pub fn read_round(g: &mut Group, p: u32, n: usize, s: usize, frame: &[u8]) {
+    let (answer, numbers, values) = calls::read(g, heat(p, n, s), frame, n, s);
+    if answer as usize == 200 + s {
+        let (number, bytes) = calls::write(g, heat(p, n, s), &numbers, &values, longest(s));
         g.demand(number as usize == 200 + frame.len() && bytes[..frame.len()] == *frame, || {
-            format!("accepted {frame:02x?} modulo {p}, n {n}, rewrites with {number} to {bytes:02x?}")
+            format!("accepted {frame:02x?} modulo {p}, n {n}, s {s}, rewrites with {number} to {bytes:02x?}")
         });
     }
 }
@@ -114,162 +124,217 @@ pub fn frames(g: &mut Group, rounds: usize) {
     for round in 0..rounds {
         let p = any_p(&mut g.rng);
         let n = if round < 256 { 1 + round % 64 } else { 1 + g.rng.below(64) };
+        let s = any_s(&mut g.rng);
         let numbers = multipliers(&mut g.rng, p, n);
-        let value = number(&mut g.rng, p);
-        frame_round(g, p, n, &numbers, value);
+        let values = values(&mut g.rng, p, s);
+        frame_round(g, p, &numbers, &values);
         for _ in 0..3 {
-            let bad = damaged(&mut g.rng, p, n, &model::frame_of(p, &numbers, value));
-            read_round(g, p, n, &bad);
+            let bad = damaged(&mut g.rng, p, n, s, &model::frame_of(p, &numbers, &values));
+            read_round(g, p, n, s, &bad);
+        }
+    }
+}
+
+/// What read, write and seal are given: at first all of it good but perhaps the frame and the low end.
+struct Given {
+    heat: Heat,
+    low: u32,
+    numbers: Vec<u32>,
+    values: Vec<u32>,
+    records: Vec<i32>,
+    frame: Vec<u8>,
+}
+
+impl Given {
+    fn good(rng: &mut Rng) -> Given {
+        let p = any_p(rng);
+        let most = if rng.once_in(8) { 64 } else { 12 };
+        let (n, s) = (1 + rng.below(most), any_s(rng));
+        let (numbers, values) = (multipliers(rng, p, n), values(rng, p, s));
+        let low = any_low(rng, p);
+        let records = (0..n * s).map(|_| model::reading(p, low, rng.under(p))).collect();
+        let mut frame = model::frame_of(p, &numbers, &values);
+        if rng.once_in(2) {
+            frame = damaged(rng, p, n, s, &frame);
+        }
+        Given { heat: heat(p, n, s), low, numbers, values, records, frame }
+    }
+
+    /// Told another p, n or s, with lengths that would fit n and s where they can be had.
+    fn spoil_sizes(&mut self, rng: &mut Rng) {
+        let (mut n, mut s) = (self.numbers.len(), self.values.len());
+        if rng.once_in(4) {
+            self.heat.p = any_bad_p(rng);
+        }
+        if rng.once_in(4) {
+            self.heat.n = if rng.once_in(3) { 0 } else { rng.pick(&WIDE) };
+            if self.heat.n < 1000 && rng.once_in(2) {
+                n = self.heat.n as usize;
+            }
+        }
+        if rng.once_in(4) {
+            self.heat.s = rng.pick(&BAD_S);
+            if self.heat.s < 1000 && rng.once_in(2) {
+                s = self.heat.s as usize;
+            }
+        }
+        self.numbers.resize(n, 1);
+        self.values.resize(s, 0);
+        self.records.resize(n * s, 0);
+    }
+
+    /// With a multiplier, a record or a value that is none.
+    fn spoil_numbers(&mut self, rng: &mut Rng) {
+        let p = self.heat.p;
+        if !self.numbers.is_empty() && rng.once_in(3) {
+            let at = rng.below(self.numbers.len());
+            self.numbers[at] = too_large(rng, p);
+        }
+        if !self.records.is_empty() && rng.once_in(3) {
+            let (above, below) = (p as i64 - self.low as i64, -(self.low as i64) - 1);
+            let (last, any) = (self.records.len() - 1, rng.below(self.records.len()));
+            let record = rng.pick(&[above, below, i32::MIN as i64, i32::MAX as i64]);
+            self.records[rng.pick(&[last, any, any])] = record.clamp(i32::MIN as i64, i32::MAX as i64) as i32;
+        }
+        if !self.values.is_empty() && rng.once_in(4) {
+            let (last, any) = (self.values.len() - 1, rng.below(self.values.len()));
+            self.values[rng.pick(&[0, last, any])] = too_large(rng, p);
         }
     }
 }
 
 pub fn frame_refusals(g: &mut Group, rounds: usize) {
     for _ in 0..rounds {
-        let mut p = any_p(&mut g.rng);
-        let most = if g.rng.once_in(8) { 64 } else { 12 };
-        let mut n = 1 + g.rng.below(most);
-        let mut numbers = multipliers(&mut g.rng, p, n);
-        let mut value = number(&mut g.rng, p);
-        let low = any_low(&mut g.rng, p);
-        let mut records: Vec<i32> = (0..n).map(|_| model::reading(p, low, g.rng.under(p))).collect();
-        let mut frame = model::frame_of(p, &numbers, value);
-        if g.rng.once_in(2) {
-            frame = damaged(&mut g.rng, p, n, &frame);
-        }
-        if g.rng.once_in(4) {
-            p = any_bad_p(&mut g.rng);
-        }
-        let mut told = n as u32;
-        if g.rng.once_in(4) {
-            told = if g.rng.once_in(3) { 0 } else { g.rng.pick(&WIDE) };
-            if told < 1000 && g.rng.once_in(2) {
-                n = told as usize;
-                numbers.resize(n, 1);
-                records.resize(n, 0);
-            }
-        }
-        if n > 0 && g.rng.once_in(3) {
-            let at = g.rng.below(n);
-            numbers[at] = too_large(&mut g.rng, p);
-        }
-        if n > 0 && g.rng.once_in(3) {
-            let (above, below) = (p as i64 - low as i64, -(low as i64) - 1);
-            let at = g.rng.below(n);
-            let record = g.rng.pick(&[above, below, i32::MIN as i64, i32::MAX as i64]);
-            records[at] = record.clamp(i32::MIN as i64, i32::MAX as i64) as i32;
-        }
-        if g.rng.once_in(4) {
-            value = too_large(&mut g.rng, p);
-        }
-        let (len, bytes_len) = (length(&mut g.rng, n), length(&mut g.rng, 268));
-        calls::read(g, p, told, &frame, len);
-        calls::write(g, p, told, &resized(numbers.clone(), len, 0), value, bytes_len);
-        let records_len = length(&mut g.rng, n);
-        calls::seal(g, p, told, low, &resized(records, records_len, 0), &resized(numbers, len, 0));
+        let mut given = Given::good(&mut g.rng);
+        given.spoil_sizes(&mut g.rng);
+        given.spoil_numbers(&mut g.rng);
+        let Given { heat, low, numbers, values, records, frame } = given;
+        let (len, values_len) = (length(&mut g.rng, numbers.len()), length(&mut g.rng, values.len()));
+        let bytes_len = length(&mut g.rng, longest(values.len()));
+        let bytes_len = if g.rng.once_in(8) { longest(1) } else { bytes_len };
+        let records_len = length(&mut g.rng, records.len());
+        calls::read(g, heat, &frame, len, values_len);
+        let numbers = resized(numbers, len, 0);
+        calls::write(g, heat, &numbers, &resized(values, values_len, 0), bytes_len);
+        calls::seal(g, heat, low, &resized(records, records_len, 0), &numbers, values_len);
     }
 }
 
 pub fn frames_exhaustive(g: &mut Group) {
     // every frame of two bytes at most
     for n in [1, 8, 9] {
-        read_round(g, 2, n, &[]);
+        read_round(g, 2, n, 1, &[]);
         for x in 0..=255u8 {
-            read_round(g, 7, n, &[x]);
+            read_round(g, 7, n, 1, &[x]);
         }
         for x in 0..=65_535u16 {
-            read_round(g, 2, n, &x.to_be_bytes());
+            read_round(g, 2, n, 1, &x.to_be_bytes());
         }
     }
-    // every multiplier and value of one byte, and every value of two
+    // every multiplier and value of one byte, every value of two, and every two values of one
     for x in 0..=65_535u16 {
         let [high, low] = x.to_be_bytes();
-        read_round(g, 251, 1, &[1, high, low]);
-        read_round(g, 257, 1, &[0, high, low]);
-        read_round(g, 65_521, 1, &[0, high, low]);
+        read_round(g, 251, 1, 1, &[1, high, low]);
+        read_round(g, 257, 1, 1, &[0, high, low]);
+        read_round(g, 65_521, 1, 1, &[0, high, low]);
+        read_round(g, 251, 1, 2, &[0, high, low]);
     }
     for n in 1..=8 {
         for map in 0..=255u8 {
-            [2, 3, 2_147_483_647].into_iter().chain(ENDS).for_each(|p| map_of_one_byte(g, p, n, map));
+            for p in [2, 3, 2_147_483_647].into_iter().chain(ENDS) {
+                map_of_one_byte(g, p, n, 1, map);
+                map_of_one_byte(g, p, n, SOME_S[1 + (n + map as usize) % 3], map);
+            }
         }
     }
-    // every row of multipliers and value
-    for (p, most) in [(2u32, 6), (3, 4), (5, 3), (7, 2)] {
+    // every row of multipliers and values
+    for (p, most, s) in [(2u32, 6, 1), (3, 4, 1), (5, 3, 1), (7, 2, 1), (2, 4, 2), (2, 4, 3), (3, 3, 2), (5, 1, 3), (2, 1, 8)] {
         for n in 1..=most {
-            each(p, n + 1, |numbers| frame_round(g, p, n, &numbers[..n], numbers[n]));
+            each(p, n + s, |numbers| frame_round(g, p, &numbers[..n], &numbers[n..]));
         }
     }
 }
 
 /// This map with its length and with wrong ones; all numbers right, or one of them wrong.
-fn map_of_one_byte(g: &mut Group, p: u32, n: usize, map: u8) {
+fn map_of_one_byte(g: &mut Group, p: u32, n: usize, s: usize, map: u8) {
     let standing = map.count_ones() as usize;
     let numbers: Vec<u32> = (0..standing).map(|_| 1 + g.rng.under(p - 1)).collect();
-    let value = g.rng.under(p);
-    let frame = |numbers: &[u32], value: u32| -> Vec<u8> {
-        let numbers = numbers.iter().chain([&value]).flat_map(|&x| model::number_bytes(p, x));
+    let numbers: Vec<u32> = numbers.into_iter().chain(values(&mut g.rng, p, s)).collect();
+    let frame = |numbers: &[u32]| -> Vec<u8> {
+        let numbers = numbers.iter().flat_map(|&x| model::number_bytes(p, x));
         [map].into_iter().chain(numbers).collect()
     };
-    let right = frame(&numbers, value);
-    read_round(g, p, n, &right);
-    wrong_lengths(g, p, n, &right);
-    for at in 0..standing {
+    let right = frame(&numbers);
+    read_round(g, p, n, s, &right);
+    wrong_lengths(g, p, n, s, &right);
+    for at in 0..standing + s {
         for wrong in [0, p, most(p)] {
             let mut numbers = numbers.clone();
             numbers[at] = wrong;
-            read_round(g, p, n, &frame(&numbers, value));
+            read_round(g, p, n, s, &frame(&numbers));
         }
-    }
-    for wrong in [p, most(p)] {
-        read_round(g, p, n, &frame(&numbers, wrong));
     }
 }
 
-/// A frame one byte and one number shorter and longer, and its numbers with every other width: all of them are refused by 6.
-fn wrong_lengths(g: &mut Group, p: u32, n: usize, frame: &[u8]) {
+/// A frame one byte and one number shorter and longer, its numbers with every other width, and with other numbers of values: all of
+/// them are refused by 6.
+fn wrong_lengths(g: &mut Group, p: u32, n: usize, s: usize, frame: &[u8]) {
     let (len, w) = (frame.len(), model::width(p));
-    let other_lengths = [len - w, len - 1, len + 1, len + w].map(|len| resized(frame.to_vec(), len, 0));
-    let other_widths = (1..=4).filter(|other| *other != w).map(|other| with_width(p, n, frame, other));
-    for wrong in other_lengths.into_iter().chain(other_widths) {
-        let (answer, _, _) = calls::read(g, p, n as u32, &wrong, n);
-        g.demand(answer == 6, || format!("{wrong:02x?} modulo {p}, n {n}, with a wrong length, is answered {answer}"));
+    let mut wrong = [len - w, len - 1, len + 1, len + w].map(|len| resized(frame.to_vec(), len, 0)).to_vec();
+    wrong.extend((1..=4).filter(|other| *other != w).map(|other| with_width(p, n, frame, other)));
+    for other in [0, 1, 2, 16, 17] {
+        if other != s {
+            wrong.push(with_values(&mut g.rng, p, frame, s, other));
+        }
+    }
+    for wrong in wrong {
+        let (answer, _, _) = calls::read(g, heat(p, n, s), &wrong, n, s);
+        g.demand(answer == 6, || format!("{wrong:02x?} modulo {p}, n {n}, s {s}, with a wrong length, is answered {answer}"));
     }
 }
 
 /// On both sides of each width's end, every n, all multipliers standing: frames as long as the width says, and refused at other
-/// lengths. Writing is lent 268 bytes even where the frame has fewer.
+/// lengths. Writing is lent 264 + 4 × s bytes even where the frame has fewer.
 pub fn widths(g: &mut Group) {
     let primes = [(2, 1), (251, 1), (257, 2), (65_521, 2), (65_537, 3), (16_777_213, 3), (16_777_259, 4), (2_147_483_647, 4)];
-    for (p, w) in primes {
+    for (i, (p, w)) in primes.into_iter().enumerate() {
         for n in 1..=64 {
-            for row in [vec![1; n], vec![p - 1; n], (0..n).map(|_| 1 + g.rng.under(p - 1)).collect()] {
-                let value = number(&mut g.rng, p);
-                frame_round(g, p, n, &row, value);
-                let (number, bytes) = calls::write(g, p, n as u32, &row, value, 268);
-                let len = n.div_ceil(8) + w * n + w;
-                g.demand(number as usize == 200 + len, || format!("{n} multipliers modulo {p} are written with {number}"));
-                wrong_lengths(g, p, n, &bytes[..len]);
-                let (number, _) = calls::write(g, p, n as u32, &row, value, len);
-                let want = if len == 268 { 468 } else { 3 };
-                g.demand(number == want, || format!("{n} multipliers modulo {p}, {len} bytes lent, are answered {number}"));
+            let rows = [vec![1; n], vec![p - 1; n], (0..n).map(|_| 1 + g.rng.under(p - 1)).collect()];
+            for (at, row) in rows.iter().enumerate() {
+                full_frame(g, p, w, row, SOME_S[(i + n + at) % 4]);
             }
         }
     }
+}
+
+/// A frame of these multipliers, none of them 0, in numbers of w bytes.
+fn full_frame(g: &mut Group, p: u32, w: usize, row: &[u32], s: usize) {
+    let n = row.len();
+    let values = values(&mut g.rng, p, s);
+    frame_round(g, p, row, &values);
+    let (number, bytes) = calls::write(g, heat(p, n, s), row, &values, longest(s));
+    let len = n.div_ceil(8) + w * n + w * s;
+    g.demand(number as usize == 200 + len, || format!("{n} multipliers and {s} values modulo {p} are written with {number}"));
+    wrong_lengths(g, p, n, s, &bytes[..len]);
+    let (number, _) = calls::write(g, heat(p, n, s), row, &values, len);
+    let want = if len == longest(s) { 200 + len } else { 3 };
+    g.demand(number as usize == want, || format!("{n} multipliers modulo {p}, s {s}, {len} bytes lent, are answered {number}"));
 }
 
 pub fn seals(g: &mut Group, rounds: usize) {
     for round in 0..rounds {
         let p = any_p(&mut g.rng);
         let n = if round < 128 { 1 + round % 64 } else { 1 + g.rng.below(64) };
+        let s = any_s(&mut g.rng);
         let ends = g.rng.once_in(4);
         let low = low_end(&mut g.rng, p);
-        let records: Vec<i32> = (0..n)
+        let records: Vec<i32> = (0..n * s)
             .map(|_| {
                 let v = if ends { g.rng.pick(&[p - 1 - low, (p - low) % p, p - 1, 0]) } else { number(&mut g.rng, p) };
                 model::reading(p, low, v)
             })
             .collect();
         let numbers = if ends { vec![p - 1; n] } else { multipliers(&mut g.rng, p, n) };
-        calls::seal(g, p, n as u32, low, &records, &numbers);
+        calls::seal(g, heat(p, n, s), low, &records, &numbers, s);
     }
 }

@@ -5,14 +5,16 @@ mod boards;
 mod calls;
 mod draw;
 mod frames;
+mod histories;
 mod lent;
 mod model;
 mod tables;
 
 use boards::*;
 use calls::Group;
-use draw::{BAD, PRIMES};
+use draw::{BAD, PRIMES, SOME_S};
 use frames::*;
+use histories::*;
 use lent::{set_fence, Fence};
 use model::Met;
 use std::time::Instant;
@@ -79,64 +81,111 @@ fn required() -> Vec<String> {
     for call in ["signed", "residue", "seal", "show"] {
         of(call, "low 0, low 1, low old, low p - 2, low p - 1, low p, low most");
     }
-    of("open", "done, 1 alone, 2 alone, 3 alone, 1 before 2, 1 before 3, 2 before 3, 3 board below, 3 board above");
-    let sizes = "1 alone, 2 alone, 3 alone, 4 alone, 1 before 2, 1 before 3, 1 before 4, 2 before 3, 2 before 4, 3 before 4";
-    for call in ["write", "seal", "quasiinverse", "kernel", "solve"] {
-        of(call, "done");
-        of(call, sizes);
-    }
-    of("read", "done, 1 alone, 2 alone, 3 alone, 1 before 2, 1 before 3, 2 before 3, 3 multipliers below, 3 multipliers above");
-    of(
-        "write",
-        "all 268, 3 multipliers below, 3 multipliers above, 3 bytes below, 3 bytes above, 4 multipliers, 4 value, 4 multipliers and \
-         value",
-    );
-    of("seal", "3 records below, 3 records above, 3 multipliers below, 3 multipliers above, 4 records, 4 multipliers, 4 low");
-    of("seal", "4 multipliers and low, 4 multipliers and records, 4 low and records, 4 multipliers and low and records");
-    let frame = "6 cut map, 6 short, 6 long, 6 short with padding, 6 long with padding, 6 with a zero, 6 with a large number, \
-                 7 alone, 7 with a bad number, 8 before 4, 4 before 8, 4 multiplier, 4 value";
-    for call in ["read", "take"] {
-        of(call, frame);
-        for w in 1..=4 {
-            of(call, &format!("width {w}, 7 at width {w}, 8 alone at width {w}, 4 of p at width {w}, 4 of the most at width {w}"));
-            of(call, &format!("6 a byte short at width {w}, 6 a byte long at width {w}"));
-            of(call, &format!("6 a number short at width {w}, 6 a number long at width {w}"));
-            (1..=4).filter(|other| *other != w).for_each(|other| of(call, &format!("6 numbers of {other} at width {w}")));
-        }
-    }
-    of("write", "width 1, width 2, width 3, width 4");
-    of("take", "new, repeat, 9, 3, 3 mix below, 3 mix above, 3 before the frame, 11, 11 before 3");
-    of("withdraw", "done, all, 10, 10 by one, 11, 11 before 10");
-    of("show", "done, some settled, 3 alone, 3 marks below, 3 marks above, 3 numbers below, 3 numbers above, 4 alone");
-    of("show", "3 before 4, 11, 11 before 3, 11 before 4");
-    for call in ["take", "withdraw", "show"] {
-        of(call, "11 no header, 11 modulus, 11 size, 11 length, 11 count, 11 entry, 11 later word, 11 dependent");
-    }
-    let table = "2 m, 2 n, 2 both, 3 a below, 3 a above, 4 a, 64 by 64 rank full, 64 by 64 rank lower";
-    for call in ["quasiinverse", "kernel", "solve"] {
-        of(call, table);
-        (0..=64).for_each(|size| of(call, &format!("m {size}, n {size}")));
-    }
-    of("quasiinverse", "3 d below, 3 d above, 3 columns below, 3 columns above, 3 rows below, 3 rows above");
-    of("kernel", "3 basis below, 3 basis above");
-    of("solve", "solved, 5, 3 w below, 3 w above, 3 z below, 3 z above, 3 u below, 3 u above, 4 w, 4 both");
-    for size in 1..=64 {
-        ["read", "write", "seal", "take", "show"].iter().for_each(|call| of(call, &format!("n {size}")));
-        ["take", "show"].iter().for_each(|call| of(call, &format!("at {size}")));
-    }
-    of("take", "at 0");
-    of("show", "at 0");
-    for call in ["open", "read", "write", "seal", "quasiinverse", "kernel", "solve"] {
-        of(call, "told n 0, told n 64, told n 65, told n 4294967295");
-    }
-    for call in ["quasiinverse", "kernel", "solve"] {
-        of(call, "told m 0, told m 64, told m 65, told m 4294967295");
-    }
+    required_of_frames(&mut of);
+    required_of_boards(&mut of);
+    required_of_tables(&mut of);
     let calls = ["signed", "residue", "open", "take", "withdraw", "show", "read", "write", "seal"];
     for call in calls.into_iter().chain(["quasiinverse", "kernel", "solve"]) {
         PRIMES.iter().chain(&BAD).for_each(|p| of(call, &format!("p {p}")));
     }
     labels
+}
+
+/// Of read, write, seal and open, and of the frames that take is given.
+fn required_of_frames(of: &mut impl FnMut(&str, &str)) {
+    for call in ["open", "read", "write", "seal"] {
+        of(call, "done, 1 alone, 2 alone, 12 alone, 3 alone, 1 before 2, 1 before 12, 1 before 3, 2 before 12, 2 before 3, 12 before 3");
+        of(call, "told n 0, told n 64, told n 65, told n 4294967295");
+        of(call, "told s 0, told s 1, told s 16, told s 17, told s 4294967295");
+    }
+    of("open", "3 board below, 3 board above");
+    for call in ["read", "write", "seal"] {
+        of(call, "3 multipliers below, 3 multipliers above, 3 values below, 3 values above");
+    }
+    of("read", "12 before the frame, 3 before the frame");
+    for call in ["write", "seal"] {
+        of(call, "4 alone, 1 before 4, 2 before 4, 12 before 4, 3 before 4, 4 multipliers");
+    }
+    of(
+        "write",
+        "3 bytes below, 3 bytes above, 4 values, 4 multipliers and values, 4 first value of several, 4 last value of several",
+    );
+    of("seal", "3 records below, 3 records above, 4 records, 4 low, 4 last word of several, values that differ");
+    of("seal", "4 multipliers and low, 4 multipliers and records, 4 low and records, 4 multipliers and low and records");
+    let frame = "6 cut map, 6 short, 6 long, 6 short with padding, 6 long with padding, 6 with a zero, 6 with a large number, \
+                 7 alone, 7 with a bad number, 8 before 4, 4 before 8, 4 multiplier, 4 value, 4 first value of several, \
+                 4 last value of several, a value of 0 among several";
+    for call in ["read", "take"] {
+        of(call, frame);
+        for w in 1..=4 {
+            of(
+                call,
+                &format!("width {w}, 7 at width {w}, 8 alone at width {w}, 4 of p at width {w}, 4 of the most at width {w}"),
+            );
+            of(call, &format!("6 a byte short at width {w}, 6 a byte long at width {w}"));
+            of(call, &format!("6 a number short at width {w}, 6 a number long at width {w}"));
+            (1..=4).filter(|other| *other != w).for_each(|other| of(call, &format!("6 numbers of {other} at width {w}")));
+        }
+        of(
+            call,
+            "6 of 0 values at s 1, 6 of 2 values at s 1, 6 of 16 values at s 1, 6 of 1 values at s 2, 6 of 3 values at s 2",
+        );
+        of(
+            call,
+            "6 of 1 values at s 3, 6 of 2 values at s 3, 6 of 1 values at s 16, 6 of 15 values at s 16, 6 of 17 values at s 16",
+        );
+    }
+    for call in ["read", "write", "take"] {
+        (1..=4).for_each(|w| SOME_S.iter().for_each(|s| of(call, &format!("width {w} s {s}"))));
+    }
+    SOME_S.iter().for_each(|s| of("write", &format!("all bytes at s {s}")));
+    for size in 1..=64 {
+        ["read", "write", "seal"].iter().for_each(|call| of(call, &format!("n {size}")));
+    }
+    for s in 1..=16 {
+        ["open", "read", "write", "seal"].iter().for_each(|call| of(call, &format!("s {s}")));
+    }
+}
+
+/// Of take, withdraw and show.
+fn required_of_boards(of: &mut impl FnMut(&str, &str)) {
+    of("take", "new, repeat, 9, 3, 3 mix below, 3 mix above, 3 before the frame, 11, 11 before 3");
+    of("take", "9 first value alone, 9 last value alone, 9 middle value alone, 9 all values");
+    of("withdraw", "done, all, 10, 10 by one, 11, 11 before 10");
+    of("show", "done, some settled, 3 alone, 3 marks below, 3 marks above, 3 numbers below, 3 numbers above, 4 alone");
+    of("show", "3 one number a record, 3 before 4, 11, 11 before 3, 11 before 4");
+    for call in ["take", "withdraw", "show"] {
+        of(call, "11 no header, 11 three words, 11 modulus, 11 size, 11 words, 11 length, 11 count, 11 multiplier, 11 value");
+        of(call, "11 last value of several, 11 later word, 11 dependent");
+        for s in ["0", "17", "4294967295"] {
+            of(call, &format!("11 words {s}, 11 words {s} with the length it names"));
+        }
+    }
+    for s in 1..=16 {
+        of("take", &format!("s {s}, new s {s}, repeat s {s}, 9 s {s}, repeat s {s} of no record, 9 s {s} of no record"));
+        of("withdraw", &format!("s {s}"));
+        of("show", &format!("s {s}, some settled s {s}"));
+    }
+    for call in ["take", "show"] {
+        (1..=64).for_each(|size| of(call, &format!("n {size}, at {size}")));
+        of(call, "at 0");
+    }
+}
+
+/// Of quasiinverse, kernel and solve.
+fn required_of_tables(of: &mut impl FnMut(&str, &str)) {
+    for call in ["quasiinverse", "kernel", "solve"] {
+        of(
+            call,
+            "done, 1 alone, 2 alone, 3 alone, 4 alone, 1 before 2, 1 before 3, 1 before 4, 2 before 3, 2 before 4, 3 before 4",
+        );
+        of(call, "2 m, 2 n, 2 both, 3 a below, 3 a above, 4 a, 64 by 64 rank full, 64 by 64 rank lower");
+        (0..=64).for_each(|size| of(call, &format!("m {size}, n {size}")));
+        of(call, "told n 0, told n 64, told n 65, told n 4294967295, told m 0, told m 64, told m 65, told m 4294967295");
+    }
+    of("quasiinverse", "3 d below, 3 d above, 3 columns below, 3 columns above, 3 rows below, 3 rows above");
+    of("kernel", "3 basis below, 3 basis above");
+    of("solve", "solved, 5, 3 w below, 3 w above, 3 z below, 3 z above, 3 u below, 3 u above, 4 w, 4 both");
 }
 
 fn main() {
@@ -159,7 +208,9 @@ fn main() {
         ("histories, tiny ones all", &histories_exhaustive),
         ("histories, small boards", &|g| histories(g, 900, 9, 40)),
         ("histories, all sizes", &|g| histories(g, 80, 64, 20)),
-        ("histories, 64 standing frames", &|g| histories_largest(g, &[2, 251, 2_147_483_647])),
+        ("histories, 64 standing frames", &|g| {
+            histories_largest(g, &[(2, 1), (251, 3), (2_147_483_647, 1), (2_147_483_647, 16)])
+        }),
         ("withdrawals restore", &|g| restored(g, 300)),
         ("heats, sealed to shown", &|g| heats(g, 100)),
         ("words that are no board, tiny ones all", &boards_exhaustive),
@@ -195,7 +246,10 @@ fn main() {
     let seen: Met = model::take_met();
     let missed: Vec<String> = required().into_iter().filter(|label| !seen.contains_key(label)).collect();
     if missed.is_empty() {
-        println!("ok: every refusal, every order of two, every size, width and modulus was met: {} of them", required().len());
+        println!(
+            "ok: every refusal, every order of two, every size, width, modulus and s was met: {} of them",
+            required().len()
+        );
     } else {
         failed += 1;
         println!("error: never met: {}", missed.join(", "));

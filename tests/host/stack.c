@@ -1,11 +1,12 @@
-/* Every call at its largest size, n = m = 64 and p = 2147483647 (read and write at p = 251 too, where numbers have one byte), on a
- * thread whose stack is the most that the call may take, as docs/C.md has it, and 8 KiB for the thread itself; each answer and all
- * memory written is compared with what is known of it.
+/* Every call at its largest size, n = m = 64 and p = 2147483647 (read and write at p = 251 too, where numbers have one byte), with one
+ * word a record and with sixteen, on a thread whose stack is the most that the call may take, as docs/C.md has it, and 8 KiB for the
+ * thread itself; each answer and all memory written is compared with what is known of it.
  * Then once more on a stack of our own, to see how far down each call goes: no further than that. A call that leaves its stack
  * dies on the fence below it. The threads are small for some machines' libraries, not for x86-64, which the archive is for.
  * Ends with 0 only if all is well. */
 #define _GNU_SOURCE
 #include "dauneroad.h"
+#include "known.h"
 
 #include <pthread.h>
 #include <signal.h>
@@ -15,176 +16,29 @@
 #include <sys/mman.h>
 #include <unistd.h>
 
-#define P 2147483647u
-#define N 64
-#define WORDS DAUNEROAD_BOARD_WORDS(N)
+#define WORDS DAUNEROAD_BOARD_WORDS(N, s)
 #define BOARD_STACK 49152        /* the most bytes that take, withdraw, show, kernel and solve may take */
 #define QUASIINVERSE_STACK 73728 /* the same for quasiinverse */
 #define OTHER_STACK 8192         /* and for the others */
 #define THREAD 8192              /* what the thread needs itself */
 #define LARGE 262144
 #define FENCE 1048576
-#define UNTOUCHED 0x5a5a5a5au
-
-/* ---- what is known beforehand ---- */
-
-static uint64_t seed = 2024;
-
-static uint32_t draw(void)
-{
-    seed = seed * 6364136223846793005u + 1442695040888963407u;
-    return (uint32_t)((seed >> 32) % P);
-}
-
-static uint32_t times(uint32_t x, uint32_t y) { return (uint32_t)((uint64_t)x * y % P); }
-static uint32_t plus(uint32_t x, uint32_t y) { return (uint32_t)(((uint64_t)x + y) % P); }
-
-static uint32_t rows[N][N];     /* powers of different numbers, so any of them are independent */
-static uint32_t values[N];
-static uint32_t residues[N];
-static int32_t records[N];
-static uint32_t by[N];          /* the combination that the repeats are made of */
-static uint32_t clue[N];        /* the product of (x - node) over the first 63 nodes: what their 63 frames leave open */
-static uint32_t half[N * N];    /* a table of rank 32 on its first 32 rows and columns */
-static uint32_t unit[N * N];
-
-static uint32_t row_times(const uint32_t *row, const uint32_t *column, size_t step)
-{
-    uint32_t sum = 0;
-    for (int i = 0; i < N; i++)
-        sum = plus(sum, times(row[i], column[i * step]));
-    return sum;
-}
-
-static void know(void)
-{
-    for (int j = 0; j < N; j++) {
-        residues[j] = j == 0 ? P / 2 : j == 1 ? P / 2 + 1 : draw();
-        records[j] = residues[j] <= P / 2 ? (int32_t)residues[j] : (int32_t)((int64_t)residues[j] - (int64_t)P);
-        by[j] = draw();
-        unit[j * N + j] = 1;
-    }
-    clue[0] = 1;
-    for (uint32_t i = 0; i < N; i++) {
-        uint32_t node = 1000000007u + 31 * i;
-        rows[i][0] = 1;
-        for (int j = 1; j < N; j++)
-            rows[i][j] = times(rows[i][j - 1], node);
-        values[i] = row_times(rows[i], residues, 1);
-        for (int j = (int)i + 1; i < N - 1 && j >= 0; j--)
-            clue[j] = plus(j > 0 ? clue[j - 1] : 0, times(clue[j], P - node));
-    }
-    /* (lower; anything) times (upper, anything) with ones on both diagonals */
-    static uint32_t left[N][32], right[32][N];
-    for (int i = 0; i < N; i++) {
-        for (int k = 0; k < 32; k++) {
-            left[i][k] = i == k ? 1 : i < k ? 0 : draw();
-            right[k][i] = i == k ? 1 : i < k ? 0 : draw();
-        }
-    }
-    for (int i = 0; i < N; i++)
-        for (int j = 0; j < N; j++)
-            for (int k = 0; k < 32; k++)
-                half[i * N + j] = plus(half[i * N + j], times(left[i][k], right[k][j]));
-}
-
-/* ---- what is lent ---- */
-
-static uint32_t board[WORDS], want[WORDS];
-static uint32_t table[N * N], out[N * N], product[N * N], columns[N], marks[N], mix[N], w[N], z[N], u[N], value;
-static int32_t numbers[N], record;
-static uint8_t frame[DAUNEROAD_LONGEST_FRAME], bytes[DAUNEROAD_LONGEST_FRAME];
-static size_t frame_len;
-
-static void lay_board(uint32_t *to, uint32_t count)
-{
-    memset(to, 0, WORDS * sizeof *to);
-    to[0] = P;
-    to[1] = N;
-    to[2] = count;
-    for (uint32_t i = 0; i < count; i++) {
-        memcpy(to + 3 + i * (N + 1), rows[i], sizeof rows[i]);
-        to[3 + i * (N + 1) + N] = values[i];
-    }
-}
-
-/* Numbers modulo P have four bytes in a frame. */
-static void lay_number(uint32_t x)
-{
-    for (int shift = 24; shift >= 0; shift -= 8)
-        frame[frame_len++] = (uint8_t)(x >> shift);
-}
-
-static void lay_frame(const uint32_t *multipliers, uint32_t last)
-{
-    memset(frame, 0, sizeof frame);
-    frame_len = N / 8;
-    for (int j = 0; j < N; j++) {
-        if (multipliers[j] != 0) {
-            frame[j / 8] |= (uint8_t)(1 << (j % 8));
-            lay_number(multipliers[j]);
-        }
-    }
-    lay_number(last);
-}
-
-/* The combination of the first rows that `by` says, with this added to its value. */
-static void lay_repeat(uint32_t count, uint32_t more)
-{
-    uint32_t sum[N] = {0}, last = more;
-    for (uint32_t i = 0; i < count; i++) {
-        for (int j = 0; j < N; j++)
-            sum[j] = plus(sum[j], times(by[i], rows[i][j]));
-        last = plus(last, times(by[i], values[i]));
-    }
-    lay_frame(sum, last);
-}
-
-static void fill(void *memory, size_t len) { memset(memory, 0x5a, len); }
-
-static int untouched(const uint32_t *memory, size_t len)
-{
-    for (size_t i = 0; i < len; i++)
-        if (memory[i] != UNTOUCHED)
-            return 0;
-    return 1;
-}
-
-static int all(const uint32_t *memory, size_t len, uint32_t x)
-{
-    for (size_t i = 0; i < len; i++)
-        if (memory[i] != x)
-            return 0;
-    return 1;
-}
-
-static int mix_is(uint32_t count) { return memcmp(mix, by, count * sizeof *by) == 0 && all(mix + count, N - count, 0); }
-
-static int board_is(uint32_t count)
-{
-    lay_board(want, count);
-    return memcmp(board, want, sizeof want) == 0;
-}
-
-static void multiply(const uint32_t *x, const uint32_t *y, uint32_t *to)
-{
-    for (int i = 0; i < N; i++)
-        for (int j = 0; j < N; j++)
-            to[i * N + j] = row_times(x + i * N, y + j, N);
-}
 
 /* ---- the cases: what is made ready, the call, and what must then hold ---- */
 
-static uint32_t call_open(void) { return dauneroad_open(P, N, board, WORDS); }
+static uint32_t call_open(void) { return dauneroad_open(P, N, s, board, WORDS); }
 static uint32_t call_take(void) { return dauneroad_take(board, WORDS, frame, frame_len, mix, N); }
-static uint32_t call_show(void) { return dauneroad_show(board, WORDS, DAUNEROAD_LOW(P), marks, N, numbers, N); }
+static uint32_t call_show(void) { return dauneroad_show(board, WORDS, DAUNEROAD_LOW(P), marks, N, numbers, N * s); }
 static uint32_t call_withdraw_one(void) { return dauneroad_withdraw(board, WORDS, 1); }
 static uint32_t call_withdraw_all(void) { return dauneroad_withdraw(board, WORDS, N); }
-static uint32_t call_read(void) { return dauneroad_read(P, N, frame, frame_len, mix, N, &value); }
-static uint32_t call_write(void) { return dauneroad_write(P, N, rows[63], N, values[63], bytes, sizeof bytes); }
-static uint32_t call_seal(void) { return dauneroad_seal(P, N, DAUNEROAD_LOW(P), records, N, rows[63], N, &value); }
+static uint32_t call_read(void) { return dauneroad_read(P, N, s, frame, frame_len, mix, N, got, s); }
+static uint32_t call_write(void)
+{
+    return dauneroad_write(P, N, s, rows[63], N, values[63], s, bytes, DAUNEROAD_LONGEST_FRAME(s));
+}
+static uint32_t call_seal(void) { return dauneroad_seal(P, N, s, DAUNEROAD_LOW(P), records, N * s, rows[63], N, got, s); }
 static uint32_t call_signed(void) { return dauneroad_signed(P, DAUNEROAD_LOW(P), P / 2 + 1, &record); }
-static uint32_t call_residue(void) { return dauneroad_residue(P, DAUNEROAD_LOW(P), -(int32_t)(P / 2), &value); }
+static uint32_t call_residue(void) { return dauneroad_residue(P, DAUNEROAD_LOW(P), -(int32_t)(P / 2), &residue); }
 static uint32_t call_quasiinverse(void)
 {
     return dauneroad_quasiinverse(P, N, N, table, N * N, out, N * N, columns, N, marks, N);
@@ -211,10 +65,11 @@ static int after_conflict_64(uint32_t answer) { return answer == DAUNEROAD_CONFL
 static void ready_no_board(void)
 {
     lay_board(board, 64);
-    memset(board + 3 + 63 * (N + 1), 0, N * sizeof *board);
+    uint32_t *last = board + 4 + 63 * (N + s);
+    memset(last, 0, N * sizeof *last);
     for (int i = 0; i < 63; i++)
         for (int j = 0; j < N; j++)
-            board[3 + 63 * (N + 1) + j] = plus(board[3 + 63 * (N + 1) + j], rows[i][j]);
+            last[j] = plus(last[j], rows[i][j]);
     lay_frame(rows[63], values[63]);
     memcpy(want, board, sizeof board);
 }
@@ -226,51 +81,66 @@ static int after_no_board(uint32_t answer)
 static void ready_show_63(void) { lay_board(board, 63); }
 static int after_show_63(uint32_t answer)
 {
-    for (int j = 0; j < N; j++)
-        if (marks[j] != (clue[j] == 0) || numbers[j] != (clue[j] == 0 ? records[j] : 0))
+    for (uint32_t i = 0; i < N * s; i++)
+        if (marks[i / s] != (clue[i / s] == 0) || numbers[i] != (clue[i / s] == 0 ? records[i] : 0))
             return 0;
     return answer == DAUNEROAD_DONE + 1 && board_is(63);
 }
 static void ready_show_64(void) { lay_board(board, 64); }
 static int after_show_64(uint32_t answer)
 {
-    return answer == DAUNEROAD_DONE && board_is(64) && all(marks, N, 1) && memcmp(numbers, records, sizeof records) == 0;
+    return answer == DAUNEROAD_DONE && board_is(64) && all(marks, N, 1) && memcmp(numbers, records, N * s * sizeof *records) == 0;
 }
 
 static void ready_withdraw(void) { lay_board(board, 64); }
 static int after_withdraw_one(uint32_t answer) { return answer == DAUNEROAD_DONE + 63 && board_is(63); }
 static int after_withdraw_all(uint32_t answer) { return answer == DAUNEROAD_DONE && board_is(0); }
 
-static void ready_frame(void) { lay_frame(rows[63], values[63]), fill(bytes, sizeof bytes), fill(&value, sizeof value); }
+static int got_is(const uint32_t *last) { return memcmp(got, last, s * sizeof *got) == 0 && untouched(got + s, S - s); }
+
+static void ready_frame(void) { lay_frame(rows[63], values[63]), fill(bytes, sizeof bytes), fill(&residue, sizeof residue); }
 static int after_read(uint32_t answer)
 {
-    return answer == 0 && memcmp(mix, rows[63], sizeof mix) == 0 && value == values[63] && frame_len == sizeof frame;
+    return answer == DAUNEROAD_DONE + s && memcmp(mix, rows[63], sizeof mix) == 0 && got_is(values[63]) &&
+           frame_len == DAUNEROAD_LONGEST_FRAME(s);
 }
-static int after_write(uint32_t answer) { return answer == DAUNEROAD_DONE + 268 && memcmp(bytes, frame, sizeof frame) == 0; }
-static int after_seal(uint32_t answer) { return answer == 0 && value == values[63]; }
+static int after_write(uint32_t answer)
+{
+    return answer == DAUNEROAD_DONE + DAUNEROAD_LONGEST_FRAME(s) && memcmp(bytes, frame, sizeof frame) == 0;
+}
+static int after_seal(uint32_t answer) { return answer == DAUNEROAD_DONE + s && got_is(values[63]); }
 static int after_signed(uint32_t answer) { return answer == 0 && record == -(int32_t)(P / 2); }
-static int after_residue(uint32_t answer) { return answer == 0 && value == P / 2 + 1; }
+static int after_residue(uint32_t answer) { return answer == 0 && residue == P / 2 + 1; }
 
-/* numbers of one byte: 64 multipliers of 250 and the value 7, modulo 251 */
-static uint32_t call_read_narrow(void) { return dauneroad_read(251, N, frame, frame_len, mix, N, &value); }
-static uint32_t call_write_narrow(void) { return dauneroad_write(251, N, w, N, 7, bytes, sizeof bytes); }
+/* numbers of one byte: 64 multipliers of 250 and values from 7 on, modulo 251 */
+static const uint32_t narrow[S] = {7, 8, 9, 10, 11, 12, 13, 14, 15, 16, 17, 18, 19, 20, 21, 22};
+static uint32_t call_read_narrow(void) { return dauneroad_read(251, N, s, frame, frame_len, mix, N, got, s); }
+static uint32_t call_write_narrow(void)
+{
+    return dauneroad_write(251, N, s, w, N, narrow, s, bytes, DAUNEROAD_LONGEST_FRAME(s));
+}
 static void ready_narrow(void)
 {
-    frame_len = N / 8 + N + 1;
-    fill(frame, sizeof frame), fill(bytes, sizeof bytes), fill(&value, sizeof value);
+    frame_len = N / 8 + N + s;
+    fill(frame, sizeof frame), fill(bytes, sizeof bytes);
     memset(frame, 0xff, N / 8);
     memset(frame + N / 8, 250, N);
-    frame[frame_len - 1] = 7;
+    for (uint32_t i = 0; i < s; i++)
+        frame[N / 8 + N + i] = (uint8_t)narrow[i];
     for (int j = 0; j < N; j++)
         w[j] = 250;
 }
-static int after_read_narrow(uint32_t answer) { return answer == 0 && all(mix, N, 250) && value == 7; }
-static int after_write_narrow(uint32_t answer) { return answer == DAUNEROAD_DONE + 73 && memcmp(bytes, frame, sizeof frame) == 0; }
+static int after_read_narrow(uint32_t answer) { return answer == DAUNEROAD_DONE + s && all(mix, N, 250) && got_is(narrow); }
+static int after_write_narrow(uint32_t answer)
+{
+    return answer == DAUNEROAD_DONE + 72 + s && memcmp(bytes, frame, sizeof frame) == 0;
+}
 
 static void ready_full(void)
 {
     memcpy(table, rows, sizeof table);
-    memcpy(w, values, sizeof w);
+    for (int i = 0; i < N; i++)
+        w[i] = values[i][0];
 }
 static int after_quasiinverse_full(uint32_t answer)
 {
@@ -280,14 +150,14 @@ static int after_quasiinverse_full(uint32_t answer)
 static int after_kernel_full(uint32_t answer) { return answer == DAUNEROAD_DONE && all(out, N * N, 0); }
 static int after_solve_full(uint32_t answer)
 {
-    return answer == DAUNEROAD_DONE + 64 && memcmp(z, residues, sizeof z) == 0 && all(u, N, 0);
+    return answer == DAUNEROAD_DONE + 64 && memcmp(z, residues[0], sizeof z) == 0 && all(u, N, 0);
 }
 
 static void ready_half(void)
 {
     memcpy(table, half, sizeof table);
     for (int i = 0; i < N; i++)
-        w[i] = row_times(table + i * N, residues, 1);
+        w[i] = row_times(table + i * N, residues[0], 1);
 }
 static void ready_insoluble(void)
 {
@@ -344,37 +214,38 @@ typedef struct {
     uint32_t (*call)(void);
     int (*after)(uint32_t answer);
     size_t most;
+    int once; /* with one word a record only: it knows of no words */
 } Case;
 
 static const Case cases[] = {
-    {"open", ready_open, call_open, after_open, OTHER_STACK},
-    {"take-new-at-63", ready_new, call_take, after_new, BOARD_STACK},
-    {"take-repeat-at-63", ready_repeat_63, call_take, after_repeat_63, BOARD_STACK},
-    {"take-conflict-at-63", ready_conflict_63, call_take, after_conflict_63, BOARD_STACK},
-    {"take-repeat-at-64", ready_repeat_64, call_take, after_repeat_64, BOARD_STACK},
-    {"take-conflict-at-64", ready_conflict_64, call_take, after_conflict_64, BOARD_STACK},
-    {"take-no-board", ready_no_board, call_take, after_no_board, BOARD_STACK},
-    {"show-no-board", ready_no_board, call_show, after_no_board, BOARD_STACK},
-    {"withdraw-no-board", ready_no_board, call_withdraw_one, after_no_board, BOARD_STACK},
-    {"show-at-63", ready_show_63, call_show, after_show_63, BOARD_STACK},
-    {"show-at-64", ready_show_64, call_show, after_show_64, BOARD_STACK},
-    {"withdraw-1-of-64", ready_withdraw, call_withdraw_one, after_withdraw_one, BOARD_STACK},
-    {"withdraw-64-of-64", ready_withdraw, call_withdraw_all, after_withdraw_all, BOARD_STACK},
-    {"read", ready_frame, call_read, after_read, OTHER_STACK},
-    {"write", ready_frame, call_write, after_write, OTHER_STACK},
-    {"read-narrow", ready_narrow, call_read_narrow, after_read_narrow, OTHER_STACK},
-    {"write-narrow", ready_narrow, call_write_narrow, after_write_narrow, OTHER_STACK},
-    {"seal", ready_frame, call_seal, after_seal, OTHER_STACK},
-    {"signed", ready_frame, call_signed, after_signed, OTHER_STACK},
-    {"residue", ready_frame, call_residue, after_residue, OTHER_STACK},
-    {"quasiinverse-rank-64", ready_full, call_quasiinverse, after_quasiinverse_full, QUASIINVERSE_STACK},
-    {"quasiinverse-rank-32", ready_half, call_quasiinverse, after_quasiinverse_half, QUASIINVERSE_STACK},
-    {"kernel-rank-64", ready_full, call_kernel, after_kernel_full, BOARD_STACK},
-    {"kernel-rank-32", ready_half, call_kernel, after_kernel_half, BOARD_STACK},
-    {"kernel-rank-0", ready_zero, call_kernel, after_kernel_zero, BOARD_STACK},
-    {"solve-rank-64", ready_full, call_solve, after_solve_full, BOARD_STACK},
-    {"solve-rank-32", ready_half, call_solve, after_solve_half, BOARD_STACK},
-    {"solve-insoluble", ready_insoluble, call_solve, after_insoluble, BOARD_STACK},
+    {"open", ready_open, call_open, after_open, OTHER_STACK, 0},
+    {"take-new-at-63", ready_new, call_take, after_new, BOARD_STACK, 0},
+    {"take-repeat-at-63", ready_repeat_63, call_take, after_repeat_63, BOARD_STACK, 0},
+    {"take-conflict-at-63", ready_conflict_63, call_take, after_conflict_63, BOARD_STACK, 0},
+    {"take-repeat-at-64", ready_repeat_64, call_take, after_repeat_64, BOARD_STACK, 0},
+    {"take-conflict-at-64", ready_conflict_64, call_take, after_conflict_64, BOARD_STACK, 0},
+    {"take-no-board", ready_no_board, call_take, after_no_board, BOARD_STACK, 0},
+    {"show-no-board", ready_no_board, call_show, after_no_board, BOARD_STACK, 0},
+    {"withdraw-no-board", ready_no_board, call_withdraw_one, after_no_board, BOARD_STACK, 0},
+    {"show-at-63", ready_show_63, call_show, after_show_63, BOARD_STACK, 0},
+    {"show-at-64", ready_show_64, call_show, after_show_64, BOARD_STACK, 0},
+    {"withdraw-1-of-64", ready_withdraw, call_withdraw_one, after_withdraw_one, BOARD_STACK, 0},
+    {"withdraw-64-of-64", ready_withdraw, call_withdraw_all, after_withdraw_all, BOARD_STACK, 0},
+    {"read", ready_frame, call_read, after_read, OTHER_STACK, 0},
+    {"write", ready_frame, call_write, after_write, OTHER_STACK, 0},
+    {"read-narrow", ready_narrow, call_read_narrow, after_read_narrow, OTHER_STACK, 0},
+    {"write-narrow", ready_narrow, call_write_narrow, after_write_narrow, OTHER_STACK, 0},
+    {"seal", ready_frame, call_seal, after_seal, OTHER_STACK, 0},
+    {"signed", ready_frame, call_signed, after_signed, OTHER_STACK, 1},
+    {"residue", ready_frame, call_residue, after_residue, OTHER_STACK, 1},
+    {"quasiinverse-rank-64", ready_full, call_quasiinverse, after_quasiinverse_full, QUASIINVERSE_STACK, 1},
+    {"quasiinverse-rank-32", ready_half, call_quasiinverse, after_quasiinverse_half, QUASIINVERSE_STACK, 1},
+    {"kernel-rank-64", ready_full, call_kernel, after_kernel_full, BOARD_STACK, 1},
+    {"kernel-rank-32", ready_half, call_kernel, after_kernel_half, BOARD_STACK, 1},
+    {"kernel-rank-0", ready_zero, call_kernel, after_kernel_zero, BOARD_STACK, 1},
+    {"solve-rank-64", ready_full, call_solve, after_solve_full, BOARD_STACK, 1},
+    {"solve-rank-32", ready_half, call_solve, after_solve_half, BOARD_STACK, 1},
+    {"solve-insoluble", ready_insoluble, call_solve, after_insoluble, BOARD_STACK, 1},
 };
 
 /* ---- the threads ---- */
@@ -388,9 +259,10 @@ static char aside[65536];
 static void died(int signal)
 {
     (void)signal;
-    static const char before[] = "error: beyond its stack: ", after[] = "\n";
+    static const char before[] = "error: beyond its stack: ";
+    const char *after = s == 1 ? ", s 1\n" : ", s 16\n";
     if (write(1, before, sizeof before - 1) < 0 || write(1, running->name, strlen(running->name)) < 0 ||
-        write(1, after, 1) < 0)
+        write(1, after, strlen(after)) < 0)
         _exit(3);
     _exit(2);
 }
@@ -448,13 +320,49 @@ static int run(const Case *it, void *(*body)(void *), pthread_attr_t *attributes
     pthread_t thread;
     running = it;
     running_answer = 0;
+    lay_records();
     fill(mix, sizeof mix), fill(marks, sizeof marks), fill(columns, sizeof columns), fill(numbers, sizeof numbers);
-    fill(out, sizeof out), fill(z, sizeof z), fill(u, sizeof u);
+    fill(out, sizeof out), fill(z, sizeof z), fill(u, sizeof u), fill(got, sizeof got);
     it->ready();
     fflush(stdout);
     must(pthread_create(&thread, attributes, body, NULL), "pthread_create");
     must(pthread_join(thread, NULL), "pthread_join");
     return it->after(running_answer);
+}
+
+/* Each case on a stack of its own size. */
+static int on_small_stacks(void)
+{
+    int failures = 0;
+    for (size_t i = 0; i < sizeof cases / sizeof *cases; i++) {
+        size_t stack = cases[i].most + THREAD;
+        pthread_attr_t attributes;
+        if (cases[i].once && s > 1)
+            continue;
+        pthread_attr_init(&attributes);
+        must(pthread_attr_setstacksize(&attributes, stack), "pthread_attr_setstacksize");
+        must(pthread_attr_setguardsize(&attributes, FENCE), "pthread_attr_setguardsize");
+        int holds = run(&cases[i], on_thread, &attributes);
+        printf("%s: on a stack of %zu bytes, %s, s %u, answers %u\n", holds ? "ok" : "error", stack, cases[i].name, (unsigned)s,
+               (unsigned)running_answer);
+        failures += !holds;
+        pthread_attr_destroy(&attributes);
+    }
+    return failures;
+}
+
+/* Each case on the painted stack. */
+static int measured(pthread_attr_t *attributes)
+{
+    int failures = 0;
+    for (size_t i = 0; i < sizeof cases / sizeof *cases; i++) {
+        if (cases[i].once && s > 1)
+            continue;
+        int holds = run(&cases[i], on_painted_thread, attributes) && depth <= cases[i].most;
+        printf("%s: stack %s, s %u: %zu, at most %zu\n", holds ? "ok" : "error", cases[i].name, (unsigned)s, depth, cases[i].most);
+        failures += !holds;
+    }
+    return failures;
 }
 
 int main(void)
@@ -464,30 +372,18 @@ int main(void)
     sigaction(SIGSEGV, &action, NULL);
     sigaction(SIGBUS, &action, NULL);
     know();
+    for (s = 1; s <= S; s += S - 1)
+        failures += on_small_stacks();
 
     pthread_attr_t attributes;
-    for (size_t i = 0; i < sizeof cases / sizeof *cases; i++) {
-        size_t stack = cases[i].most + THREAD;
-        pthread_attr_init(&attributes);
-        must(pthread_attr_setstacksize(&attributes, stack), "pthread_attr_setstacksize");
-        must(pthread_attr_setguardsize(&attributes, FENCE), "pthread_attr_setguardsize");
-        int holds = run(&cases[i], on_thread, &attributes);
-        printf("%s: on a stack of %zu bytes, %s answers %u\n", holds ? "ok" : "error", stack, cases[i].name, (unsigned)running_answer);
-        failures += !holds;
-        pthread_attr_destroy(&attributes);
-    }
-
     unsigned char *area = mmap(NULL, FENCE + LARGE, PROT_NONE, MAP_PRIVATE | MAP_ANONYMOUS, -1, 0);
     must(area == MAP_FAILED, "mmap");
     own_stack = area + FENCE;
     must(mprotect(own_stack, LARGE, PROT_READ | PROT_WRITE), "mprotect");
     pthread_attr_init(&attributes);
     must(pthread_attr_setstack(&attributes, own_stack, LARGE), "pthread_attr_setstack");
-    for (size_t i = 0; i < sizeof cases / sizeof *cases; i++) {
-        int holds = run(&cases[i], on_painted_thread, &attributes) && depth <= cases[i].most;
-        printf("%s: stack %s %zu, at most %zu\n", holds ? "ok" : "error", cases[i].name, depth, cases[i].most);
-        failures += !holds;
-    }
+    for (s = 1; s <= S; s += S - 1)
+        failures += measured(&attributes);
     pthread_attr_destroy(&attributes);
     printf("stack: done\n");
     return failures != 0;

@@ -1,7 +1,7 @@
 -- A row is cleared at the pivots of the worked rows, one group of four after the other: at a group's pivots each multiplier
 -- acts alone, as the rows of a group are zero at each other's pivots; and at earlier pivots the group's rows are zero.
 use mathlib.Core.Path.{_≡_, refl, sym, ap, ap₂, _∙_}
-use Prim.Native.Nat.{ℕ, suc, _+_, _-_, _*_, _/_, _≤_, _<_}
+use Prim.Native.Nat.{ℕ, _+_, _-_, _*_, _/_, _≤_, _<_}
 use native.Mathlib.Nat.{add-left-cancel}
 use native.Mathlib.Decide.{decLt}
 use native.Mathlib.Omega.{arith}
@@ -22,8 +22,8 @@ module _ (R : Ring) (L : IsCommutativeRing R) (one-not-zero : R .one ≡ R .zero
   infixl 60 _⊕_
   infixl 70 _⊗_
   -- row i itself
-  pub cleared-none : {i n : ℕ} {M : Matrix R} {r : ℕ} {E : Matrix R} {pivot : ℕ → ℕ} {x : Vector R}
-      → ((j : ℕ) → j < suc n → x j ≡ M i j) → ClearedTo R 0 i n M r E pivot x
+  pub cleared-none : {i width : ℕ} {M : Matrix R} {r : ℕ} {E : Matrix R} {pivot : ℕ → ℕ} {x : Vector R}
+      → ((j : ℕ) → j < width → x j ≡ M i j) → ClearedTo R 0 i width M r E pivot x
   unfolding mixed
   cleared-none {i} {M = M} {E = E} h =
       record {
@@ -34,8 +34,8 @@ module _ (R : Ring) (L : IsCommutativeRing R) (one-not-zero : R .one ≡ R .zero
       }
 
   -- once all worked rows are reached the row is cleared
-  pub cleared-all : {g i n : ℕ} {M : Matrix R} {r : ℕ} {E : Matrix R} {pivot : ℕ → ℕ} {x : Vector R}
-      → r ≤ g → ClearedTo R g i n M r E pivot x → Cleared R i n M r E pivot x
+  pub cleared-all : {g i width : ℕ} {M : Matrix R} {r : ℕ} {E : Matrix R} {pivot : ℕ → ℕ} {x : Vector R}
+      → r ≤ g → ClearedTo R g i width M r E pivot x → Cleared R i width M r E pivot x
   cleared-all {g} {i} {M = M} {r = r} {E = E} l c =
       record {
         by = c .by;
@@ -72,9 +72,9 @@ module _ (R : Ring) (L : IsCommutativeRing R) (one-not-zero : R .one ≡ R .zero
       (sums.sum-same R 4 (λ k. joined g u v (g + k) ⊗ E (g + k) j) (λ k. v k ⊗ E (g + k) j)
       (λ k l. ap (λ a. a ⊗ E (g + k) j) (joined-next g u v k l)))
 
-  module _ {i n : ℕ} {M : Matrix R} {r : ℕ} {E : Matrix R} {pivot : ℕ → ℕ} {x x′ : Vector R} (q : ℕ)
-      (cleared : (s t : ℕ) → s < r → t < r → s / 4 ≤ t / 4 → E t (pivot s) ≡ unit R s t) (below : (t : ℕ) → t < r → pivot t < suc n)
-      (c : ClearedTo R (4 * q) i n M r E pivot x) (a : GroupAdded R (4 * q) n r E pivot x x′)
+  module _ {i width : ℕ} {M : Matrix R} {r : ℕ} {E : Matrix R} {pivot : ℕ → ℕ} {x x′ : Vector R} (q : ℕ)
+      (cleared : (s t : ℕ) → s < r → t < r → s / 4 ≤ t / 4 → E t (pivot s) ≡ unit R s t) (below : (t : ℕ) → t < r → pivot t < width)
+      (c : ClearedTo R (4 * q) i width M r E pivot x) (a : GroupAdded R (4 * q) width r E pivot x x′)
     where
       -- what a row of the group adds at a pivot up to the group's, unless it is its own
       term-zero : (s : ℕ) → s < r → s < 4 * q + 4 → (k : ℕ) → k < 4 → (s ≡ 4 * q + k → ⊥) → a .by k ⊗ E (4 * q + k) (pivot s) ≡ 𝟘
@@ -110,7 +110,7 @@ module _ (R : Ring) (L : IsCommutativeRing R) (one-not-zero : R .one ≡ R .zero
           p = pivot (4 * q + k)
 
       -- the next group is added
-      pub cleared-group : ClearedTo R (4 * q + 4) i n M r E pivot x′
+      pub cleared-group : ClearedTo R (4 * q + 4) i width M r E pivot x′
       cleared-group =
           record {
             by = joined (4 * q) (c .by) (a .by);

@@ -5,7 +5,7 @@ use mathlib.Core.Path.{_≡_, refl, sym, ap, _∙_, subst}
 use mathlib.Core.Logic.{⊎-elim}
 use mathlib.Core.Bool.{true, false}
 use Prim.Native.Nat.{ℕ, suc, _+_, _*_, _/_, _≤_, _<_, zero-le}
-use native.Mathlib.Nat.{not-suc-le-zero, le-refl, lt-suc-self, le-step, le-of-suc-le-suc, eq-or-lt-of-le, lt-trans, ne-of-lt, add-zero}
+use native.Mathlib.Nat.{not-suc-le-zero, le-refl, lt-suc-self, le-step, le-of-suc-le-suc, eq-or-lt-of-le, lt-trans, lt-of-lt-of-le, ne-of-lt, add-zero}
 use native.Mathlib.Decide.{decLe, ℕ-discrete}
 use native.Mathlib.Omega.{arith}
 use borrow.Author.Tests.{eq-eqb, eqb-true, ne-eqb}
@@ -34,7 +34,7 @@ module _ (R : Ring) (L : IsCommutativeRing R) (one-not-zero : R .one ≡ R .zero
 
   infixl 60 _⊕_
   infixl 70 _⊗_
-  module _ {m n : ℕ} {M : Matrix R} {r : ℕ} {E : Matrix R} {pivot : ℕ → ℕ} (w : Worked R m n M r E pivot) where
+  module _ {m n width : ℕ} {M : Matrix R} {r : ℕ} {E : Matrix R} {pivot : ℕ → ℕ} (w : Worked R m n width M r E pivot) where
     pub pivot-below : (t : ℕ) → t < r → pivot t < n
     pivot-below t l = w .inverse .columns (pivot t) (w .chosen t l)
 
@@ -61,10 +61,11 @@ module _ (R : Ring) (L : IsCommutativeRing R) (one-not-zero : R .one ≡ R .zero
         go (no b) = sym (same t s (sym (w .cleared t s ht hs (omega arith)) ∙ ap (E s) (sym e) ∙ own-pivot s hs))
 
   -- before the first row
-  pub worked-none : (n : ℕ) (M E : Matrix R) (pivot : ℕ → ℕ) → Worked R 0 n M 0 E pivot
+  pub worked-none : (n width : ℕ) (M E : Matrix R) (pivot : ℕ → ℕ) → n ≤ width → Worked R 0 n width M 0 E pivot
   unfolding none
-  worked-none n M E pivot =
+  worked-none n width M E pivot narrow =
       record {
+        narrow = narrow;
         D = zeros R;
         I = none;
         J = none;
@@ -77,10 +78,11 @@ module _ (R : Ring) (L : IsCommutativeRing R) (one-not-zero : R .one ≡ R .zero
       }
 
   -- a row that brings no pivot
-  rows-kept : {i n : ℕ} {M : Matrix R} {r : ℕ} {E : Matrix R} {pivot : ℕ → ℕ} → (w : Worked R i n M r E pivot)
-      → (D′ : Matrix R) × IsPivotInverse R (suc i) n (cut R (suc i) n M) D′ (w .I) (w .J) → Worked R (suc i) n M r E pivot
+  rows-kept : {i n width : ℕ} {M : Matrix R} {r : ℕ} {E : Matrix R} {pivot : ℕ → ℕ} → (w : Worked R i n width M r E pivot)
+      → (D′ : Matrix R) × IsPivotInverse R (suc i) n (cut R (suc i) n M) D′ (w .I) (w .J) → Worked R (suc i) n width M r E pivot
   rows-kept {i} w (D′, Q) =
       record {
+        narrow = w .narrow;
         D = D′;
         I = w .I;
         J = w .J;
@@ -93,34 +95,39 @@ module _ (R : Ring) (L : IsCommutativeRing R) (one-not-zero : R .one ≡ R .zero
       }
 
   -- every column has its pivot: the next row follows from those above
-  pub row-follows : {i n : ℕ} {M : Matrix R} {E : Matrix R} {pivot : ℕ → ℕ} → Worked R i n M n E pivot → Worked R (suc i) n M n E pivot
+  pub row-follows : {i n width : ℕ} {M : Matrix R} {E : Matrix R} {pivot : ℕ → ℕ} → Worked R i n width M n E pivot → Worked R (suc i) n width M n E pivot
   row-follows {n = n} {M = M} w =
       rows-kept w
       (next-depends R L M (w .inverse) one-not-zero (remainder-none R L M (w .inverse) (all-marked n (w .I) (sym (w .rank)))))
 
   -- the cleared row is what is left of row i
-  remainder-cleared : {i n : ℕ} {M : Matrix R} {r : ℕ} {E : Matrix R} {pivot : ℕ → ℕ} {x : Vector R}
-      → (w : Worked R i n M r E pivot) → Cleared R i n M r E pivot x → (j : ℕ) → j < n → remainder R i n M (w .D) 0 j ≡ x j
-  remainder-cleared {i} {n} {M} {r} {E} {pivot} {x} w c =
-      let W : Within R i (suc n) M (w .J) (mixed R r (c .by) E) = within-mixed R L r (c .by) E (w .combined) in
+  remainder-cleared : {i n width : ℕ} {M : Matrix R} {r : ℕ} {E : Matrix R} {pivot : ℕ → ℕ} {x : Vector R}
+      → (w : Worked R i n width M r E pivot) → Cleared R i width M r E pivot x → (j : ℕ) → j < n → remainder R i n M (w .D) 0 j ≡ x j
+  remainder-cleared {i} {n} {width} {M} {r} {E} {pivot} {x} w c =
+      let W : Within R i width M (w .J) (mixed R r (c .by) E) = within-mixed R L r (c .by) E (w .combined) in
       remainder-is R L M (w .inverse) x (W .by)
-      (λ j l. c .sums j (le-step l) ∙ ap (λ a. M i j ⊕ a) (W .combines j (le-step l)))
+      (λ j l.
+      let b = lt-of-lt-of-le l (w .narrow) in
+      c .sums j b ∙ ap (λ a. M i j ⊕ a) (W .combines j b))
       (W .supported) zero-there
     where
       zero-there : (q : ℕ) → w .I q ≡ true → x q ≡ 𝟘
       zero-there q h = let (t, (l, e)) = w .found q h in ap x (sym e) ∙ c .zeros-at t l l
 
   -- the cleared row is zero
-  pub row-skipped : {i n : ℕ} {M : Matrix R} {r : ℕ} {E : Matrix R} {pivot : ℕ → ℕ} {x : Vector R}
-      → Worked R i n M r E pivot → Cleared R i n M r E pivot x → ((j : ℕ) → j < n → x j ≡ 𝟘) → Worked R (suc i) n M r E pivot
+  pub row-skipped : {i n width : ℕ} {M : Matrix R} {r : ℕ} {E : Matrix R} {pivot : ℕ → ℕ} {x : Vector R}
+      → Worked R i n width M r E pivot → Cleared R i width M r E pivot x → ((j : ℕ) → j < n → x j ≡ 𝟘) → Worked R (suc i) n width M r E pivot
   row-skipped {M = M} w c h =
       rows-kept w (next-depends R L M (w .inverse) one-not-zero (λ j l. remainder-cleared w c j l ∙ h j l))
 
   -- the cleared row joins the worked ones
-  module _ {i n : ℕ} {M : Matrix R} {r : ℕ} {E : Matrix R} {pivot : ℕ → ℕ} {x : Vector R} {v : ℕ} {s : Carrier} {E′ : Matrix R} {pivot′ : ℕ → ℕ}
-      (w : Worked R i n M r E pivot) (c : Cleared R i n M r E pivot x) (below : v < n) (before : (j : ℕ) → j < v → x j ≡ 𝟘)
-      (inverse : x v ⊗ s ≡ 𝟙) (g : Grown R n r v s x E pivot E′ pivot′)
+  module _ {i n width : ℕ} {M : Matrix R} {r : ℕ} {E : Matrix R} {pivot : ℕ → ℕ} {x : Vector R} {v : ℕ} {s : Carrier} {E′ : Matrix R} {pivot′ : ℕ → ℕ}
+      (w : Worked R i n width M r E pivot) (c : Cleared R i width M r E pivot x) (below : v < n) (before : (j : ℕ) → j < v → x j ≡ 𝟘)
+      (inverse : x v ⊗ s ≡ 𝟙) (g : Grown R width r v s x E pivot E′ pivot′)
     where
+      in-row : {q : ℕ} → q < n → q < width
+      in-row l = lt-of-lt-of-le l (w .narrow)
+
       x-at-pivot : (t : ℕ) → t < r → x (pivot t) ≡ 𝟘
       x-at-pivot t l = c .zeros-at t l l
 
@@ -134,10 +141,10 @@ module _ (R : Ring) (L : IsCommutativeRing R) (one-not-zero : R .one ≡ R .zero
 
       -- the new row at its pivot and at the others
       new-own : E′ r v ≡ 𝟙
-      new-own = g .new v (le-step below) ∙ L .times-comm s (x v) ∙ inverse
+      new-own = g .new v (in-row below) ∙ L .times-comm s (x v) ∙ inverse
 
       new-other : (t : ℕ) → t < r → E′ r (pivot t) ≡ 𝟘
-      new-other t l = g .new (pivot t) (le-step (pivot-below w t l)) ∙ ap (λ a. s ⊗ a) (x-at-pivot t l) ∙ rings.times-zero R L s
+      new-other t l = g .new (pivot t) (in-row (pivot-below w t l)) ∙ ap (λ a. s ⊗ a) (x-at-pivot t l) ∙ rings.times-zero R L s
 
       grown-inverse : (D′ : Matrix R) × IsPivotInverse R (suc i) n (cut R (suc i) n M) D′ (either (w .I) (only v)) (follow i (w .J) (only 0))
       grown-inverse =
@@ -145,7 +152,7 @@ module _ (R : Ring) (L : IsCommutativeRing R) (one-not-zero : R .one ≡ R .zero
           (ap (λ a. a ⊗ s) (remainder-cleared w c v below) ∙ inverse)
 
       -- combinations of the rows chosen before are combinations of those chosen now
-      wider : {y : Vector R} → Within R i (suc n) M (w .J) y → Within R (suc i) (suc n) M (follow i (w .J) (only 0)) y
+      wider : {y : Vector R} → Within R i width M (w .J) y → Within R (suc i) width M (follow i (w .J) (only 0)) y
       wider = within-wider R L (le-step (le-refl i)) (row-end R L (w .inverse)) (λ t e. go (part i t) e)
         where
           go : {t : ℕ} → Part i t → follow i (w .J) (only 0) t ≡ false → w .J t ≡ false
@@ -153,14 +160,14 @@ module _ (R : Ring) (L : IsCommutativeRing R) (one-not-zero : R .one ≡ R .zero
           go (lower k) e = row-end R L (w .inverse) (i + k) (omega arith)
 
       -- so is row i
-      row-own : Within R (suc i) (suc n) M (follow i (w .J) (only 0)) (M i)
+      row-own : Within R (suc i) width M (follow i (w .J) (only 0)) (M i)
       unfolding only
       row-own = within-row R L i (lt-suc-self i) (λ t e d. counts.true-not-false (ap (follow i (w .J) (only 0)) (sym d) ∙ here) e)
         where
           here : follow i (w .J) (only 0) i ≡ true
           here = ap (follow i (w .J) (only 0)) (sym (add-zero i)) ∙ counts.follow-lower i (w .J) (only 0) 0
 
-      new-within : Within R (suc i) (suc n) M (follow i (w .J) (only 0)) (E′ r)
+      new-within : Within R (suc i) width M (follow i (w .J) (only 0)) (E′ r)
       new-within =
           within-same R L
           (within-added R L s (within-zero R L) (within-added R L 𝟙 row-own (within-mixed R L r (c .by) E (λ t l. wider (w .combined t l)))))
@@ -177,7 +184,7 @@ module _ (R : Ring) (L : IsCommutativeRing R) (one-not-zero : R .one ≡ R .zero
           go (yes b) = in-group b
           go (no b) = earlier (omega arith)
 
-      grown-within : (t : ℕ) → t < r → Within R (suc i) (suc n) M (follow i (w .J) (only 0)) (E′ t)
+      grown-within : (t : ℕ) → t < r → Within R (suc i) width M (follow i (w .J) (only 0)) (E′ t)
       grown-within t l =
           by-group t
           (λ b. within-same R L (within-added R L (minus (E t v)) (wider (w .combined t l)) new-within) (λ j h. g .group t j l b h))
@@ -186,7 +193,7 @@ module _ (R : Ring) (L : IsCommutativeRing R) (one-not-zero : R .one ≡ R .zero
       -- at the pivots from before no row has changed
       old-pivot : (p t : ℕ) → p < r → t < r → E′ t (pivot p) ≡ E t (pivot p)
       old-pivot p t k l =
-          let h : pivot p < suc n = le-step (pivot-below w p k) in
+          let h : pivot p < width = in-row (pivot-below w p k) in
           by-group t
           (λ b.
           g .group t (pivot p) l b h
@@ -198,7 +205,7 @@ module _ (R : Ring) (L : IsCommutativeRing R) (one-not-zero : R .one ≡ R .zero
       -- at the new one those of the group are zero
       new-pivot-zero : (t : ℕ) → t < r → r / 4 ≤ t / 4 → E′ t v ≡ 𝟘
       new-pivot-zero t l b =
-          g .group t v l (omega arith) (le-step below)
+          g .group t v l (omega arith) (in-row below)
           ∙ ap (λ a. E t v ⊕ minus (E t v) ⊗ a) new-own
           ∙ ap (λ a. E t v ⊕ a) (L .times-one (minus (E t v)))
           ∙ L .plus-minus (E t v)
@@ -239,9 +246,10 @@ module _ (R : Ring) (L : IsCommutativeRing R) (one-not-zero : R .one ≡ R .zero
           (λ e. let (t, (l, p)) = w .found q e in (t, (le-step l, g .pivots t l ∙ p)))
           (λ f e. (r, (lt-suc-self r, g .new-pivot ∙ sym (eqb-true q v e))))
 
-      pub row-added : Worked R (suc i) n M (suc r) E′ pivot′
+      pub row-added : Worked R (suc i) n width M (suc r) E′ pivot′
       row-added =
           record {
+            narrow = w .narrow;
             D = grown-inverse .0;
             I = either (w .I) (only v);
             J = follow i (w .J) (only 0);
@@ -249,15 +257,15 @@ module _ (R : Ring) (L : IsCommutativeRing R) (one-not-zero : R .one ≡ R .zero
             rank = grown-rank;
             chosen = grown-chosen;
             found = grown-found;
-            combined = below-next (λ t. Within R (suc i) (suc n) M (follow i (w .J) (only 0)) (E′ t)) r new-within grown-within;
+            combined = below-next (λ t. Within R (suc i) width M (follow i (w .J) (only 0)) (E′ t)) r new-within grown-within;
             cleared = grown-cleared;
           }
 
   -- one row more, and the rows are still 0 in front of their pivots: where the new row would change one there, it is added 0 times
-  pub grown-leading : {n r v : ℕ} {s : Carrier} {x : Vector R} {E : Matrix R} {pivot : ℕ → ℕ} {E′ : Matrix R} {pivot′ : ℕ → ℕ}
-      → ((t : ℕ) → t < r → pivot t < n) → v < n → ((j : ℕ) → j < v → x j ≡ 𝟘) → Leading R r E pivot
-      → Grown R n r v s x E pivot E′ pivot′ → Leading R (suc r) E′ pivot′
-  grown-leading {n} {r} {v} {s} {x} {E} {pivot} {E′} {pivot′} below in-row zero leading g = λ t j l h. below-next Front r new old t l j h
+  pub grown-leading : {width r v : ℕ} {s : Carrier} {x : Vector R} {E : Matrix R} {pivot : ℕ → ℕ} {E′ : Matrix R} {pivot′ : ℕ → ℕ}
+      → ((t : ℕ) → t < r → pivot t < width) → v < width → ((j : ℕ) → j < v → x j ≡ 𝟘) → Leading R r E pivot
+      → Grown R width r v s x E pivot E′ pivot′ → Leading R (suc r) E′ pivot′
+  grown-leading {width} {r} {v} {s} {x} {E} {pivot} {E′} {pivot′} below in-row zero leading g = λ t j l h. below-next Front r new old t l j h
     where
       Front : ℕ → Type 0
       Front t = (j : ℕ) → j < pivot′ t → E′ t j ≡ 𝟘
@@ -274,7 +282,7 @@ module _ (R : Ring) (L : IsCommutativeRing R) (one-not-zero : R .one ≡ R .zero
           before : j < pivot t
           before = omega (arith, g .pivots t l)
 
-          in-width : j < suc n
+          in-width : j < width
           in-width = omega (arith, before, below t l)
 
           -- E t v is 0 unless v is at the row's pivot or behind it, and then the new row is 0 at j

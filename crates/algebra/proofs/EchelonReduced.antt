@@ -1,10 +1,10 @@
--- What the worked rows say of D. A worked row e is u A with multipliers u on J, and u = e D. So e (D w) is e's carried number: from the
--- last row to the first this gives D w at the pivots (back substitution). Where e is zero at all pivots but its own, u is the row of D
+-- What the worked rows say of D. A worked row e is u A with multipliers u on J, and u = e D. So e (D w) is e's number in the carried
+-- column w: from the last row to the first this gives D w at the pivots (back substitution). Where e is zero at all pivots but its own, u is the row of D
 -- at that pivot, and e is that row of D A. The rows are brought there from the last to the first too, each by those below it.
 use mathlib.Core.Path.{_≡_, sym, ap, ap₂, _∙_, subst}
 use mathlib.Core.Bool.{true, false}
 use Prim.Native.Nat.{ℕ, suc, _<_}
-use native.Mathlib.Nat.{le-refl, le-step, ne-of-lt}
+use native.Mathlib.Nat.{lt-of-lt-of-le, ne-of-lt}
 use native.Mathlib.Decide.{decLt, ℕ-discrete}
 use native.Mathlib.Omega.{arith}
 use borrow.Author.Tests.{eq-eqb, ne-eqb}
@@ -26,28 +26,28 @@ module _ (R : Ring) (L : IsCommutativeRing R) (one-not-zero : R .one ≡ R .zero
 
   infixl 60 _⊕_
   infixl 70 _⊗_
-  module _ {m n : ℕ} {M : Matrix R} {r : ℕ} {E : Matrix R} {pivot : ℕ → ℕ} (w : Worked R m n M r E pivot) where
-    -- the solution that D gives: D times the carried column
-    abbrev solution : Vector R
-    solution = apply R m (w .D) (λ i. M i n)
+  module _ {m n width : ℕ} {M : Matrix R} {r : ℕ} {E : Matrix R} {pivot : ℕ → ℕ} (w : Worked R m n width M r E pivot) where
+    -- the solution that D gives: D times the column u, which is carried
+    abbrev solution : ℕ → Vector R
+    solution u = apply R m (w .D) (λ i. M i u)
 
     -- it is zero outside the pivots
-    solution-outside : (c : ℕ) → w .I c ≡ false → solution c ≡ 𝟘
-    solution-outside c e = applied.zero-row-apply R L m (w .D) (λ i. M i n) c (λ t l. w .inverse .row-outside c t e)
+    solution-outside : (u c : ℕ) → w .I c ≡ false → solution u c ≡ 𝟘
+    solution-outside u c e = applied.zero-row-apply R L m (w .D) (λ i. M i u) c (λ t l. w .inverse .row-outside c t e)
 
     -- and solves the equation of each worked row
-    row-solved : (t : ℕ) → t < r → sum R n (λ j. E t j ⊗ solution j) ≡ E t n
+    row-solved : (u : ℕ) → u < width → (t : ℕ) → t < r → sum R n (λ j. E t j ⊗ solution u j) ≡ E t u
     unfolding mixed
-    row-solved t l =
+    row-solved u h t l =
         let W = w .combined t l in
-        sym (applied.mixed-apply R L m n (E t) (w .D) (λ i. M i n))
-        ∙ sums.sum-same R m (λ y. mixed R n (E t) (w .D) y ⊗ M y n) (λ y. W .by y ⊗ M y n)
-        (λ y b. ap (λ a. a ⊗ M y n) (within-back R L (w .inverse) W y))
-        ∙ sym (W .combines n (le-refl (suc n)))
+        sym (applied.mixed-apply R L m n (E t) (w .D) (λ i. M i u))
+        ∙ sums.sum-same R m (λ y. mixed R n (E t) (w .D) y ⊗ M y u) (λ y. W .by y ⊗ M y u)
+        (λ y b. ap (λ a. a ⊗ M y u) (within-back R L (w .narrow) (w .inverse) W y))
+        ∙ sym (W .combines u h)
 
     -- D w at the pivot of row t, where z has it at the pivots of the rows after t and is zero elsewhere
-    module _ (z : Vector R) (t : ℕ) (l : t < r)
-        (after : (s : ℕ) → t < s → s < r → z (pivot s) ≡ solution (pivot s))
+    module _ (u : ℕ) (carried : u < width) (z : Vector R) (t : ℕ) (l : t < r)
+        (after : (s : ℕ) → t < s → s < r → z (pivot s) ≡ solution u (pivot s))
         (outside : (c : ℕ) → c < n → ((s : ℕ) → t < s → s < r → pivot s ≡ c → ⊥) → z c ≡ 𝟘)
       where
         -- at t's own pivot z is still zero
@@ -55,55 +55,55 @@ module _ (R : Ring) (L : IsCommutativeRing R) (one-not-zero : R .one ≡ R .zero
         z-own = outside (pivot t) (pivot-below R L one-not-zero w t l) (λ s h b e. ne-of-lt h (sym (pivots-differ R L one-not-zero w s t b l e)))
 
         -- at the other columns z and D w agree, or row t is zero
-        other-term : (j : ℕ) → j < n → (pivot t ≡ j → ⊥) → E t j ⊗ solution j ≡ E t j ⊗ z j
-        other-term j b d = by-test (w .I j) inside (λ e. ap (λ a. E t j ⊗ a) (solution-outside j e ∙ sym (z-outside e)))
+        other-term : (j : ℕ) → j < n → (pivot t ≡ j → ⊥) → E t j ⊗ solution u j ≡ E t j ⊗ z j
+        other-term j b d = by-test (w .I j) inside (λ e. ap (λ a. E t j ⊗ a) (solution-outside u j e ∙ sym (z-outside e)))
           where
             z-outside : w .I j ≡ false → z j ≡ 𝟘
             z-outside e = outside j b (λ s h k p. true-not-false (ap (w .I) (sym p) ∙ w .chosen s k) e)
 
-            at-pivot : (s : ℕ) → s < r → pivot s ≡ j → Dec (t < s) → E t (pivot s) ⊗ solution (pivot s) ≡ E t (pivot s) ⊗ z (pivot s)
+            at-pivot : (s : ℕ) → s < r → pivot s ≡ j → Dec (t < s) → E t (pivot s) ⊗ solution u (pivot s) ≡ E t (pivot s) ⊗ z (pivot s)
             at-pivot s k p (yes h) = ap (λ a. E t (pivot s) ⊗ a) (sym (after s h k))
             at-pivot s k p (no h) =
-                ap (λ a. a ⊗ solution (pivot s)) here
-                ∙ rings.zero-times R L (solution (pivot s))
+                ap (λ a. a ⊗ solution u (pivot s)) here
+                ∙ rings.zero-times R L (solution u (pivot s))
                 ∙ sym (ap (λ a. a ⊗ z (pivot s)) here ∙ rings.zero-times R L (z (pivot s)))
               where
                 here : E t (pivot s) ≡ 𝟘
                 here = w .cleared s t k l (omega arith) ∙ sums.unit-other R s t (λ e. d (ap pivot (sym e) ∙ p))
 
-            inside : w .I j ≡ true → E t j ⊗ solution j ≡ E t j ⊗ z j
+            inside : w .I j ≡ true → E t j ⊗ solution u j ≡ E t j ⊗ z j
             inside e =
                 let (s, (k, p)) = w .found j e in
-                subst (λ c. E t c ⊗ solution c ≡ E t c ⊗ z c) p (at-pivot s k p (decLt t s))
+                subst (λ c. E t c ⊗ solution u c ≡ E t c ⊗ z c) p (at-pivot s k p (decLt t s))
 
-        term : (j : ℕ) → j < n → E t j ⊗ solution j ≡ E t j ⊗ z j ⊕ unit R (pivot t) j ⊗ solution j
+        term : (j : ℕ) → j < n → E t j ⊗ solution u j ≡ E t j ⊗ z j ⊕ unit R (pivot t) j ⊗ solution u j
         term j b = go (ℕ-discrete (pivot t) j)
           where
-            own : E t (pivot t) ⊗ solution (pivot t) ≡ E t (pivot t) ⊗ z (pivot t) ⊕ unit R (pivot t) (pivot t) ⊗ solution (pivot t)
+            own : E t (pivot t) ⊗ solution u (pivot t) ≡ E t (pivot t) ⊗ z (pivot t) ⊕ unit R (pivot t) (pivot t) ⊗ solution u (pivot t)
             own =
-                ap (λ a. a ⊗ solution (pivot t)) (own-pivot R L one-not-zero w t l ∙ sym (sums.unit-same R (pivot t)))
-                ∙ sym (rings.zero-plus R L (unit R (pivot t) (pivot t) ⊗ solution (pivot t)))
-                ∙ ap (λ a. a ⊕ unit R (pivot t) (pivot t) ⊗ solution (pivot t))
+                ap (λ a. a ⊗ solution u (pivot t)) (own-pivot R L one-not-zero w t l ∙ sym (sums.unit-same R (pivot t)))
+                ∙ sym (rings.zero-plus R L (unit R (pivot t) (pivot t) ⊗ solution u (pivot t)))
+                ∙ ap (λ a. a ⊕ unit R (pivot t) (pivot t) ⊗ solution u (pivot t))
                 (sym (ap (λ a. E t (pivot t) ⊗ a) z-own ∙ rings.times-zero R L (E t (pivot t))))
 
-            go : Dec (pivot t ≡ j) → E t j ⊗ solution j ≡ E t j ⊗ z j ⊕ unit R (pivot t) j ⊗ solution j
-            go (yes e) = subst (λ c. E t c ⊗ solution c ≡ E t c ⊗ z c ⊕ unit R (pivot t) c ⊗ solution c) e own
+            go : Dec (pivot t ≡ j) → E t j ⊗ solution u j ≡ E t j ⊗ z j ⊕ unit R (pivot t) j ⊗ solution u j
+            go (yes e) = subst (λ c. E t c ⊗ solution u c ≡ E t c ⊗ z c ⊕ unit R (pivot t) c ⊗ solution u c) e own
             go (no d) =
                 other-term j b d
                 ∙ sym (L .plus-zero (E t j ⊗ z j))
                 ∙ ap (λ a. E t j ⊗ z j ⊕ a)
-                (sym (ap (λ a. a ⊗ solution j) (sums.unit-other R (pivot t) j d) ∙ rings.zero-times R L (solution j)))
+                (sym (ap (λ a. a ⊗ solution u j) (sums.unit-other R (pivot t) j d) ∙ rings.zero-times R L (solution u j)))
 
-        pub back-substituted : apply R m (w .D) (λ i. M i n) (pivot t) ≡ E t n ⊕ minus (sum R n (λ j. E t j ⊗ z j))
+        pub back-substituted : apply R m (w .D) (λ i. M i u) (pivot t) ≡ E t u ⊕ minus (sum R n (λ j. E t j ⊗ z j))
         back-substituted =
-            sym (rings.plus-difference R L (sum R n (λ j. E t j ⊗ z j)) (solution (pivot t)))
-            ∙ sym (L .plus-assoc (sum R n (λ j. E t j ⊗ z j)) (solution (pivot t)) (minus (sum R n (λ j. E t j ⊗ z j))))
+            sym (rings.plus-difference R L (sum R n (λ j. E t j ⊗ z j)) (solution u (pivot t)))
+            ∙ sym (L .plus-assoc (sum R n (λ j. E t j ⊗ z j)) (solution u (pivot t)) (minus (sum R n (λ j. E t j ⊗ z j))))
             ∙ ap (λ a. a ⊕ minus (sum R n (λ j. E t j ⊗ z j)))
             (ap (λ a. sum R n (λ j. E t j ⊗ z j) ⊕ a)
-            (sym (sums.unit-sum R L n solution (pivot t) (pivot-below R L one-not-zero w t l)))
-            ∙ sym (sums.sum-plus R L n (λ j. E t j ⊗ z j) (λ j. unit R (pivot t) j ⊗ solution j))
-            ∙ sums.sum-same R n (λ j. E t j ⊗ z j ⊕ unit R (pivot t) j ⊗ solution j) (λ j. E t j ⊗ solution j) (λ j b. sym (term j b))
-            ∙ row-solved t l)
+            (sym (sums.unit-sum R L n (solution u) (pivot t) (pivot-below R L one-not-zero w t l)))
+            ∙ sym (sums.sum-plus R L n (λ j. E t j ⊗ z j) (λ j. unit R (pivot t) j ⊗ solution u j))
+            ∙ sums.sum-same R n (λ j. E t j ⊗ z j ⊕ unit R (pivot t) j ⊗ solution u j) (λ j. E t j ⊗ solution u j) (λ j b. sym (term j b))
+            ∙ row-solved u carried t l)
 
     -- rows that are zero at all pivots but their own
     module _ (reduced : ReducedFrom R 0 r E pivot) (t : ℕ) (l : t < r) where
@@ -111,7 +111,7 @@ module _ (R : Ring) (L : IsCommutativeRing R) (one-not-zero : R .one ≡ R .zero
       multipliers-own : (y : ℕ) → w .combined t l .by y ≡ w .D (pivot t) y
       unfolding mixed
       multipliers-own y =
-          sym (within-back R L (w .inverse) (w .combined t l) y)
+          sym (within-back R L (w .narrow) (w .inverse) (w .combined t l) y)
           ∙ sums.sum-one R L n (λ c. E t c ⊗ w .D c y) (pivot t) (pivot-below R L one-not-zero w t l) (λ c b d. by-test (w .I c) (inside c d) (outside c))
           ∙ ap (λ a. a ⊗ w .D (pivot t) y) (own-pivot R L one-not-zero w t l)
           ∙ rings.one-times R L (w .D (pivot t) y)
@@ -126,7 +126,7 @@ module _ (R : Ring) (L : IsCommutativeRing R) (one-not-zero : R .one ≡ R .zero
               (ap (E t) (sym p) ∙ reduced s t k (omega arith) l ∙ sums.unit-other R s t (λ q. d (sym p ∙ ap pivot q)))
               ∙ rings.zero-times R L (w .D c y)
 
-      reduced-mixed : (j : ℕ) → j < suc n → E t j ≡ mixed R m (w .D (pivot t)) M j
+      reduced-mixed : (j : ℕ) → j < width → E t j ≡ mixed R m (w .D (pivot t)) M j
       reduced-mixed j b =
           w .combined t l .combines j b
           ∙ applied.mixed-same R m (w .combined t l .by) (w .D (pivot t)) M (λ y h. multipliers-own y) j
@@ -134,17 +134,17 @@ module _ (R : Ring) (L : IsCommutativeRing R) (one-not-zero : R .one ≡ R .zero
     -- row t is row (pivot t) of D A
     pub reduced-row : ReducedFrom R 0 r E pivot → (t : ℕ) → t < r → (j : ℕ) → j < n → E t j ≡ product R m (w .D) (cut R m n M) (pivot t) j
     reduced-row reduced t l j b =
-        reduced-mixed reduced t l j (le-step b)
+        reduced-mixed reduced t l j (lt-of-lt-of-le b (w .narrow))
         ∙ sym (mixed-cut R m n M (w .D (pivot t)) j b)
         ∙ sym (applied.product-row R m (w .D) (cut R m n M) (pivot t) j)
 
-    -- its carried number is D w there
-    pub reduced-carried : ReducedFrom R 0 r E pivot → (t : ℕ) → t < r → E t n ≡ apply R m (w .D) (λ i. M i n) (pivot t)
+    -- its number in the carried column w is D w there
+    pub reduced-carried : ReducedFrom R 0 r E pivot → (t : ℕ) → t < r → (u : ℕ) → u < width → E t u ≡ apply R m (w .D) (λ i. M i u) (pivot t)
     unfolding mixed apply
-    reduced-carried reduced t l = reduced-mixed reduced t l n (le-refl (suc n))
+    reduced-carried reduced t l = reduced-mixed reduced t l
 
   -- row t is reduced by the rows after it
-  module _ {m n : ℕ} {M : Matrix R} {r : ℕ} {E : Matrix R} {pivot : ℕ → ℕ} {t : ℕ} (w : Worked R m n M r E pivot) (l : t < r)
+  module _ {m n width : ℕ} {M : Matrix R} {r : ℕ} {E : Matrix R} {pivot : ℕ → ℕ} {t : ℕ} (w : Worked R m n width M r E pivot) (l : t < r)
       (after : ReducedFrom R (suc t) r E pivot)
     where
       others-own : others R t E pivot t ≡ 𝟘
@@ -191,15 +191,15 @@ module _ (R : Ring) (L : IsCommutativeRing R) (one-not-zero : R .one ≡ R .zero
           go (no d) =
               ap (λ a. E t (pivot s) ⊕ a) (others-other s d) ∙ L .plus-minus (E t (pivot s)) ∙ sym (sums.unit-other R s t d)
 
-  module _ {m n : ℕ} {M : Matrix R} {r : ℕ} {E : Matrix R} {pivot : ℕ → ℕ} {E′ : Matrix R} {t : ℕ} (w : Worked R m n M r E pivot) (l : t < r)
-      (after : ReducedFrom R (suc t) r E pivot) (h : RowReduced R n r t E pivot E′)
+  module _ {m n width : ℕ} {M : Matrix R} {r : ℕ} {E : Matrix R} {pivot : ℕ → ℕ} {E′ : Matrix R} {t : ℕ} (w : Worked R m n width M r E pivot) (l : t < r)
+      (after : ReducedFrom R (suc t) r E pivot) (h : RowReduced R width r t E pivot E′)
     where
       row-at-pivot : (s : ℕ) → s < r → E′ t (pivot s) ≡ unit R s t
-      row-at-pivot s b = h .row (pivot s) (le-step (pivot-below R L one-not-zero w s b)) ∙ others-at-pivot w l after s b
+      row-at-pivot s b = h .row (pivot s) (lt-of-lt-of-le (pivot-below R L one-not-zero w s b) (w .narrow)) ∙ others-at-pivot w l after s b
 
       -- the other rows stay at the pivots
       rest-at-pivot : (s q : ℕ) → s < r → q < r → (q ≡ t → ⊥) → E′ q (pivot s) ≡ E q (pivot s)
-      rest-at-pivot s q b k d = h .rest q (pivot s) k d (le-step (pivot-below R L one-not-zero w s b))
+      rest-at-pivot s q b k d = h .rest q (pivot s) k d (lt-of-lt-of-le (pivot-below R L one-not-zero w s b) (w .narrow))
 
       by-row : (P : ℕ → Type 0) (q : ℕ) → P t → ((q ≡ t → ⊥) → P q) → P q
       by-row P q own rest = go (ℕ-discrete q t)
@@ -208,16 +208,17 @@ module _ (R : Ring) (L : IsCommutativeRing R) (one-not-zero : R .one ≡ R .zero
           go (yes e) = subst P (sym e) own
           go (no d) = rest d
 
-      reduced-within : (q : ℕ) → q < r → Within R m (suc n) M (w .J) (E′ q)
+      reduced-within : (q : ℕ) → q < r → Within R m width M (w .J) (E′ q)
       reduced-within q k =
-          by-row (λ a. Within R m (suc n) M (w .J) (E′ a)) q
+          by-row (λ a. Within R m width M (w .J) (E′ a)) q
           (within-same R L (within-added R L 𝟙 (w .combined t l) (within-mixed R L r (others R t E pivot) E (w .combined)))
           (λ j b. h .row j b ∙ ap (λ a. E t j ⊕ a) (sym (rings.one-times R L (mixed R r (others R t E pivot) E j)))))
           (λ d. within-same R L (w .combined q k) (λ j b. h .rest q j k d b))
 
-      pub row-reduced : Worked R m n M r E′ pivot × ReducedFrom R t r E′ pivot
+      pub row-reduced : Worked R m n width M r E′ pivot × ReducedFrom R t r E′ pivot
       row-reduced = (
         record {
+          narrow = w .narrow;
           D = w .D;
           I = w .I;
           J = w .J;

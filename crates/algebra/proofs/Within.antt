@@ -112,9 +112,9 @@ module _ (R : Ring) (L : IsCommutativeRing R) where
         (λ e. ap (λ a. x c ⊗ a) (Q .row-outside c y e) ∙ rings.times-zero R L (x c)))
 
   -- x D is the multipliers of x
-  pub within-back : {m n : ℕ} {M D : Matrix R} {I J : Marks} {x : Vector R} → IsPivotInverse R m n (cut R m n M) D I J
-      → (W : Within R m (suc n) M J x) → (y : ℕ) → mixed R n x D y ≡ W .by y
-  within-back {m} {n} {M} {D} {x = x} Q W y =
+  pub within-back : {m n width : ℕ} {M D : Matrix R} {I J : Marks} {x : Vector R} → n ≤ width → IsPivotInverse R m n (cut R m n M) D I J
+      → (W : Within R m width M J x) → (y : ℕ) → mixed R n x D y ≡ W .by y
+  within-back {m} {n} {M = M} {D = D} {x = x} narrow Q W y =
       applied.mixed-same R n x (mixed R m (W .by) (cut R m n M)) D
-      (λ j l. W .combines j (le-step l) ∙ sym (mixed-cut R m n M (W .by) j l)) y
+      (λ j l. W .combines j (lt-of-lt-of-le l narrow) ∙ sym (mixed-cut R m n M (W .by) j l)) y
       ∙ multipliers-back Q (W .by) (W .supported) y

@@ -36,3 +36,11 @@ module _ (R : Ring) where
   -- all solutions of A x = w have v at j
   abbrev pub AgreeAt : ℕ → ℕ → Matrix R → Vector R → ℕ → R .Carrier → Type 0
   AgreeAt m n A w j v = (x : Vector R) → Solves m n A x w → x j ≡ v
+
+  -- A X = W in the first s columns
+  abbrev pub SolvesAll : (m n s : ℕ) → Matrix R → Matrix R → Matrix R → Type 0
+  SolvesAll m n s A X W = (i : ℕ) → i < m → (w : ℕ) → w < s → apply R n A (λ t. X t w) i ≡ W i w
+
+  -- all solutions of A X = W have the numbers v in row j
+  abbrev pub AgreeInRow : (m n s : ℕ) → Matrix R → Matrix R → ℕ → Vector R → Type 0
+  AgreeInRow m n s A W j v = (X : Matrix R) → SolvesAll m n s A X W → (w : ℕ) → w < s → X j w ≡ v w

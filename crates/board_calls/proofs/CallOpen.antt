@@ -16,26 +16,26 @@ use Rattle.ledger.specs.Calls.{openChecks, openCall}
 use Rattle.ledger.specs.Changes.{Fresh}
 use Rattle.ledger.proofs.LayoutChanges.{fresh-layout}
 
-module _ (p n : ℕ) (ws : List ℕ) where
-  -- 3, which stands after 1 and 2
-  abbrev length-check : Given (frameSizes p n) → Checks Refusal
-  length-check _ = long? ws (boardLength n) else Length ⨾ passed
+module _ (p n s : ℕ) (ws : List ℕ) where
+  -- 3, which stands after 1, 2 and 12
+  abbrev length-check : Given (frameSizes p n s) → Checks Refusal
+  length-check _ = long? ws (boardLength n s) else Length ⨾ passed
 
-  by-check : {k : Refusal} → FirstFailing (openChecks p n ws) k → untouched ws k ≡ openCall p n ws
+  by-check : {k : Refusal} → FirstFailing (openChecks p n s ws) k → untouched ws k ≡ openCall p n s ws
   unfolding openCall
   by-check f = sym (in-order-refused _ _ f)
 
-  -- 1, 2
-  pub open-no-sizes : {k : Refusal} → FirstFailing (frameSizes p n) k → untouched ws k ≡ openCall p n ws
-  open-no-sizes f = by-check (fails-in-front (frameSizes p n) length-check f)
+  -- 1, 2, 12
+  pub open-no-sizes : {k : Refusal} → FirstFailing (frameSizes p n s) k → untouched ws k ≡ openCall p n s ws
+  open-no-sizes f = by-check (fails-in-front (frameSizes p n s) length-check f)
 
-  module _ (sizes : AllHold (frameSizes p n)) where
-    pub open-no-length : (length ws ≡ boardLength n → ⊥) → untouched ws Length ≡ openCall p n ws
-    open-no-length h = by-check (fails-then (frameSizes p n) length-check sizes (λ _. fails-here h))
+  module _ (sizes : AllHold (frameSizes p n s)) where
+    pub open-no-length : (length ws ≡ boardLength n s → ⊥) → untouched ws Length ≡ openCall p n s ws
+    open-no-length h = by-check (fails-then (frameSizes p n s) length-check sizes (λ _. fails-here h))
 
-    all-hold : length ws ≡ boardLength n → AllHold (openChecks p n ws)
+    all-hold : length ws ≡ boardLength n s → AllHold (openChecks p n s ws)
     all-hold h = hold-and-then {more = length-check} sizes (λ _. h and-then none-left)
 
-    pub open-done : length ws ≡ boardLength n → (cs : List ℕ) → Fresh p n cs → outcome done cs ≡ openCall p n ws
+    pub open-done : length ws ≡ boardLength n s → (cs : List ℕ) → Fresh p n s cs → outcome done cs ≡ openCall p n s ws
     unfolding openCall
-    open-done h cs f = ap (outcome done) (fresh-layout p n cs f) ∙ sym (in-order-done _ _ _ (all-hold h) (λ _. refl))
+    open-done h cs f = ap (outcome done) (fresh-layout p n s cs f) ∙ sym (in-order-done _ _ _ (all-hold h) (λ _. refl))

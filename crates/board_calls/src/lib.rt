@@ -27,23 +27,23 @@ pub enum CountAnswer {
     Refused(Refusal),
 }
 
-// Writes a fresh board for n records modulo p. Refused are 1, p no modulus, 2, n not 1 to 64, and 3, another length than a board
-// for n records has.
-pub fn open(p: u32, n: u32, board: &mut [u32]) -> OpenAnswer
-    ensures { λ r. ⌜ outcome (openTold r) (now (board .exit)) ≡ openCall p n (now (board .entry)) ⌝ }
+// Writes a fresh board for n records of s words modulo p. Refused are 1, p no modulus; 2, n not 1 to 64; 12, s not 1 to 16; and 3,
+// another length than a board for n records of s words has.
+pub fn open(p: u32, n: u32, s: u32, board: &mut [u32]) -> OpenAnswer
+    ensures { λ r. ⌜ outcome (openTold r) (now (board .exit)) ≡ openCall p n s (now (board .entry)) ⌝ }
 {
-    if let Verdict::Refused(kind) = checks::frame_sizes(p, n) {
+    if let Verdict::Refused(kind) = checks::frame_sizes(p, n, s) {
         return OpenAnswer::Refused(kind);
     }
-    if board.len() != layout::board_length(n as usize) {
+    if board.len() != layout::board_length(n as usize, s as usize) {
         return OpenAnswer::Refused(Refusal::Length);
     }
-    change::make_fresh(p, n, board);
+    change::make_fresh(p, n, s, board);
     OpenAnswer::Opened
 }
 
 // Takes a frame: new where its multipliers are no combination of the standing rows, and then it stands; otherwise repeat, or
-// conflict (9) where its value is not what the same combination of values gives, with the combination in the mix. The frame is
+// conflict (9) where its values are not what the same combination of values gives, with the combination in the mix. The frame is
 // read first, since the elimination that tells whether the rows are independent carries its multipliers along; what reading
 // answers is looked at last.
 pub fn take(board: &mut [u32], frame: &[u8], mix: &mut [u32]) -> TakeAnswer
@@ -54,8 +54,10 @@ pub fn take(board: &mut [u32], frame: &[u8], mix: &mut [u32]) -> TakeAnswer
     }
     let p = board[layout::MODULUS];
     let n = board[layout::SIZE] as usize;
+    let s = board[layout::VALUES] as usize;
     let mut f = row_room();
-    let read = frame_bytes::reading::read_frame(p, n, frame, &mut f[..n]);
+    let mut v = row_room();
+    let read = frame_bytes::reading::read_frame(p, n, frame, &mut f[..n], &mut v[..s]);
     let mut c = row_room();
     if !combination::candidate(board, &f[..n], &mut c) {
         return TakeAnswer::Refused(Refusal::NotBoard);
@@ -64,7 +66,7 @@ pub fn take(board: &mut [u32], frame: &[u8], mix: &mut [u32]) -> TakeAnswer
         return TakeAnswer::Refused(Refusal::Length);
     }
     match read {
-        frame::ReadAnswer::Value(v) => take_row(board, &f[..n], v, &c, mix),
+        frame::ReadAnswer::Words(_) => take_row(board, &f[..n], &v[..s], &c, mix),
         frame::ReadAnswer::Refused(kind) => TakeAnswer::Refused(kind),
     }
 }
@@ -81,12 +83,14 @@ pub fn withdraw(board: &mut [u32], t: u32) -> CountAnswer
         return CountAnswer::Refused(Refusal::Withdrawal);
     }
     let n = board[layout::SIZE] as usize;
+    let s = board[layout::VALUES] as usize;
     let left = k - t;
-    change::drop_rows(board, n, k, left);
+    change::drop_rows(board, n, s, k, left);
     CountAnswer::Count(left)
 }
 
-// Marks the records that all assignments meeting the standing frames agree on, with their signed readings from -low to p - 1 - low.
+// Marks the records that all assignments meeting the standing frames agree on, with the signed readings of their words from -low to
+// p - 1 - low, record after record.
 pub fn show(board: &[u32], low: u32, marks: &mut [u32], numbers: &mut [i32]) -> CountAnswer
     ensures { λ r. ⌜ outcome (answerTold r) (now (marks .exit), now (numbers .exit)) ≡ showCall (now (board .entry)) low (now (marks .entry)) (now (numbers .entry)) ⌝ }
 {
@@ -102,7 +106,8 @@ pub fn show(board: &[u32], low: u32, marks: &mut [u32], numbers: &mut [i32]) -> 
     if marks.len() != n {
         return CountAnswer::Refused(Refusal::Length);
     }
-    if numbers.len() != n {
+    let s = board[layout::VALUES] as usize;
+    if numbers.len() != n * s {
         return CountAnswer::Refused(Refusal::Length);
     }
     if board[layout::MODULUS] <= low {

@@ -20,7 +20,8 @@ use Rattle.field.proofs.Written.{length-tabulate, getD-tabulate}
 use Rattle.words.proofs.Parts.{front-inside, front-past}
 use Rattle.matrix_echelon.specs.Grid.{Readable}
 use Rattle.matrix_echelon.specs.Reduced.{SolutionFound}
-use Rattle.ledger.specs.Board.{modulusWord, sizeWord, countWord}
+use Rattle.matrix_echelon.proofs.Grids.{readable-one}
+use Rattle.ledger.specs.Board.{modulusWord, sizeWord, countWord, valuesWord}
 use Rattle.board_words.specs.Rows.{turnedGrid}
 use Rattle.board_words.proofs.TestSizes.{count-most}
 use Rattle.board_words.proofs.TestRows.{turned-readable, turned-rank}
@@ -34,15 +35,14 @@ line-residues p xs t = ap (λ q. reduce p (getD xs q 0)) (zero-add (t * 1) ∙ m
 
 module _ (ws f c : List ℕ) (asked : CandidateRoom ws f c) where
   -- the turned board and f can be read
-  pub turned-system : Readable (modulusWord ws) (turnedGrid (sizeWord ws) (countWord ws)) ws f 1
-  turned-system =
-      record { table = turned-readable ws (asked .laid .header); carried = λ t h. omega (arith, asked .long) }
+  pub turned-system : Readable (modulusWord ws) (turnedGrid (sizeWord ws) (valuesWord ws) (countWord ws)) ws f 1 1
+  turned-system = readable-one (turned-readable ws (asked .laid .header)) (λ t h. omega (arith, asked .long))
 
   pub front-long : length (take (countWord ws) c) ≡ countWord ws
   front-long = length-take-le (countWord ws) c (omega (arith, asked .room .0, count-most ws (asked .laid .header)))
 
   -- z is the solution, and r the rank
-  module _ (z : List ℕ) (r : ℕ) (S : SolutionFound (modulusWord ws) (turnedGrid (sizeWord ws) (countWord ws)) ws f 1 r z) where
+  module _ (z : List ℕ) (r : ℕ) (S : SolutionFound (modulusWord ws) (turnedGrid (sizeWord ws) (valuesWord ws) (countWord ws)) ws f 1 r z) where
     laws : IsCommutativeRing (residues (modulusWord ws))
     laws = residues-field (modulusWord ws) (asked .laid .header .prime .prime) .ring
 

@@ -26,9 +26,9 @@ use Rattle.field.proofs.Views.{table-entry}
 use Rattle.words.specs.Words.{Below, Zeros}
 use Rattle.words.proofs.Parts.{part-length, part-at}
 use Rattle.matrix_mul.specs.Rows.{CombinedInto}
-use Rattle.ledger.specs.Board.{IsBoard, headerLength, rowLength, modulusWord, sizeWord, countWord, rowsEnd, multiplierTable, entriesOf}
+use Rattle.ledger.specs.Board.{IsBoard, headerLength, rowLength, modulusWord, sizeWord, countWord, valuesWord, rowsEnd, multiplierTable, entriesOf}
 use Rattle.ledger.specs.Ledger.{multiplierRows}
-use Rattle.ledger.proofs.LayoutPlaces.{row-step, row-ends, row-holds, row-inside}
+use Rattle.ledger.proofs.LayoutPlaces.{row-words, row-step, row-ends, row-inside}
 use Rattle.ledger.proofs.Parse.{words-count, rows-table}
 use Rattle.board_solve.specs.Combination.{residuesOf, Findable, Combination}
 use Rattle.board_solve.proofs.Standing.{board-sizes}
@@ -41,7 +41,7 @@ behindHeader ws = take (length ws - headerLength) (drop headerLength ws)
 
 module _ (ws : List ℕ) (b : IsBoard ws) where
   part-long : length (behindHeader ws) ≡ length ws - headerLength
-  part-long = part-length ws headerLength (length ws - headerLength) (omega (arith, b .three))
+  part-long = part-length ws headerLength (length ws - headerLength) (omega (arith, b .four))
 
   -- they are below p: the rows, and the zeros behind them
   pub part-below : Below (modulusWord ws) (behindHeader ws)
@@ -54,24 +54,26 @@ module _ (ws : List ℕ) (b : IsBoard ws) where
       by-place inside (no h) = rw (b .zeros (headerLength + q) (omega arith) (omega arith)) (board-sizes ws b .0)
 
   -- row t lies in them, where rows are w words apart
-  pub part-inside : (w : ℕ) → w ≡ rowLength (sizeWord ws) → (t : ℕ) → t < countWord ws → 0 + t * w + sizeWord ws ≤ length (behindHeader ws)
+  pub part-inside : (w : ℕ) → w ≡ rowLength (sizeWord ws) (valuesWord ws) → (t : ℕ) → t < countWord ws → 0 + t * w + sizeWord ws ≤ length (behindHeader ws)
   part-inside w wide t h =
       let n = sizeWord ws in
+      let s = valuesWord ws in
       rw wide
       (omega
-      (arith, part-long, b .long, row-step n t, row-ends n t (countWord ws) h, row-holds n, row-inside n (countWord ws) (b .count)))
+      (arith, part-long, b .long, row-step n s t, row-ends n s t (countWord ws) h, row-words n s, row-inside n s (countWord ws) (b .count)))
 
   -- and the numbers from j on, in steps of a row's length, are column j of R
   part-entry : (t j : ℕ) → t < countWord ws → j < sizeWord ws
-      → line (modulusWord ws) (behindHeader ws) (0 + j) (rowLength (sizeWord ws)) t ≡ multiplierTable ws t j
+      → line (modulusWord ws) (behindHeader ws) (0 + j) (rowLength (sizeWord ws) (valuesWord ws)) t ≡ multiplierTable ws t j
   unfolding line
   part-entry t j h l =
       let n = sizeWord ws in
-      let place : headerLength + (0 + j + t * rowLength n) ≡ headerLength + t * rowLength n + j = omega arith in
+      let s = valuesWord ws in
+      let place : headerLength + (0 + j + t * rowLength n s) ≡ headerLength + t * rowLength n s + j = omega arith in
       ap (reduce (modulusWord ws))
-      (part-at ws headerLength (length ws - headerLength) (0 + j + t * rowLength n) (omega (arith, part-inside (rowLength n) refl t h, part-long))
+      (part-at ws headerLength (length ws - headerLength) (0 + j + t * rowLength n s) (omega (arith, part-inside (rowLength n s) refl t h, part-long))
       ∙ ap (λ q. getD ws q 0) place)
-      ∙ sym (table-entry (modulusWord ws) ws headerLength (rowLength n) (countWord ws) n t j h l)
+      ∙ sym (table-entry (modulusWord ws) ws headerLength (rowLength n s) (countWord ws) n t j h l)
 
 -- the multipliers are below p
 pub multipliers-below : (ws f c : List ℕ) → Findable ws f c → Below (modulusWord ws) (take (countWord ws) c)
@@ -84,7 +86,7 @@ multipliers-below ws f c H i l =
 
 -- ---- g is c R, where `combine` has made it
 
-module _ (ws f c zs g : List ℕ) (H : Findable ws f c) (z : Zeros largest zs) (w : ℕ) (wide : w ≡ rowLength (sizeWord ws))
+module _ (ws f c zs g : List ℕ) (H : Findable ws f c) (z : Zeros largest zs) (w : ℕ) (wide : w ≡ rowLength (sizeWord ws) (valuesWord ws))
     (made : CombinedInto (modulusWord ws) (take (countWord ws) c) (behindHeader ws) 0 w (take (sizeWord ws) zs) g) where
   abbrev p : ℕ
   p = modulusWord ws

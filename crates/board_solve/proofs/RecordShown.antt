@@ -1,26 +1,24 @@
--- The loop of `show_records` writes a mark and a number a turn: what stands there after j turns, and that after the last turn the
--- marks and the numbers are those of the ledger.
+-- The loop of `show_records` writes a mark and the numbers of a record's words a turn: what stands there after j turns, and that after the
+-- last turn the marks and the numbers are those of the ledger.
 use mathlib.Core.Path.{_≡_, sym, ap, _∙_}
 use mathlib.Core.List.{List}
-use Prim.Native.Nat.{ℕ, _+_, _<_}
+use Prim.Native.Nat.{ℕ, _+_, _*_, _<_}
 use native.Mathlib.Omega.{arith}
 use borrow.Author.Count.{below-none, below-more}
 use lib.IntN.{ℤ, pos}
 use lib.ListN.{length, getD, set, length-set}
 use lib.Seq.{getD-set-same, getD-set-other}
-use mir.Syntax.{w32}
-use mir.Val.{SFits, toZ, ofZ}
-use mir.ValLaws.{toZ-ofZ}
 use Rattle.checks.specs.Prime.{IsModulus}
 use Rattle.field.specs.Written.{tabulate}
 use Rattle.field.proofs.Written.{is-tabulate}
 use Rattle.signed.specs.Reading.{reading}
-use Rattle.ledger.specs.Board.{modulusWord, sizeWord, countWord, entriesOf}
+use Rattle.frame.specs.Sealing.{wordOf}
+use Rattle.ledger.specs.Board.{modulusWord, sizeWord, countWord, valuesWord, entriesOf}
 use Rattle.ledger.specs.Ledger.{Entry}
-use Rattle.ledger.specs.Steps.{shownMark, shownNumber, tabulateℤ}
-use Rattle.ledger.proofs.LedgerLaws.{is-tabulateℤ}
+use Rattle.ledger.specs.Steps.{recordByRecord, shownMark, shownNumber}
+use Rattle.ledger.proofs.RecordByRecord.{place-inside, is-records}
 use Rattle.matrix_echelon.specs.Reduced.{RowsByPivot}
-use Rattle.board_solve.specs.Records.{BoardReduced, UnitAt, workedPlace}
+use Rattle.board_solve.specs.Records.{BoardReduced, UnitAt, workedPlace, NumbersPut}
 use Rattle.board_solve.proofs.RecordReduced.{row-unit, unit-row, value-number}
 use Rattle.board_solve.proofs.RecordSettled.{shown-at, hidden-at}
 
@@ -35,47 +33,53 @@ set-more a f xs j v h below e =
 -- ---- the marks and the numbers
 
 -- the records below j are shown
-pub record ShownBelow (p n low : ℕ) (es : List Entry) (j : ℕ) (marks : List ℕ) (numbers : List ℤ) : Type 0 where
+pub record ShownBelow (p n s low : ℕ) (es : List Entry) (j : ℕ) (marks : List ℕ) (numbers : List ℤ) : Type 0 where
   pub marks-long : length marks ≡ n
-  pub numbers-long : length numbers ≡ n
-  pub mark-at : (ok : IsModulus p) (i : ℕ) → i < j → getD marks i 0 ≡ shownMark p ok n es i
-  pub number-at : (ok : IsModulus p) (i : ℕ) → i < j → getD numbers i (pos 0) ≡ shownNumber p ok n es low i
+  pub numbers-long : length numbers ≡ n * s
+  pub mark-at : (ok : IsModulus p) (i : ℕ) → i < j → getD marks i 0 ≡ shownMark p ok n s es i
+  pub number-at : (ok : IsModulus p) (i : ℕ) → i < j → (w : ℕ) → w < s → wordOf s numbers i w ≡ shownNumber p ok n s es low i w
 
-module _ (p n low : ℕ) (es : List Entry) where
-  pub shown-none : (marks : List ℕ) (numbers : List ℤ) → length marks ≡ n → length numbers ≡ n → ShownBelow p n low es 0 marks numbers
+module _ (p n s low : ℕ) (es : List Entry) where
+  pub shown-none : (marks : List ℕ) (numbers : List ℤ) → length marks ≡ n → length numbers ≡ n * s → ShownBelow p n s low es 0 marks numbers
   shown-none marks numbers h l =
       record {
         marks-long = h;
         numbers-long = l;
-        mark-at = λ ok. below-none (λ i. getD marks i 0 ≡ shownMark p ok n es i);
-        number-at = λ ok. below-none (λ i. getD numbers i (pos 0) ≡ shownNumber p ok n es low i);
+        mark-at = λ ok. below-none (λ i. getD marks i 0 ≡ shownMark p ok n s es i);
+        number-at = λ ok. below-none (λ i. (w : ℕ) → w < s → wordOf s numbers i w ≡ shownNumber p ok n s es low i w);
       }
 
-  -- one record more
-  pub shown-more : (j : ℕ) (marks : List ℕ) (numbers : List ℤ) (m : ℕ) (z : ℤ) → j < n → ShownBelow p n low es j marks numbers
-      → ((ok : IsModulus p) → (shownMark p ok n es j ≡ m) × (shownNumber p ok n es low j ≡ z))
-      → ShownBelow p n low es (j + 1) (set marks j m) (set numbers j z)
-  shown-more j marks numbers m z h s e =
+  -- one record more: its mark is set, and the numbers of its words are put behind those of the records before it
+  pub shown-more : (j : ℕ) (marks : List ℕ) (numbers : List ℤ) (m : ℕ) (f : ℕ → ℤ) (more : List ℤ) → j < n
+      → ShownBelow p n s low es j marks numbers → NumbersPut (j * s) s f numbers more
+      → ((ok : IsModulus p) → (shownMark p ok n s es j ≡ m) × ((w : ℕ) → w < s → shownNumber p ok n s es low j w ≡ f w))
+      → ShownBelow p n s low es (j + 1) (set marks j m) more
+  shown-more j marks numbers m f more h b put e =
       record {
-        marks-long = length-set marks j m ∙ s .marks-long;
-        numbers-long = length-set numbers j z ∙ s .numbers-long;
-        mark-at = λ ok. set-more 0 (shownMark p ok n es) marks j m (omega (arith, s .marks-long)) (s .mark-at ok) (e ok .0);
+        marks-long = length-set marks j m ∙ b .marks-long;
+        numbers-long = put .same-length ∙ b .numbers-long;
+        mark-at = λ ok. set-more 0 (shownMark p ok n s es) marks j m (omega (arith, b .marks-long)) (b .mark-at ok) (e ok .0);
         number-at = λ ok.
-            set-more (pos 0) (shownNumber p ok n es low) numbers j z (omega (arith, s .numbers-long)) (s .number-at ok) (e ok .1);
+            below-more (λ i. (w : ℕ) → w < s → wordOf s more i w ≡ shownNumber p ok n s es low i w) j
+            (λ i l w c. put .front (i * s + w) (earlier i l w c) ∙ b .number-at ok i l w c)
+            (λ w c. put .each w c ∙ sym (e ok .1 w c));
       }
+    where
+      earlier : (i : ℕ) → i < j → (w : ℕ) → w < s → i * s + w < j * s
+      earlier i l w c = place-inside j s i w l c
 
   -- all records
-  pub shown-all : (marks : List ℕ) (numbers : List ℤ) → ShownBelow p n low es n marks numbers → (ok : IsModulus p)
-      → (marks ≡ tabulate n (shownMark p ok n es)) × (numbers ≡ tabulateℤ n (shownNumber p ok n es low))
-  shown-all marks numbers s ok = (
-    is-tabulate n (shownMark p ok n es) marks (s .marks-long) (s .mark-at ok),
-    is-tabulateℤ n (shownNumber p ok n es low) numbers (s .numbers-long) (s .number-at ok),
+  pub shown-all : (marks : List ℕ) (numbers : List ℤ) → ShownBelow p n s low es n marks numbers → (ok : IsModulus p)
+      → (marks ≡ tabulate n (shownMark p ok n s es)) × (numbers ≡ recordByRecord n s (shownNumber p ok n s es low))
+  shown-all marks numbers b ok = (
+    is-tabulate n (shownMark p ok n s es) marks (b .marks-long) (b .mark-at ok),
+    is-records n s (shownNumber p ok n s es low) numbers (b .numbers-long) (λ j w h l. b .number-at ok j h w l),
   )
 
 -- ---- a turn of the loop
 
 abbrev ShownIn : (ws : List ℕ) (low j : ℕ) (marks : List ℕ) (numbers : List ℤ) → Type 0
-ShownIn ws low = ShownBelow (modulusWord ws) (sizeWord ws) low (entriesOf ws)
+ShownIn ws low = ShownBelow (modulusWord ws) (sizeWord ws) (valuesWord ws) low (entriesOf ws)
 
 module _
     (ws e pivots at : List ℕ)
@@ -83,24 +87,27 @@ module _
     (by-pivot : RowsByPivot (countWord ws) pivots at)
     (low j : ℕ)
     (marks : List ℕ)
-    (numbers : List ℤ)
+    (numbers more : List ℤ)
     (inside : j < sizeWord ws)
     (below : ShownIn ws low j marks numbers)
   where
-    -- the worked row of j is the unit row of j: 1, and the reading z of the value behind it, which is kept in 32 bits
-    pub turn-shown : (z : ℤ) → SFits w32 z → UnitAt (sizeWord ws) (getD at j 0) j e
-        → z ≡ reading (modulusWord ws) low (getD e (workedPlace (sizeWord ws) (getD at j 0) (sizeWord ws)) 0)
-        → ShownIn ws low (j + 1) (set marks j 1) (set numbers j (toZ w32 (ofZ w32 z)))
-    turn-shown z fits row e′ =
-        let same = e′ ∙ ap (reading (modulusWord ws) low) (value-number ws e pivots at reduced by-pivot j (row .0)) in
-        shown-more (modulusWord ws) (sizeWord ws) low (entriesOf ws) j marks numbers 1 (toZ w32 (ofZ w32 z)) inside below
+    -- the worked row of j is the unit row of j: 1, and the readings of the values behind it
+    pub turn-shown : UnitAt (sizeWord ws) (valuesWord ws) (getD at j 0) j e
+        → NumbersPut (j * valuesWord ws) (valuesWord ws)
+        (λ u. reading (modulusWord ws) low (getD e (workedPlace (sizeWord ws) (valuesWord ws) (getD at j 0) (sizeWord ws + u)) 0)) numbers more
+        → ShownIn ws low (j + 1) (set marks j 1) more
+    turn-shown row put =
+        shown-more (modulusWord ws) (sizeWord ws) (valuesWord ws) low (entriesOf ws) j marks numbers 1 _ more inside below put
         (λ ok.
-        let shown = shown-at ws (reduced .D) (reduced .inverse) ok low j inside (row-unit ws e pivots at reduced by-pivot j row) in
-        (shown .0, shown .1 ∙ sym same ∙ sym (toZ-ofZ w32 z fits)))
+        let shown = shown-at ws (reduced .D) (reduced .inverse) ok low j inside (row-unit ws e pivots at reduced by-pivot j row) in (
+          shown .0,
+          λ w l. shown .1 w l ∙ sym (ap (reading (modulusWord ws) low) (value-number ws e pivots at reduced by-pivot j (row .0) w l)),
+        ))
 
-    -- it is not: 0 and 0
-    pub turn-hidden : (UnitAt (sizeWord ws) (getD at j 0) j e → ⊥) → ShownIn ws low (j + 1) (set marks j 0) (set numbers j (pos 0))
-    turn-hidden no-row =
-        shown-more (modulusWord ws) (sizeWord ws) low (entriesOf ws) j marks numbers 0 (pos 0) inside below
+    -- it is not: 0, and 0 for each word
+    pub turn-hidden : (UnitAt (sizeWord ws) (valuesWord ws) (getD at j 0) j e → ⊥)
+        → NumbersPut (j * valuesWord ws) (valuesWord ws) (λ u. pos 0) numbers more → ShownIn ws low (j + 1) (set marks j 0) more
+    turn-hidden no-row put =
+        shown-more (modulusWord ws) (sizeWord ws) (valuesWord ws) low (entriesOf ws) j marks numbers 0 (λ u. pos 0) more inside below put
         (λ ok.
         hidden-at ws (reduced .D) (reduced .inverse) ok low j (λ unit. no-row (unit-row ws e pivots at reduced by-pivot j inside unit)))

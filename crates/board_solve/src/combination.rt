@@ -6,6 +6,7 @@ use board_words::layout::COUNT;
 use board_words::layout::HEADER;
 use board_words::layout::MODULUS;
 use board_words::layout::SIZE;
+use board_words::layout::VALUES;
 
 // Whether the k multiplier rows are independent; then the zeros c become f D, the only combination of the rows that can be f: the
 // solution of the system of the turned board with the right side f.
@@ -14,8 +15,9 @@ pub fn candidate(board: &[u32], f: &[u32], c: &mut [u32]) -> bool
     ensures { λ r. ⌜ CandidateTold (now (board .entry)) (now (f .entry)) (now (c .exit)) r ⌝ }
 {
     let n = board[SIZE] as usize;
+    let s = board[VALUES] as usize;
     let k = board[COUNT] as usize;
-    let grid = layout::turned_grid(n, k);
+    let grid = layout::turned_grid(n, s, k);
     matrix_echelon::reduced::solution(board[MODULUS], grid, board, f, 1, &mut c[..k]) == k
 }
 
@@ -27,8 +29,9 @@ pub fn find(board: &[u32], f: &[u32], c: &[u32]) -> bool
 {
     let p = board[MODULUS];
     let n = board[SIZE] as usize;
+    let s = board[VALUES] as usize;
     let k = board[COUNT] as usize;
-    let width = layout::row_length(n);
+    let width = layout::row_length(n, s);
     let mut g = words::row_room();
     matrix_mul::rows::combine(p, &c[..k], &board[HEADER..], 0, width, &mut g[..n]);
     words::same(f, &g[..n])

@@ -17,7 +17,7 @@ use Rattle.board_words.specs.Inverse.{BoardInverse}
 use Rattle.board_words.proofs.TestRows.{RowsRank}
 
 pub board-header : {ws : List ℕ} → IsBoard ws → Header ws
-board-header b = record { three = b .three; prime = b .prime; size = b .size; long = b .long; count = b .count }
+board-header b = record { four = b .four; prime = b .prime; size = b .size; words = b .words; long = b .long; count = b .count }
 
 pub board-laid : {ws : List ℕ} → IsBoard ws → LaidOut ws
 board-laid b = record { header = board-header b; filled = record { below = b .below; zeros = b .zeros } }
@@ -34,9 +34,10 @@ module _ {ws : List ℕ} (laid : LaidOut ws) {D : Matrix (residues (modulusWord 
       record {
         board =
             record {
-              three = h .three;
+              four = h .four;
               prime = h .prime;
               size = h .size;
+              words = h .words;
               long = h .long;
               count = h .count;
               below = laid .filled .below;

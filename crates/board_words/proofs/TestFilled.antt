@@ -8,7 +8,7 @@ use native.Mathlib.Omega.{arith}
 use lib.ListN.{length, getD, take, drop, List·getD-eq-default}
 use Rattle.words.specs.Words.{Below, Blank}
 use Rattle.words.proofs.Parts.{part-length, part-at}
-use Rattle.ledger.specs.Board.{headerLength, modulusWord, sizeWord, countWord, rowsEnd}
+use Rattle.ledger.specs.Board.{headerLength, modulusWord, sizeWord, countWord, valuesWord, rowsEnd}
 use Rattle.ledger.proofs.LayoutPlaces.{row-behind}
 use Rattle.board_words.specs.Tested.{Header, Filled}
 use Rattle.board_words.proofs.TestSizes.{rows-inside}
@@ -24,7 +24,7 @@ module _ (ws : List ℕ) (h : Header ws) where
   entry-long : length (entryPart ws) ≡ rowsEnd ws - headerLength
   entry-long =
       part-length ws headerLength (rowsEnd ws - headerLength)
-      (omega (arith, rows-inside ws h, row-behind (sizeWord ws) (countWord ws)))
+      (omega (arith, rows-inside ws h, row-behind (sizeWord ws) (valuesWord ws) (countWord ws)))
 
   rest-long : length (restPart ws) ≡ length ws - rowsEnd ws
   rest-long = part-length ws (rowsEnd ws) (length ws - rowsEnd ws) (omega (arith, rows-inside ws h))

@@ -13,8 +13,8 @@ use Rattle.field.proofs.Field.{residues-field}
 use Rattle.matrix_echelon.specs.Grid.{gridPlace, gridOf, TableReadable}
 use Rattle.matrix_echelon.specs.Forward.{IsRank}
 use Rattle.matrix_echelon.proofs.Grids.{grid-table, grid-turned}
-use Rattle.ledger.specs.Board.{headerLength, rowLength, modulusWord, sizeWord, countWord, multiplierTable}
-use Rattle.ledger.proofs.LayoutPlaces.{row-first, row-step, row-ends, row-holds}
+use Rattle.ledger.specs.Board.{headerLength, rowLength, modulusWord, sizeWord, countWord, valuesWord, multiplierTable}
+use Rattle.ledger.proofs.LayoutPlaces.{row-first, row-step, row-ends, row-words}
 use Rattle.board_words.specs.Rows.{rowsGrid, turnedGrid}
 use Rattle.board_words.specs.Tested.{Header}
 use Rattle.board_words.proofs.TestSizes.{count-most, rows-inside}
@@ -28,25 +28,25 @@ pub record RowsRank (ws : List ℕ) (D : Matrix (residues (modulusWord ws))) (r 
 
 module _ (ws : List ℕ) where
   -- where entry (i, j) of the rows stands
-  plain-place : (i j : ℕ) → gridPlace (rowsGrid (sizeWord ws) (countWord ws)) i j ≡ headerLength + i * rowLength (sizeWord ws) + j
-  plain-place i j = omega (arith, row-first (sizeWord ws))
+  plain-place : (i j : ℕ) → gridPlace (rowsGrid (sizeWord ws) (valuesWord ws) (countWord ws)) i j ≡ headerLength + i * rowLength (sizeWord ws) (valuesWord ws) + j
+  plain-place i j = omega (arith, row-first (sizeWord ws) (valuesWord ws))
 
-  turned-place : (i j : ℕ) → gridPlace (turnedGrid (sizeWord ws) (countWord ws)) j i ≡ headerLength + i * rowLength (sizeWord ws) + j
-  turned-place i j = omega (arith, row-first (sizeWord ws))
+  turned-place : (i j : ℕ) → gridPlace (turnedGrid (sizeWord ws) (valuesWord ws) (countWord ws)) j i ≡ headerLength + i * rowLength (sizeWord ws) (valuesWord ws) + j
+  turned-place i j = omega (arith, row-first (sizeWord ws) (valuesWord ws))
 
   -- the tables that are read are that of the board's rows and its transpose
-  pub grid-rows : gridOf (modulusWord ws) (rowsGrid (sizeWord ws) (countWord ws)) ws ≡ multiplierTable ws
+  pub grid-rows : gridOf (modulusWord ws) (rowsGrid (sizeWord ws) (valuesWord ws) (countWord ws)) ws ≡ multiplierTable ws
   grid-rows =
-      grid-table (modulusWord ws) (rowsGrid (sizeWord ws) (countWord ws)) ws headerLength (rowLength (sizeWord ws)) plain-place
+      grid-table (modulusWord ws) (rowsGrid (sizeWord ws) (valuesWord ws) (countWord ws)) ws headerLength (rowLength (sizeWord ws) (valuesWord ws)) plain-place
 
   turned-rows :
-      gridOf (modulusWord ws) (turnedGrid (sizeWord ws) (countWord ws)) ws
+      gridOf (modulusWord ws) (turnedGrid (sizeWord ws) (valuesWord ws) (countWord ws)) ws
       ≡ transpose (residues (modulusWord ws)) (multiplierTable ws)
   turned-rows =
-      grid-turned (modulusWord ws) (turnedGrid (sizeWord ws) (countWord ws)) ws headerLength (rowLength (sizeWord ws)) turned-place
+      grid-turned (modulusWord ws) (turnedGrid (sizeWord ws) (valuesWord ws) (countWord ws)) ws headerLength (rowLength (sizeWord ws) (valuesWord ws)) turned-place
 
   -- a rank of the rows read in place
-  pub rows-rank : (r : ℕ) (R : IsRank (modulusWord ws) (rowsGrid (sizeWord ws) (countWord ws)) ws r) → RowsRank ws (R .D) r
+  pub rows-rank : (r : ℕ) (R : IsRank (modulusWord ws) (rowsGrid (sizeWord ws) (valuesWord ws) (countWord ws)) ws r) → RowsRank ws (R .D) r
   rows-rank r R =
       record {
         I = R .I;
@@ -58,12 +58,13 @@ module _ (ws : List ℕ) where
 
   module _ (h : Header ws) where
     -- the rows lie in the words
-    entry-inside : (i j : ℕ) → i < countWord ws → j < sizeWord ws → headerLength + i * rowLength (sizeWord ws) + j < length ws
+    entry-inside : (i j : ℕ) → i < countWord ws → j < sizeWord ws → headerLength + i * rowLength (sizeWord ws) (valuesWord ws) + j < length ws
     entry-inside i j l b =
         let n = sizeWord ws in
-        omega (arith, row-step n i, row-ends n i (countWord ws) l, row-holds n, rows-inside ws h)
+        let s = valuesWord ws in
+        omega (arith, row-step n s i, row-ends n s i (countWord ws) l, row-words n s, rows-inside ws h)
 
-    pub rows-readable : TableReadable (modulusWord ws) (rowsGrid (sizeWord ws) (countWord ws)) ws
+    pub rows-readable : TableReadable (modulusWord ws) (rowsGrid (sizeWord ws) (valuesWord ws) (countWord ws)) ws
     rows-readable =
         record {
           is-modulus = h .prime;
@@ -72,7 +73,7 @@ module _ (ws : List ℕ) where
           inside = λ i j l b. rw (plain-place i j) (entry-inside i j l b);
         }
 
-    pub turned-readable : TableReadable (modulusWord ws) (turnedGrid (sizeWord ws) (countWord ws)) ws
+    pub turned-readable : TableReadable (modulusWord ws) (turnedGrid (sizeWord ws) (valuesWord ws) (countWord ws)) ws
     turned-readable =
         record {
           is-modulus = h .prime;
@@ -82,7 +83,7 @@ module _ (ws : List ℕ) where
         }
 
     -- a rank of the turned rows: what is an inverse of them is one of the rows, turned
-    pub turned-rank : (r : ℕ) (R : IsRank (modulusWord ws) (turnedGrid (sizeWord ws) (countWord ws)) ws r)
+    pub turned-rank : (r : ℕ) (R : IsRank (modulusWord ws) (turnedGrid (sizeWord ws) (valuesWord ws) (countWord ws)) ws r)
         → RowsRank ws (transpose (residues (modulusWord ws)) (R .D)) r
     unfolding transpose
     turned-rank r R =

@@ -5,15 +5,16 @@ use mathlib.Core.List.{List}
 use Prim.Native.Nat.{ℕ, _≤_, _<_}
 use lib.ListN.{length, getD}
 use Rattle.checks.specs.Prime.{IsModulus}
-use Rattle.checks.specs.Largest.{FrameSize}
-use Rattle.ledger.specs.Board.{headerLength, boardLength, modulusWord, sizeWord, countWord, rowsEnd}
+use Rattle.checks.specs.Largest.{FrameSize, WordCount}
+use Rattle.ledger.specs.Board.{headerLength, boardLength, modulusWord, sizeWord, countWord, valuesWord, rowsEnd}
 
 -- the clauses up to k ≤ n
 pub record Header (ws : List ℕ) : Type 0 where
-  pub three : headerLength ≤ length ws
+  pub four : headerLength ≤ length ws
   pub prime : IsModulus (modulusWord ws)
   pub size : FrameSize (sizeWord ws)
-  pub long : length ws ≡ boardLength (sizeWord ws)
+  pub words : WordCount (valuesWord ws)
+  pub long : length ws ≡ boardLength (sizeWord ws) (valuesWord ws)
   pub count : countWord ws ≤ sizeWord ws
 
 -- entries below p, and zeros behind the rows

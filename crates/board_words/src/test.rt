@@ -8,6 +8,7 @@ use super::layout::COUNT;
 use super::layout::HEADER;
 use super::layout::MODULUS;
 use super::layout::SIZE;
+use super::layout::VALUES;
 use checks::Verdict;
 
 // Whether the words begin as a board does: the clauses up to k ≤ n.
@@ -17,11 +18,12 @@ fn has_header(board: &[u32]) -> bool
     if board.len() < HEADER {
         return false;
     }
-    let Verdict::Passed = checks::frame_sizes(board[MODULUS], board[SIZE]) else {
+    let Verdict::Passed = checks::frame_sizes(board[MODULUS], board[SIZE], board[VALUES]) else {
         return false;
     };
     let n = board[SIZE] as usize;
-    if board.len() != layout::board_length(n) {
+    let s = board[VALUES] as usize;
+    if board.len() != layout::board_length(n, s) {
         return false;
     }
     board[COUNT] <= board[SIZE]
@@ -33,8 +35,9 @@ fn is_filled(board: &[u32]) -> bool
     ensures { λ r. ⌜ Tells r (Filled (now (board .entry))) ⌝ }
 {
     let n = board[SIZE] as usize;
+    let s = board[VALUES] as usize;
     let k = board[COUNT] as usize;
-    let end = layout::row_start(n, k);
+    let end = layout::row_start(n, s, k);
     if !words::all_below(board[MODULUS], &board[HEADER..end]) {
         return false;
     }
@@ -59,7 +62,8 @@ pub fn is_board(board: &[u32]) -> bool
         return false;
     }
     let n = board[SIZE] as usize;
+    let s = board[VALUES] as usize;
     let k = board[COUNT] as usize;
-    let grid = layout::rows_grid(n, k);
+    let grid = layout::rows_grid(n, s, k);
     matrix_echelon::forward::rank(board[MODULUS], grid, board) == k
 }

@@ -8,7 +8,7 @@ use native.Mathlib.Decide.{decLe, decLt, decDvd, ℕ-discrete}
 use lib.ListN.{length}
 use Rattle.algebra.proofs.Choice.{all-below?}
 use Rattle.checks.specs.Prime.{largestModulus, IsModulus}
-use Rattle.checks.specs.Largest.{largest, Sizes, FrameSize}
+use Rattle.checks.specs.Largest.{largest, Sizes, FrameSize, mostWords, WordCount}
 
 no-divisor? : (p d : ℕ) → Dec (1 < d → d ∣ p → ⊥)
 no-divisor? p d = go (decLt 1 d) (decDvd d p)
@@ -32,6 +32,9 @@ sizes? m n = Dec·and (decLe m largest) (decLe n largest)
 
 pub frameSize? : (n : ℕ) → Dec (FrameSize n)
 frameSize? n = Dec·and (decLe 1 n) (decLe n largest)
+
+pub wordCount? : (s : ℕ) → Dec (WordCount s)
+wordCount? s = Dec·and (decLe 1 s) (decLe s mostWords)
 
 -- a slice has the length named
 pub long? : {A : Type 0} (xs : List A) (k : ℕ) → Dec (length xs ≡ k)

@@ -1,4 +1,4 @@
--- 01: "A table A has m rows and n columns, each from 0 to 64"; a heat has 1 to 64 records.
+-- 01: "A table A has m rows and n columns, each from 0 to 64"; a heat has 1 to 64 records. 02, #103: "s words a record, 1 to 16".
 use Prim.Native.Nat.{ℕ, _≤_}
 
 -- the most rows, columns or records
@@ -12,3 +12,10 @@ Sizes m n = (m ≤ largest) × (n ≤ largest)
 -- the number of records of a heat: what a frame or a board is for
 abbrev pub FrameSize : ℕ → Type 0
 FrameSize n = (1 ≤ n) × (n ≤ largest)
+
+-- the most words of a record, and the number of them: how many values a frame ends in
+abbrev pub mostWords : ℕ
+mostWords = 16
+
+abbrev pub WordCount : ℕ → Type 0
+WordCount s = (1 ≤ s) × (s ≤ mostWords)

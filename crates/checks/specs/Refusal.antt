@@ -2,7 +2,7 @@
 use Prim.Native.Nat.{ℕ, _≤_, _<_}
 use Rattle.checks.specs.declared.Refusal.{Refusal}
 use Rattle.checks.specs.declared.Refusal.the-variants.{Modulus, Size, Length, Number, Insoluble, FrameLength, Padding, ZeroMultiplier, Conflict}
-use Rattle.checks.specs.declared.Refusal.the-variants.{Withdrawal, NotBoard}
+use Rattle.checks.specs.declared.Refusal.the-variants.{Withdrawal, NotBoard, Words}
 
 abbrev pub refusalNumber : Refusal → ℕ
 refusalNumber Modulus = 1
@@ -16,6 +16,8 @@ refusalNumber ZeroMultiplier = 8
 refusalNumber Conflict = 9
 refusalNumber Withdrawal = 10
 refusalNumber NotBoard = 11
+-- 02, #103: "New numbers: 12, s outside 1 to 16"
+refusalNumber Words = 12
 
 -- a number that is told for a refusal: from 1, and below 100, where the numbers of other answers begin
 abbrev pub IsRefusal : ℕ → Type 0

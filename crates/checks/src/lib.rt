@@ -11,10 +11,13 @@ mod table;
 // The most rows, columns or records.
 pub const LARGEST: u32 = 64;
 
+// The most words of a record.
+pub const MOST_WORDS: u32 = 16;
+
 // The largest modulus, 2^31 - 1.
 pub const LARGEST_MODULUS: u32 = 2147483647;
 
-// Why a call refuses: the kinds 1 to 11 of document 01's table.
+// Why a call refuses: the kinds 1 to 11 of document 01's table, and those that document 02 adds.
 pub enum Refusal {
     // 1: p is no prime in range
     Modulus,
@@ -38,9 +41,11 @@ pub enum Refusal {
     Withdrawal,
     // 11: the words are no board
     NotBoard,
+    // 12: s, the words of a record, not 1 to 16
+    Words,
 }
 
-// The number that document 01 gives the kind.
+// The number that the documents give the kind.
 pub fn number_of(kind: Refusal) -> u32
     ensures { λ r. ⌜ r ≡ refusalNumber kind ⌝ }
 {
@@ -56,6 +61,7 @@ pub fn number_of(kind: Refusal) -> u32
         Refusal::Conflict => 9,
         Refusal::Withdrawal => 10,
         Refusal::NotBoard => 11,
+        Refusal::Words => 12,
     }
 }
 
@@ -111,9 +117,9 @@ pub fn table_sizes(p: u32, m: u32, n: u32) -> Verdict
     Verdict::Passed
 }
 
-// 1 and 2 of the calls on frames, and of open: the modulus, then n from 1 to 64.
-pub fn frame_sizes(p: u32, n: u32) -> Verdict
-    ensures { λ r. ⌜ Judges (frameSizes p n) r ⌝ }
+// 1, 2 and 12 of the calls on frames, and of open: the modulus, then n from 1 to 64, then s from 1 to 16.
+pub fn frame_sizes(p: u32, n: u32, s: u32) -> Verdict
+    ensures { λ r. ⌜ Judges (frameSizes p n s) r ⌝ }
 {
     if !is_modulus(p) {
         return Verdict::Refused(Refusal::Modulus);
@@ -123,6 +129,12 @@ pub fn frame_sizes(p: u32, n: u32) -> Verdict
     }
     if LARGEST < n {
         return Verdict::Refused(Refusal::Size);
+    }
+    if s < 1 {
+        return Verdict::Refused(Refusal::Words);
+    }
+    if MOST_WORDS < s {
+        return Verdict::Refused(Refusal::Words);
     }
     Verdict::Passed
 }

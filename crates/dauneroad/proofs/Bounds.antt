@@ -1,5 +1,5 @@
--- The numbers that the calls tell fit what C gets, so that `200 + k` does: k is at most 64 for tables and boards, and 268 for
--- writing. Each call goes through its checks, and these laws go by whichever way.
+-- The numbers that the calls tell fit what C gets, so that `200 + k` does: k is at most 64 for tables and boards, 16 for reading and
+-- sealing, and 328 for writing. Each call goes through its checks, and these laws go by whichever way.
 use mathlib.Core.Path.{_≡_, sym, subst}
 use mathlib.Core.List.{List}
 use Prim.Native.Nat.{ℕ, _≤_}
@@ -16,10 +16,10 @@ use Rattle.checks.proofs.Refusals.{refusal-number}
 use Rattle.matrix.specs.Calls.{solution, quasiinverseCall, kernelCall, solveCall}
 use Rattle.matrix.proofs.Stored.{rank-most}
 use Rattle.frame.specs.Format.{longest}
-use Rattle.frame.specs.Calls.{writeCall}
+use Rattle.frame.specs.Calls.{readCall, writeCall, sealCall}
 use Rattle.frame.proofs.Lengths.{longest-frame}
 use Rattle.ledger.specs.Ledger.{Ledger}
-use Rattle.ledger.specs.Board.{modulusWord, sizeWord, ledgerOf, IsBoard}
+use Rattle.ledger.specs.Board.{modulusWord, sizeWord, valuesWord, ledgerOf, IsBoard}
 use Rattle.ledger.specs.Calls.{withdrawCall, showCall}
 use Rattle.ledger.proofs.LedgerSteps.{Withdrew, dropped, overlong, withdrew, Showed, answered, unshown, showed}
 use Rattle.ledger.proofs.Parse.{words-count}
@@ -60,12 +60,21 @@ module _ (p m n : ℕ) (a : List ℕ) where
 
 -- ---- frames
 
-pub small-write : (p n : ℕ) (xs : List ℕ) (v : ℕ) (bytes : List ℕ) (o : Outcome (List ℕ))
-    → o ≡ writeCall p n xs v bytes → Small (o .told)
-unfolding writeCall longest
-small-write p n xs v bytes o =
-    carried
-    (in-order-elim _ _ SmallOutcome (λ hs. omega (arith, longest-frame p n xs v (hs .1 .1 .0) (hs .1 .0 .1))) (λ k f. small-refusal k))
+module _ (p n s : ℕ) where
+  pub small-read : (frame xs vs : List ℕ) (o : Outcome (List ℕ × List ℕ)) → o ≡ readCall p n s frame xs vs → Small (o .told)
+  unfolding readCall
+  small-read frame xs vs o = carried (in-order-elim _ _ SmallOutcome (λ hs. omega (arith, hs .1 .1 .0 .1)) (λ k f. small-refusal k))
+
+  pub small-write : (xs vs bytes : List ℕ) (o : Outcome (List ℕ)) → o ≡ writeCall p n s xs vs bytes → Small (o .told)
+  unfolding writeCall longest
+  small-write xs vs bytes o =
+      carried
+      (in-order-elim _ _ SmallOutcome
+      (λ hs. omega (arith, hs .1 .1 .0 .1, longest-frame p n s xs vs (hs .1 .1 .1 .0) (hs .1 .1 .1 .1 .0) (hs .1 .0 .1))) (λ k f. small-refusal k))
+
+  pub small-seal : (low : ℕ) (zs : List ℤ) (xs vs : List ℕ) (o : Outcome (List ℕ)) → o ≡ sealCall p n s low zs xs vs → Small (o .told)
+  unfolding sealCall
+  small-seal low zs xs vs o = carried (in-order-elim _ _ SmallOutcome (λ hs. omega (arith, hs .1 .1 .0 .1)) (λ k f. small-refusal k))
 
 -- ---- boards
 
@@ -96,5 +105,5 @@ small-show ws low marks zs o =
     (in-order-elim _ _ SmallOutcome
     (λ hs.
     showed-small (sizeWord ws) (ledgerOf ws) _ (hs .0 .size .1)
-    (showed (modulusWord ws) (hs .0 .prime) (sizeWord ws) (ledgerOf ws) low marks zs))
+    (showed (modulusWord ws) (hs .0 .prime) (sizeWord ws) (valuesWord ws) (ledgerOf ws) low marks zs))
     (λ k f. small-refusal k))

@@ -38,8 +38,8 @@ exported o = answer (o .told .number) (o .lent)
 
 -- ---- the board
 
-abbrev pub openAnswer : (p n : ℕ) → List ℕ → Answer (List ℕ)
-openAnswer p n ws = exported (openCall p n ws)
+abbrev pub openAnswer : (p n s : ℕ) → List ℕ → Answer (List ℕ)
+openAnswer p n s ws = exported (openCall p n s ws)
 
 abbrev pub takeAnswer : (board frame mix : List ℕ) → Answer (List ℕ × List ℕ)
 takeAnswer ws frame mix = exported (takeCall ws frame mix)
@@ -52,15 +52,14 @@ showAnswer ws low marks zs = exported (showCall ws low marks zs)
 
 -- ---- frames
 
-abbrev pub readAnswer : (p n : ℕ) (frame multipliers : List ℕ) (value : ℕ) → Answer (List ℕ × ℕ)
-readAnswer p n frame xs v =
-    let r = readCall p n frame xs in answer (r .told .number) (r .lent, numberOr v (r .told .values))
+abbrev pub readAnswer : (p n s : ℕ) (frame multipliers values : List ℕ) → Answer (List ℕ × List ℕ)
+readAnswer p n s frame xs vs = exported (readCall p n s frame xs vs)
 
-abbrev pub writeAnswer : (p n : ℕ) (multipliers : List ℕ) (value : ℕ) (bytes : List ℕ) → Answer (List ℕ)
-writeAnswer p n xs v bytes = exported (writeCall p n xs v bytes)
+abbrev pub writeAnswer : (p n s : ℕ) (multipliers values bytes : List ℕ) → Answer (List ℕ)
+writeAnswer p n s xs vs bytes = exported (writeCall p n s xs vs bytes)
 
-abbrev pub sealAnswer : (p n low : ℕ) (records : List ℤ) (multipliers : List ℕ) (value : ℕ) → Answer ℕ
-sealAnswer p n low zs xs v = let r = sealCall p n low zs xs in answer (r .told .number) (numberOr v (r .told .values))
+abbrev pub sealAnswer : (p n s low : ℕ) (records : List ℤ) (multipliers values : List ℕ) → Answer (List ℕ)
+sealAnswer p n s low zs xs vs = exported (sealCall p n s low zs xs vs)
 
 -- ---- signed readings
 

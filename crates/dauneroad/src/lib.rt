@@ -2,7 +2,7 @@
 // declares them.
 ghost use mathlib.Core.Path.{_≡_};
 ghost use Rattle.matrix.specs.Told.{tableTold};
-ghost use Rattle.frame.specs.Told.{writeTold};
+ghost use Rattle.frame.specs.Told.{readTold, writeTold, sealTold};
 ghost use Rattle.board_solve.specs.Told.{takeTold};
 ghost use Rattle.board_calls.specs.Told.{openTold, answerTold};
 ghost use Rattle.dauneroad.specs.Exports.{Small, answer, openAnswer, takeAnswer, withdrawAnswer, showAnswer};
@@ -11,6 +11,8 @@ ghost use Rattle.dauneroad.specs.Exports.{quasiinverseAnswer, kernelAnsw
 use board_calls::CountAnswer;
 use board_calls::OpenAnswer;
 use board_calls::TakeAnswer;
+use frame_calls::ReadAnswer;
+use frame_calls::SealAnswer;
 use frame_calls::WriteAnswer;
 use matrix_calls::TableAnswer;
 
@@ -46,6 +48,28 @@ fn count_number(answer: CountAnswer) -> u32
     }
 }
 
+// The number of what read answers: 200 plus s, or the refusal's.
+fn read_number(answer: ReadAnswer) -> u32
+    requires { ⌜ Small (readTold answer) ⌝ }
+    ensures { λ r. ⌜ r ≡ readTold answer .number ⌝ }
+{
+    match answer {
+        ReadAnswer::Words(s) => 200 + s,
+        ReadAnswer::Refused(kind) => checks::number_of(kind),
+    }
+}
+
+// The number of what seal answers: 200 plus s, or the refusal's.
+fn seal_number(answer: SealAnswer) -> u32
+    requires { ⌜ Small (sealTold answer) ⌝ }
+    ensures { λ r. ⌜ r ≡ sealTold answer .number ⌝ }
+{
+    match answer {
+        SealAnswer::Words(s) => 200 + s,
+        SealAnswer::Refused(kind) => checks::number_of(kind),
+    }
+}
+
 // The number of what write answers: 200 plus the length, or the refusal's.
 fn write_number(answer: WriteAnswer) -> u32
     requires { ⌜ Small (writeTold answer) ⌝ }
@@ -69,10 +93,10 @@ fn table_number(answer: TableAnswer) -> u32
 }
 
 #[no_mangle]
-pub extern "C" fn dauneroad_open(p: u32, n: u32, board: &mut [u32]) -> u32
-    ensures { λ r. ⌜ answer r (now (board .exit)) ≡ openAnswer p n (now (board .entry)) ⌝ }
+pub extern "C" fn dauneroad_open(p: u32, n: u32, s: u32, board: &mut [u32]) -> u32
+    ensures { λ r. ⌜ answer r (now (board .exit)) ≡ openAnswer p n s (now (board .entry)) ⌝ }
 {
-    open_number(board_calls::open(p, n, board))
+    open_number(board_calls::open(p, n, s, board))
 }
 
 #[no_mangle]
@@ -106,53 +130,46 @@ pub extern "C" fn dauneroad_show(
 pub extern "C" fn dauneroad_read(
     p: u32,
     n: u32,
+    s: u32,
     frame: &[u8],
     multipliers: &mut [u32],
-    value: &mut u32,
+    values: &mut [u32],
 ) -> u32
-    ensures { λ r. ⌜ answer r (now (multipliers .exit), now (value .exit))
-        ≡ readAnswer p n (now (frame .entry)) (now (multipliers .entry)) (now (value .entry)) ⌝ }
+    ensures { λ r. ⌜ answer r (now (multipliers .exit), now (values .exit))
+        ≡ readAnswer p n s (now (frame .entry)) (now (multipliers .entry)) (now (values .entry)) ⌝ }
 {
-    match frame_calls::read(p, n, frame, multipliers) {
-        frame_calls::ReadAnswer::Value(v) => {
-            *value = v;
-            0
-        }
-        frame_calls::ReadAnswer::Refused(kind) => checks::number_of(kind),
-    }
+    read_number(frame_calls::read(p, n, s, frame, multipliers, values))
 }
 
 #[no_mangle]
 pub extern "C" fn dauneroad_write(
     p: u32,
     n: u32,
+    s: u32,
     multipliers: &[u32],
-    value: u32,
+    values: &[u32],
     bytes: &mut [u8],
 ) -> u32
-    ensures { λ r. ⌜ answer r (now (bytes .exit)) ≡ writeAnswer p n (now (multipliers .entry)) value (now (bytes .entry)) ⌝ }
+    ensures { λ r. ⌜ answer r (now (bytes .exit))
+        ≡ writeAnswer p n s (now (multipliers .entry)) (now (values .entry)) (now (bytes .entry)) ⌝ }
 {
-    write_number(frame_calls::write(p, n, multipliers, value, bytes))
+    write_number(frame_calls::write(p, n, s, multipliers, values, bytes))
 }
 
 #[no_mangle]
 pub extern "C" fn dauneroad_seal(
     p: u32,
     n: u32,
+    s: u32,
     low: u32,
     records: &[i32],
     multipliers: &[u32],
-    value: &mut u32,
+    values: &mut [u32],
 ) -> u32
-    ensures { λ r. ⌜ answer r (now (value .exit)) ≡ sealAnswer p n low (now (records .entry)) (now (multipliers .entry)) (now (value .entry)) ⌝ }
+    ensures { λ r. ⌜ answer r (now (values .exit))
+        ≡ sealAnswer p n s low (now (records .entry)) (now (multipliers .entry)) (now (values .entry)) ⌝ }
 {
-    match frame_calls::seal(p, n, low, records, multipliers) {
-        frame_calls::SealAnswer::Value(v) => {
-            *value = v;
-            0
-        }
-        frame_calls::SealAnswer::Refused(kind) => checks::number_of(kind),
-    }
+    seal_number(frame_calls::seal(p, n, s, low, records, multipliers, values))
 }
 
 #[no_mangle]

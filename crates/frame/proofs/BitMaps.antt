@@ -86,12 +86,12 @@ unpadded-standing n bytes clear =
     rw (count-whole-map, count-record-bits) (count-first n (8 * mapLength n) bytes (omega arith) (λ j h l. clear j (omega arith) l))
 
 -- the length that the records' bits tell
-abbrev pub recordLength : (p n : ℕ) → List ℕ → ℕ
-recordLength p n bytes = mapLength n + width p * standing (recordBits n bytes) + width p
+abbrev pub recordLength : (p n s : ℕ) → List ℕ → ℕ
+recordLength p n s bytes = mapLength n + width p * standing (recordBits n bytes) + width p * s
 
-pub unpadded-length : (p n : ℕ) (bytes : List ℕ) → Unpadded n bytes → frameLength p n bytes ≡ recordLength p n bytes
+pub unpadded-length : (p n s : ℕ) (bytes : List ℕ) → Unpadded n bytes → frameLength p n s bytes ≡ recordLength p n s bytes
 unfolding frameLength
-unpadded-length p n bytes clear = ap (λ (k : ℕ). mapLength n + width p * k + width p) (unpadded-standing n bytes clear)
+unpadded-length p n s bytes clear = ap (λ (k : ℕ). mapLength n + width p * k + width p * s) (unpadded-standing n bytes clear)
 
 -- ---- the map of the front of a frame of n records
 

@@ -1,11 +1,11 @@
 -- Lists of numbers, each as w bytes, one after the other: written and read back, and by places in the bytes.
-use mathlib.Core.Path.{_≡_, refl, ap}
+use mathlib.Core.Path.{_≡_, refl, sym, ap, _∙_}
 use mathlib.Core.List.{List, [], _∷_, _++_, append-assoc, append-nil}
 use Prim.Native.Nat.{ℕ, zero, suc, _+_, _*_, _^_, _≤_}
 use native.Mathlib.Nat.{mul-zero, mul-suc}
 use native.Mathlib.Omega.{arith}
 use lib.ListN.{length, take, drop, length-append, length-drop}
-use lib.Seq.{take-at, drop-at, take-add, drop-drop, length-take-le}
+use lib.Seq.{take-at, drop-at, take-add, take-all, drop-drop, length-take-le}
 use Rattle.words.specs.Words.{Below}
 use Rattle.codec.specs.BigEndian.{bytesOf, numberFrom, numberAt}
 use Rattle.codec.proofs.BigEndian.{bytes-length, number-of-bytes, bytes-of-number, below-head, below-tail, below-take, below-drop}
@@ -29,10 +29,6 @@ module _ (w : ℕ) where
   unfolding numbersIn
   numbers-first k bs = refl
 
-  -- one number is its own bytes
-  pub one-value : (v : ℕ) → valueBytes w (v ∷ []) ≡ bytesOf w v
-  one-value v = rw (values-more, values-none) (append-nil (bytesOf w v))
-
   pub value-bytes-length : (vs : List ℕ) → length (valueBytes w vs) ≡ w * length vs
   value-bytes-length [] = rw values-none (omega arith)
   value-bytes-length (v ∷ vs) = rw (values-more, length-append, bytes-length w v, value-bytes-length vs) (omega (arith, mul-suc w (length vs)))
@@ -53,6 +49,10 @@ module _ (w : ℕ) where
       let others = numbers-of-values ns rest (below-tail (256 ^ w) x ns h) in
       rw (values-more, append-assoc, numbers-first, taken, dropped, first, others)
 
+  -- and where nothing does
+  pub numbers-of-all : (ns : List ℕ) → Below (256 ^ w) ns → numbersIn w (length ns) (valueBytes w ns) ≡ ns
+  numbers-of-all ns h = ap (numbersIn w (length ns)) (sym (append-nil (valueBytes w ns))) ∙ numbers-of-values ns [] h
+
   -- the numbers that stand in bytes have these bytes
   pub values-of-numbers : (k : ℕ) (bs : List ℕ) → Below 256 bs → w * k ≤ length bs → valueBytes w (numbersIn w k bs) ≡ take (w * k) bs
   values-of-numbers zero bs h l = rw (numbers-none, values-none, mul-zero)
@@ -62,6 +62,9 @@ module _ (w : ℕ) where
       let front = rw long at (bytes-of-number (take w bs) (below-take 256 w bs h)) in
       let back = values-of-numbers k (drop w bs) (below-drop 256 w bs h) (omega (arith, length-drop w bs)) in
       rw (numbers-first, values-more, back, e, take-add w (w * k) bs, front)
+
+  pub all-of-numbers : (k : ℕ) (bs : List ℕ) → Below 256 bs → length bs ≡ w * k → valueBytes w (numbersIn w k bs) ≡ bs
+  all-of-numbers k bs h l = values-of-numbers k bs h (omega arith) ∙ take-all (w * k) bs (omega arith)
 
   -- the numbers that stand from a place on: the one there, and those from the next place on
   pub numbers-more :

@@ -9,12 +9,11 @@ use mathlib.Core.List.{List}
 use Prim.Native.Nat.{ℕ, zero, suc, _+_, _*_, _≤_, _<_}
 use native.Mathlib.Decide.{decLe, decLt}
 use native.Mathlib.Omega.{arith}
-use lib.IntN.{pos}
 use lib.ListN.{length}
 use Rattle.checks.specs.declared.Refusal.{Refusal}
 use Rattle.checks.specs.declared.Refusal.the-variants.{Length, FrameLength, Padding}
 use Rattle.checks.specs.InOrder.{Check, Checks, passed, _else_, _⨾_, Given, andThen, inOrder, AllHold, FirstFailing}
-use Rattle.checks.specs.Told.{gives}
+use Rattle.checks.specs.Told.{results}
 use Rattle.checks.specs.Outcome.{Outcome, outcome, untouched}
 use Rattle.checks.specs.Decide.{long?}
 use Rattle.checks.specs.Sizes.{frameSizes}
@@ -23,7 +22,7 @@ use Rattle.checks.proofs.InOrder.{_and-then_, _then_}
 use Rattle.frame.specs.Width.{width}
 use Rattle.frame.specs.Format.{mapLength}
 use Rattle.frame.specs.Bitmap.{bitAt, standing, wholeMap, ClearFrom, StandsFrom, Unpadded}
-use Rattle.frame.specs.Reading.{frameLength, frameMultipliers, frameValue, frameChecks}
+use Rattle.frame.specs.Reading.{frameLength, frameMultipliers, frameValues, frameChecks}
 use Rattle.frame.specs.Decide.{unpadded?}
 use Rattle.frame.specs.Calls.{readCall}
 use Rattle.frame.specs.EarlierOrder.{earlierChecks, earlierRead, Moved, MovesExactly, moved, kept, ReadMoved, ReadMoves}
@@ -90,62 +89,64 @@ one-stands n (suc k) bytes f = last (decLe n k) (bitAt bytes k) refl (one-stands
     last (no h) b e below = up (below (λ g. f (one-more (λ l. absurd (h l)) g)))
 
 -- the reader's length is the one that the request counts
-counted-length : (p n : ℕ) (bytes : List ℕ) → frameLength p n bytes ≡ mapLength n + width p * standing (wholeMap n bytes) + width p
+counted-length : (p n s : ℕ) (bytes : List ℕ) → frameLength p n s bytes ≡ mapLength n + width p * standing (wholeMap n bytes) + width p * s
 unfolding frameLength
-counted-length p n bytes = omega arith
+counted-length p n s bytes = omega arith
 
-module _ {X : Type 0} (p n : ℕ) (bytes : List ℕ) (done : X) (refuse : Refusal → X) where
+module _ {X : Type 0} (p n s : ℕ) (bytes : List ℕ) (done : X) (refuse : Refusal → X) where
   abbrev was : X
-  was = inOrder (earlierChecks p n bytes) (λ _. done) refuse
+  was = inOrder (earlierChecks p n s bytes) (λ _. done) refuse
 
   abbrev is : X
-  is = inOrder (frameChecks p n bytes) (λ _. done) refuse
+  is = inOrder (frameChecks p n s bytes) (λ _. done) refuse
 
   -- past a check that holds the others decide
   past-check : (c : Check Refusal) (cs : Checks Refusal) → c .Holds → inOrder (c ⨾ cs) (λ _. done) refuse ≡ inOrder cs (λ _. done) refuse
   past-check c cs h = in-order-then (c ⨾ passed) cs done refuse ∙ in-order-done _ _ _ (h and-then none-left) (λ _. refl)
 
   -- whatever is done where all checks hold, and however it is refused
-  pub reading-moves : MovesExactly (Moved p n bytes) (refuse Padding) (refuse FrameLength) was is
-  reading-moves = by-checks (decLe (mapLength n) (length bytes)) (long? bytes (frameLength p n bytes)) (unpadded? n bytes)
+  pub reading-moves : MovesExactly (Moved p n s bytes) (refuse Padding) (refuse FrameLength) was is
+  reading-moves = by-checks (decLe (mapLength n) (length bytes)) (long? bytes (frameLength p n s bytes)) (unpadded? n bytes)
     where
-      stands : Moved p n bytes → Unpadded n bytes → ⊥
+      stands : Moved p n s bytes → Unpadded n bytes → ⊥
       stands m clear = let (j, a, b, c) = m .padded in true≢false (sym c ∙ clear j b (omega arith))
 
-      by-checks : Dec (mapLength n ≤ length bytes) → Dec (length bytes ≡ frameLength p n bytes) → Dec (Unpadded n bytes)
-          → MovesExactly (Moved p n bytes) (refuse Padding) (refuse FrameLength) was is
+      by-checks : Dec (mapLength n ≤ length bytes) → Dec (length bytes ≡ frameLength p n s bytes) → Dec (Unpadded n bytes)
+          → MovesExactly (Moved p n s bytes) (refuse Padding) (refuse FrameLength) was is
       by-checks (no short) _ _ =
           kept (λ m. short (m .map-fits)) (in-order-refused _ _ (fails-here short) ∙ sym (in-order-refused _ _ (fails-here short)))
       by-checks (yes fits) (no other) (no padded) =
           let (j, a, b, c) = one-stands n (8 * mapLength n) bytes padded in
-          moved (record { padded = (j, omega arith, b, c); map-fits = fits; other-length = λ e. other (e ∙ sym (counted-length p n bytes)) })
+          moved (record { padded = (j, omega arith, b, c); map-fits = fits; other-length = λ e. other (e ∙ sym (counted-length p n s bytes)) })
           (in-order-refused _ _ (fits then fails-here padded)) (in-order-refused _ _ (fits then fails-here other))
       by-checks (yes fits) (yes long) (no padded) =
-          kept (λ m. m .other-length (long ∙ counted-length p n bytes))
+          kept (λ m. m .other-length (long ∙ counted-length p n s bytes))
           (in-order-refused _ _ (fits then long then fails-here padded) ∙ sym (in-order-refused _ _ (fits then fails-here padded)))
       by-checks (yes fits) (no other) (yes clear) =
           kept (λ m. stands m clear)
           (in-order-refused _ _ (fits then fails-here other)
-          ∙ sym (in-order-refused _ _ (fits then clear then fails-here (λ e. other (e ∙ sym (unpadded-length p n bytes clear))))))
+          ∙ sym (in-order-refused _ _ (fits then clear then fails-here (λ e. other (e ∙ sym (unpadded-length p n s bytes clear))))))
       by-checks (yes fits) (yes long) (yes clear) =
           kept (λ m. stands m clear)
           (past-check _ _ fits ∙ past-check _ _ long ∙ past-check _ _ clear
-          ∙ sym (past-check _ _ fits ∙ past-check _ _ clear ∙ past-check _ _ (long ∙ unpadded-length p n bytes clear)))
+          ∙ sym (past-check _ _ fits ∙ past-check _ _ clear ∙ past-check _ _ (long ∙ unpadded-length p n s bytes clear)))
 
 -- ---- the call
 
-module _ (p n : ℕ) (bytes lent : List ℕ) where
+module _ (p n s : ℕ) (bytes xs vs : List ℕ) where
   abbrev front : Checks Refusal
-  front = andThen (frameSizes p n) (λ _. long? lent n else Length ⨾ passed)
+  front = andThen (frameSizes p n s) (λ _. long? xs n else Length ⨾ long? vs s else Length ⨾ passed)
 
   -- what read comes to has moved where the request says, and nowhere else
-  pub read-moves : ReadMoves p n bytes lent
+  pub read-moves : ReadMoves p n s bytes xs vs
   unfolding readCall earlierRead
   read-moves =
-      let o = outcome (gives (pos (frameValue p n bytes))) (frameMultipliers p n bytes) in
-      rw (in-order-then front (frameChecks p n bytes) o (untouched lent), in-order-then front (earlierChecks p n bytes) o (untouched lent))
-      (behind front (untouched lent) (λ hs. (hs .0, hs .1 .0, hs .1 .1 .0)) (λ h. h .0 and-then h .1 and-then h .2 and-then none-left) _ _
-      (λ _. reading-moves p n bytes o (untouched lent)))
+      let o = outcome {M = List ℕ × List ℕ} (results s) (frameMultipliers p n bytes, frameValues p n s bytes) in
+      let refuse = untouched {M = List ℕ × List ℕ} (xs, vs) in
+      rw (in-order-then front (frameChecks p n s bytes) o refuse, in-order-then front (earlierChecks p n s bytes) o refuse)
+      (behind front refuse (λ hs. (hs .0, hs .1 .0, hs .1 .1 .0, hs .1 .1 .1 .0, hs .1 .1 .1 .1 .0))
+      (λ h. h .0 and-then h .1 and-then h .2 and-then h .3 and-then h .4 and-then none-left) _ _
+      (λ _. reading-moves p n s bytes o refuse))
 
-  pub read-differs : (readCall p n bytes lent ≡ earlierRead p n bytes lent → ⊥) ↔ ReadMoved p n bytes lent
-  read-differs = differ-exactly (six-not-seven lent) read-moves
+  pub read-differs : (readCall p n s bytes xs vs ≡ earlierRead p n s bytes xs vs → ⊥) ↔ ReadMoved p n s bytes xs vs
+  read-differs = differ-exactly (six-not-seven (xs, vs)) read-moves

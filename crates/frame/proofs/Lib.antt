@@ -6,6 +6,7 @@ pub mod ReadKinds
 pub mod RoundMap
 pub mod RoundNumbers
 pub mod Round
+pub mod CallOrder
 pub mod Calls
 pub mod Lengths
 pub mod EarlierOrder

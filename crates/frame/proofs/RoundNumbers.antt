@@ -125,37 +125,37 @@ spread-stands (false ∷ bits) ns e h =
 
 -- ---- what is accepted
 
--- numbers that pass their checks are from 1 to p - 1, and the value is below p
-pub record GoodNumbers (p : ℕ) (ns : List ℕ) (v : ℕ) : Type 0 where
+-- numbers that pass their checks are from 1 to p - 1, and the values are below p
+pub record GoodNumbers (p : ℕ) (ns vs : List ℕ) : Type 0 where
   pub positive : Positive ns
   pub below : Below p ns
-  pub value-below : v < p
+  pub values-below : Below p vs
 
-pub good-of-given : (p : ℕ) (ns : List ℕ) (v : ℕ) → Given (numberChecks p ns v) → GoodNumbers p ns v
-good-of-given p [] v hs =
-    record { positive = λ i l. absurd (not-suc-le-zero l); below = λ i l. absurd (not-suc-le-zero l); value-below = hs .0 }
-good-of-given p (x ∷ ns) v hs =
-    let rest = good-of-given p ns v (hs .1 .1) in
+pub good-of-given : (p : ℕ) (ns vs : List ℕ) → Given (numberChecks p ns vs) → GoodNumbers p ns vs
+good-of-given p [] vs hs =
+    record { positive = λ i l. absurd (not-suc-le-zero l); below = λ i l. absurd (not-suc-le-zero l); values-below = hs .0 }
+good-of-given p (x ∷ ns) vs hs =
+    let rest = good-of-given p ns vs (hs .1 .1) in
     record {
       positive = positive-cons x ns (hs .0) (rest .positive);
       below = below-cons p x ns (hs .1 .0) (rest .below);
-      value-below = rest .value-below;
+      values-below = rest .values-below;
     }
   where
     positive-cons : (x : ℕ) (xs : List ℕ) → 0 < x → Positive xs → Positive (x ∷ xs)
     positive-cons x xs h t zero l = h
     positive-cons x xs h t (suc i) l = t i (omega arith)
 
-pub good-hold : (p : ℕ) (ns : List ℕ) (v : ℕ) → GoodNumbers p ns v → AllHold (numberChecks p ns v)
-good-hold p [] v t = t .value-below and-then none-left
-good-hold p (x ∷ ns) v t =
+pub good-hold : (p : ℕ) (ns vs : List ℕ) → GoodNumbers p ns vs → AllHold (numberChecks p ns vs)
+good-hold p [] vs t = t .values-below and-then none-left
+good-hold p (x ∷ ns) vs t =
     holds-and (t .positive 0 (omega arith))
     (λ _.
     holds-and (below-head p x ns (t .below))
     (λ _.
-    good-hold p ns v
+    good-hold p ns vs
     (record {
       positive = λ i k. t .positive (suc i) (omega arith);
       below = below-tail p x ns (t .below);
-      value-below = t .value-below;
+      values-below = t .values-below;
     })))

@@ -1,4 +1,4 @@
--- The width of a modulus is the fewest bytes that hold p - 1: by its four cases. Then what the frames need of it: that it is at most 4,
+-- The width of a modulus is the fewest bytes that hold p - 1: by its four cases. Then what the frames need of it: that it is from 1 to 4,
 -- what that makes of 64 numbers, and that numbers below p fit it.
 use mathlib.Core.Path.{_≡_, _∙_}
 use Prim.Native.Nat.{ℕ, suc, _*_, _-_, _^_, _≤_, _<_}
@@ -74,6 +74,9 @@ fewest-unique p j k a b = omega (arith, a .fewest k (b .holds), b .fewest j (a .
 
 pub width-small : (p : ℕ) → width p ≤ 4
 width-small p = by-width (λ k. k ≤ 4) p (λ _. omega arith) (λ _ _. omega arith) (λ _ _. omega arith) (λ _. omega arith)
+
+pub width-some : (p : ℕ) → 1 ≤ width p
+width-some p = by-width (λ k. 1 ≤ k) p (λ _. omega arith) (λ _ _. omega arith) (λ _ _. omega arith) (λ _. omega arith)
 
 -- no more than 64 numbers of at most four bytes have at most 256
 pub few-bytes : (w k : ℕ) → w ≤ 4 → k ≤ 64 → w * k ≤ 256

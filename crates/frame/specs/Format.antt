@@ -1,4 +1,4 @@
--- 01, "Frame bytes", with 02, #111: what the bytes of a frame are, from its multipliers and its values.
+-- 01, "Frame bytes", with 02, #103 and #111: what the bytes of a frame are, from its multipliers and its values.
 use mathlib.Core.Bool.{Bool, false, not}
 use mathlib.Core.List.{List, [], _∷_, _++_, map}
 use Prim.Native.Nat.{ℕ, zero, suc, _+_, _*_, _/_}
@@ -13,14 +13,14 @@ use Rattle.frame.specs.Width.{width}
 unfoldable pub mapLength : ℕ → ℕ
 mapLength n = (n + 7) / 8
 
--- the longest frame, 64 records with a multiplier each and one value, all of four bytes; what writing is lent, whatever the modulus:
--- "the lent 264 + 4 × s bytes stay" (02, #111), of which one value makes 268
-unfoldable pub longest : ℕ
-longest = 268
+-- the longest frame with s words a record, 64 records with a multiplier each and s values, all of four bytes; what writing is lent,
+-- whatever the modulus: "writing takes s and lends exactly 264 + 4 × s bytes" (02, #103), "the lent 264 + 4 × s bytes stay" (02, #111)
+unfoldable pub longest : (s : ℕ) → ℕ
+longest s = 264 + 4 * s
 
--- the most bytes that a frame of n records modulo p has: its map, a multiplier for each record, and the value
-unfoldable pub mostBytes : (p n : ℕ) → ℕ
-mostBytes p n = mapLength n + width p * n + width p
+-- the most bytes that a frame of n records modulo p has: its map, a multiplier for each record, and s values
+unfoldable pub mostBytes : (p n s : ℕ) → ℕ
+mostBytes p n s = mapLength n + width p * n + width p * s
 
 -- record j's bit stands where its multiplier is not 0
 unfoldable pub stands : List ℕ → List Bool

@@ -1,6 +1,5 @@
--- What the answers of read, write and seal tell: 0 and the value, 200 + the length and the length, 0 and the value.
-use lib.IntN.{pos}
-use Rattle.checks.specs.Told.{Told, refused, gives, results}
+-- What the answers of read, write and seal tell: 200 + s, 200 + the length, 200 + s, each with what is added.
+use Rattle.checks.specs.Told.{Told, refused, results}
 use Rattle.frame.specs.declared.ReadAnswer.{ReadAnswer}
 use Rattle.frame.specs.declared.ReadAnswer.the-variants as read
 use Rattle.frame.specs.declared.WriteAnswer.{WriteAnswer}
@@ -9,7 +8,7 @@ use Rattle.frame.specs.declared.SealAnswer.{SealAnswer}
 use Rattle.frame.specs.declared.SealAnswer.the-variants as seal
 
 abbrev pub readTold : ReadAnswer → Told
-readTold (read.Value v) = gives (pos v)
+readTold (read.Words s) = results s
 readTold (read.Refused k) = refused k
 
 abbrev pub writeTold : WriteAnswer → Told
@@ -17,5 +16,5 @@ writeTold (write.Length k) = results k
 writeTold (write.Refused k) = refused k
 
 abbrev pub sealTold : SealAnswer → Told
-sealTold (seal.Value v) = gives (pos v)
+sealTold (seal.Words s) = results s
 sealTold (seal.Refused k) = refused k

@@ -2,8 +2,9 @@
 // proofs/ for what holds of them. The bytes are read and written in `frame_bytes`, the calls stand in `frame_calls`.
 use checks::Refusal;
 
+// Read and seal answer s, the number of values that they wrote; write answers the frame's length.
 pub enum ReadAnswer {
-    Value(u32),
+    Words(u32),
     Refused(Refusal),
 }
 
@@ -13,6 +14,6 @@ pub enum WriteAnswer {
 }
 
 pub enum SealAnswer {
-    Value(u32),
+    Words(u32),
     Refused(Refusal),
 }

@@ -4,11 +4,10 @@ use mathlib.Core.Path.{_≡_, sym, ap, ap₂, refl, _∙_}
 use mathlib.Core.List.{List}
 use Prim.Native.Nat.{ℕ, _+_, _*_, _≤_, _<_}
 use native.Mathlib.Omega.{arith}
-use lib.IntN.{pos}
 use lib.ListN.{length, drop}
 use Rattle.checks.specs.declared.Refusal.{Refusal}
 use Rattle.checks.specs.declared.Refusal.the-variants.{FrameLength, Padding}
-use Rattle.checks.specs.Told.{gives}
+use Rattle.checks.specs.Told.{results}
 use Rattle.checks.specs.Outcome.{outcome, untouched}
 use Rattle.checks.specs.InOrder.{AllHold, FirstFailing}
 use Rattle.checks.specs.Largest.{largest}
@@ -16,11 +15,11 @@ use Rattle.checks.proofs.InOrder.{fails-here, in-order-done, in-order-refused, 
 use Rattle.frame.specs.Width.{width}
 use Rattle.frame.specs.Format.{mapLength}
 use Rattle.frame.specs.Bitmap.{standing, recordBits, wholeMap, ClearFrom, Unpadded, mapFrom, mapBits}
-use Rattle.frame.specs.Reading.{numbersIn, spread, frameLength, frameNumbers, frameMultipliers, frameValue, frameChecks}
+use Rattle.frame.specs.Reading.{numbersIn, spread, frameLength, frameNumbers, frameMultipliers, frameValues, frameChecks}
 use Rattle.frame.specs.Reading.{accepted, readFrame}
 use Rattle.frame.specs.Calls.{readOutcome}
 use Rattle.frame.proofs.BitMaps.{map-record-bits, clear-unpadded, unpadded-clear, standing-first, standing-whole}
-use Rattle.frame_bytes.specs.Stages.{valueAfter, checksFrom, multipliersFrom}
+use Rattle.frame_bytes.specs.Stages.{valuesAfter, checksFrom, multipliersFrom}
 
 -- ---- the checks of a frame
 
@@ -35,9 +34,9 @@ pub record Counted (n : ℕ) (bytes map : List ℕ) (count : ℕ) : Type 0 where
   pub small : n ≤ largest
   pub counted : count ≡ standing (mapBits map)
 
-module _ (p n : ℕ) (bytes : List ℕ) where
+module _ (p n s : ℕ) (bytes : List ℕ) where
   -- shorter than the map
-  pub frame-short : length bytes < mapLength n → FirstFailing (frameChecks p n bytes) FrameLength
+  pub frame-short : length bytes < mapLength n → FirstFailing (frameChecks p n s bytes) FrameLength
   frame-short h = fails-here (λ l. omega arith)
 
   module _ (map : List ℕ) (count : ℕ) (c : Counted n bytes map count) where
@@ -51,16 +50,18 @@ module _ (p n : ℕ) (bytes : List ℕ) where
     count-whole : count ≡ standing (wholeMap n bytes)
     count-whole = c .counted ∙ rw (c .mapped .built) (standing-whole n bytes (c .mapped .fits) (c .small))
 
-    length-told : mapLength n + width p * count + width p ≡ frameLength p n bytes
+    length-told : mapLength n + width p * count + width p * s ≡ frameLength p n s bytes
     unfolding frameLength
-    length-told = rw count-whole
+    length-told = ap (λ (k : ℕ). mapLength n + width p * k + width p * s) count-whole
 
     -- another length than the map tells
-    pub frame-other-length : (length bytes ≡ mapLength n + width p * count + width p → ⊥) → FirstFailing (frameChecks p n bytes) FrameLength
+    pub frame-other-length :
+        (length bytes ≡ mapLength n + width p * count + width p * s → ⊥) → FirstFailing (frameChecks p n s bytes) FrameLength
     frame-other-length h = c .mapped .fits then fails-here (λ e. h (e ∙ sym length-told))
 
     -- a bit stands at n or above in a frame of that length
-    pub frame-padded : length bytes ≡ mapLength n + width p * count + width p → (ClearFrom n largest map → ⊥) → FirstFailing (frameChecks p n bytes) Padding
+    pub frame-padded :
+        length bytes ≡ mapLength n + width p * count + width p * s → (ClearFrom n largest map → ⊥) → FirstFailing (frameChecks p n s bytes) Padding
     frame-padded long h =
         let m = c .mapped in
         m .fits then (long ∙ length-told) then fails-here (λ u. h (rw (m .built) (unpadded-clear n bytes (m .fits) u)))
@@ -76,28 +77,30 @@ module _ (p n : ℕ) (bytes : List ℕ) where
       count-bytes : count ≡ standing (recordBits n bytes)
       count-bytes = count-records ∙ ap standing bits
 
-      module _ (long : length bytes ≡ mapLength n + width p * count + width p) where
-        pub frame-number : {k : Refusal} → FirstFailing (checksFrom p (width p) bytes (mapLength n) count) k → FirstFailing (frameChecks p n bytes) k
-        unfolding frameNumbers frameValue valueAfter
+      module _ (long : length bytes ≡ mapLength n + width p * count + width p * s) where
+        pub frame-number :
+            {k : Refusal} → FirstFailing (checksFrom p (width p) s bytes (mapLength n) count) k → FirstFailing (frameChecks p n s bytes) k
+        unfolding frameNumbers frameValues valuesAfter
         frame-number f = c .mapped .fits then (long ∙ length-told) then unpadded then rw count-bytes at f
 
-        pub frame-good : AllHold (checksFrom p (width p) bytes (mapLength n) count) → AllHold (frameChecks p n bytes)
-        unfolding frameNumbers frameValue valueAfter
+        pub frame-good : AllHold (checksFrom p (width p) s bytes (mapLength n) count) → AllHold (frameChecks p n s bytes)
+        unfolding frameNumbers frameValues valuesAfter
         frame-good a = c .mapped .fits and-then (long ∙ length-told) and-then unpadded and-then rw count-bytes at a
 
-      pub value-read : valueAfter (width p) bytes (mapLength n) count ≡ frameValue p n bytes
-      unfolding frameValue valueAfter
-      value-read = rw count-bytes
+      -- the values stand behind them
+      pub values-read : numbersIn (width p) s (drop (mapLength n + width p * count) bytes) ≡ frameValues p n s bytes
+      unfolding frameValues
+      values-read = ap (λ (k : ℕ). numbersIn (width p) s (drop (mapLength n + width p * k) bytes)) count-bytes
 
 -- ---- what reading comes to
 
-module _ (p n : ℕ) (bytes lent : List ℕ) where
-  pub frame-refused : {k : Refusal} → FirstFailing (frameChecks p n bytes) k → untouched lent k ≡ readOutcome lent (readFrame p n bytes)
+module _ (p n s : ℕ) (bytes : List ℕ) (lent : List ℕ × List ℕ) where
+  pub frame-refused : {k : Refusal} → FirstFailing (frameChecks p n s bytes) k → untouched lent k ≡ readOutcome s lent (readFrame p n s bytes)
   unfolding readFrame readOutcome
-  frame-refused f = ap (readOutcome lent) (sym (in-order-refused _ _ f))
+  frame-refused f = ap (readOutcome s lent) (sym (in-order-refused _ _ f))
 
   pub frame-accepted :
-      {v : ℕ} {xs : List ℕ} → AllHold (frameChecks p n bytes) → v ≡ frameValue p n bytes → xs ≡ frameMultipliers p n bytes
-      → outcome (gives (pos v)) xs ≡ readOutcome lent (readFrame p n bytes)
+      {xs vs : List ℕ} → AllHold (frameChecks p n s bytes) → xs ≡ frameMultipliers p n bytes → vs ≡ frameValues p n s bytes
+      → outcome (results s) (xs, vs) ≡ readOutcome s lent (readFrame p n s bytes)
   unfolding readFrame readOutcome
-  frame-accepted a e w = ap (readOutcome lent) (ap₂ accepted w e ∙ sym (in-order-done _ _ _ a (λ _. refl)))
+  frame-accepted a e w = ap (readOutcome s lent) (ap₂ accepted e w ∙ sym (in-order-done _ _ _ a (λ _. refl)))

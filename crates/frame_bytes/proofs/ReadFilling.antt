@@ -1,20 +1,20 @@
 -- Filling in the multipliers record by record: a standing bit takes the next number, any other gives 0, and what is written
--- together with what is left is what the frame has.
-use mathlib.Core.Path.{_≡_, refl, sym, _∙_}
+-- together with what is left is what the frame has. Then the values, one number after the other.
+use mathlib.Core.Path.{_≡_, refl, sym, ap, _∙_}
 use mathlib.Core.Bool.{Bool, true, false}
 use mathlib.Core.List.{List, [], _∷_, _++_, append-nil}
 use Prim.Native.Nat.{ℕ, suc, _+_, _*_, _-_, _≤_, _<_}
-use native.Mathlib.Nat.{zero-add}
+use native.Mathlib.Nat.{zero-add, mul-suc}
 use native.Mathlib.Numerals.{add-one}
 use native.Mathlib.Omega.{arith}
-use lib.ListN.{length, set, take, length-set}
+use lib.ListN.{length, set, take, drop, length-set}
 use lib.Seq.{take-suc-set, take-all, append-snoc}
 use Rattle.algebra.specs.Choice.{choose}
 use Rattle.codec.specs.BigEndian.{numberAt}
 use Rattle.frame.specs.Bitmap.{bitAt, bitsFrom, standing, recordBits}
-use Rattle.frame.specs.Reading.{spread}
+use Rattle.frame.specs.Reading.{numbersIn, spread}
 use Rattle.frame.proofs.Bits.{bits-more, count, count-more, count-record-bits}
-use Rattle.frame.proofs.Bytes.{numbers-more}
+use Rattle.frame.proofs.Bytes.{numbers-none, numbers-more}
 use Rattle.frame_bytes.specs.Stages.{multipliersFrom}
 
 -- the standing bits and the multipliers, by the first bit
@@ -110,3 +110,47 @@ filling-all w map bytes start n at j xs f h =
     let none : n - j ≡ 0 = omega arith in
     let whole : take j xs ≡ xs = take-all j xs (omega (arith, f .long)) in
     sym (append-nil xs) ∙ (rw (none, whole, multipliers-none) at (f .filled))
+
+-- ---- the values
+
+-- the first u of s values are written, and those that are left are to be read from the place on
+pub record FillingValues (w : ℕ) (bytes : List ℕ) (start s at u : ℕ) (vs : List ℕ) : Type 0 where
+  pub reached : u ≤ s
+  pub long : length vs ≡ s
+  pub place : at + w * (s - u) ≡ start + w * s
+  pub filled : take u vs ++ numbersIn w (s - u) (drop at bytes) ≡ numbersIn w s (drop start bytes)
+
+pub values-none : (w : ℕ) (bytes : List ℕ) (start : ℕ) (vs : List ℕ) → FillingValues w bytes start (length vs) start 0 vs
+values-none w bytes start vs =
+    let all : length vs - 0 ≡ length vs = omega arith in
+    record { reached = omega arith; long = refl; place = rw all; filled = rw all }
+
+module _ (w : ℕ) (bytes : List ℕ) (start s at u : ℕ) (vs : List ℕ) (f : FillingValues w bytes start s at u vs) where
+  module _ (more : u < s) where
+    one : s - u ≡ suc (s - suc u)
+    one = omega arith
+
+    after : at + w + w * (s - suc u) ≡ start + w * s
+    after = omega (arith, f .place, ap (λ (k : ℕ). w * k) one, mul-suc w (s - suc u))
+
+    pub values-room : start + w * s ≤ length bytes → at + w ≤ length bytes
+    values-room room = omega (arith, after)
+
+    -- one value more
+    pub values-more : FillingValues w bytes start s (at + w) (u + 1) (set vs u (numberAt w bytes at))
+    values-more =
+        let fits : u < length vs = omega (arith, f .long) in
+        let step = numbers-more w bytes at (s - suc u) in
+        record {
+          reached = omega arith;
+          long = length-set vs u (numberAt w bytes at) ∙ f .long;
+          place = rw add-one after;
+          filled = rw (add-one, take-suc-set vs u (numberAt w bytes at) fits, append-snoc, ← step, ← one) (f .filled);
+        }
+
+  -- past the last value all are written
+  pub values-all : s ≤ u → vs ≡ numbersIn w s (drop start bytes)
+  values-all h =
+      let none : s - u ≡ 0 = omega (arith, f .reached) in
+      let whole : take u vs ≡ vs = take-all u vs (omega (arith, f .long)) in
+      sym (append-nil vs) ∙ (rw (none, whole, numbers-none) at (f .filled))

@@ -1,19 +1,18 @@
 -- The writer's three steps, one behind the other, leave the frame at the front of the lent bytes and the rest as it was. The
 -- lent bytes have room for each step, since no frame is longer than the longest one.
 use mathlib.Core.Path.{_≡_, refl, ap, _∙_}
-use mathlib.Core.List.{List, [], _∷_, _++_}
+use mathlib.Core.List.{List, _∷_, _++_}
 use Prim.Native.Nat.{ℕ, zero, suc, _+_, _*_, _≤_}
+use native.Mathlib.Nat.{mul-le-mul-right}
 use native.Mathlib.Omega.{arith}
 use lib.ListN.{length, take, length-append}
-use Rattle.codec.specs.BigEndian.{bytesOf}
 use Rattle.codec.specs.Placed.{placed}
-use Rattle.codec.proofs.BigEndian.{bytes-length}
 use Rattle.codec.proofs.Placed.{placed-length, placed-next}
 use Rattle.field.specs.Written.{tabulate}
-use Rattle.frame.specs.Format.{mapLength, longest, stands, mapByte, mapBytes, packed, frameIn}
+use Rattle.frame.specs.Format.{mapLength, longest, stands, mapByte, mapBytes, packed, valueBytes, frameIn}
 use Rattle.frame.specs.Bitmap.{standing, mapOf, mapBits}
 use Rattle.frame.proofs.Widths.{few-bytes}
-use Rattle.frame.proofs.Bytes.{one-value}
+use Rattle.frame.proofs.Bytes.{value-bytes-length}
 use Rattle.frame.proofs.RoundMap.{map-length}
 use Rattle.frame_bytes.proofs.WriteNumbers.{packed-length, packed-short}
 use Rattle.frame_bytes.proofs.WriteMap.{standing-of}
@@ -34,7 +33,7 @@ unfolding mapBytes mapOf
 map-front n xs h = take-tabulate (mapLength n) 8 (mapByte (stands xs)) (map-short n h)
 
 module _
-    (w n : ℕ) (xs : List ℕ) (few : w ≤ 4) (size : n ≤ 64) (long : length xs ≡ n) (old : List ℕ) (lent : length old ≡ longest)
+    (w n : ℕ) (xs vs : List ℕ) (few : w ≤ 4) (size : n ≤ 64) (long : length xs ≡ n) (old : List ℕ) (lent : length old ≡ longest (length vs))
   where
     abbrev with-map : List ℕ
     with-map = placed 0 (mapBytes n (stands xs)) old
@@ -43,7 +42,7 @@ module _
     with-numbers = placed (mapLength n) (packed w xs) with-map
 
     -- the lent bytes keep their length, so every step has room
-    map-long : length with-map ≡ longest
+    map-long : length with-map ≡ longest (length vs)
     unfolding longest
     map-long = placed-length 0 (mapBytes n (stands xs)) old (omega (arith, map-length n (stands xs), map-short n size)) ∙ lent
 
@@ -55,7 +54,7 @@ module _
     unfolding longest
     numbers-room = omega (arith, map-long, map-short n size, numbers-short)
 
-    numbers-long : length with-numbers ≡ longest
+    numbers-long : length with-numbers ≡ longest (length vs)
     numbers-long =
         placed-length (mapLength n) (packed w xs) with-map (omega (arith, packed-short w xs, numbers-room)) ∙ map-long
 
@@ -67,26 +66,27 @@ module _
         ap (λ (k : ℕ). placed k (packed w xs) with-map) at
         ∙ placed-next 0 map (packed w xs) old (omega arith)
 
-    one-frame : (v : ℕ) → frameIn w n xs (v ∷ []) ≡ mapBytes n (stands xs) ++ packed w xs ++ bytesOf w v
+    parts : frameIn w n xs vs ≡ mapBytes n (stands xs) ++ packed w xs ++ valueBytes w vs
     unfolding frameIn
-    one-frame v = rw (one-value w v)
+    parts = refl
 
-    -- the value stands where the map's count says
-    module _ (count : ℕ) (counted : count ≡ standing (mapBits (mapOf xs))) (v : ℕ) where
+    -- the values stand where the map's count says
+    module _ (count : ℕ) (counted : count ≡ standing (mapBits (mapOf xs))) where
       place : mapLength n + w * count ≡ mapLength n + length (packed w xs)
       place = rw (counted, standing-of xs (omega arith), packed-length)
 
-      pub value-room : mapLength n + w * count + w ≤ length with-numbers
+      pub values-room : mapLength n + w * count + w * length vs ≤ length with-numbers
       unfolding longest
-      value-room = omega (arith, place, numbers-long, map-short n size, packed-short w xs, numbers-short)
+      values-room =
+          omega (arith, place, numbers-long, map-short n size, packed-short w xs, numbers-short, mul-le-mul-right (length vs) few)
 
       -- and what is left is the frame, and behind it what stood there
-      pub frame-written : placed (mapLength n + w * count) (bytesOf w v) with-numbers ≡ placed 0 (frameIn w n xs (v ∷ [])) old
+      pub frame-written : placed (mapLength n + w * count) (valueBytes w vs) with-numbers ≡ placed 0 (frameIn w n xs vs) old
       frame-written =
           let done = mapBytes n (stands xs) ++ packed w xs in
           let at : mapLength n + w * count ≡ 0 + length done =
           omega (arith, place, map-length n (stands xs), length-append (mapBytes n (stands xs)) (packed w xs)) in
-          rw (front, at, one-frame v) (placed-next 0 done (bytesOf w v) old (omega arith))
+          rw (front, at, parts) (placed-next 0 done (valueBytes w vs) old (omega arith))
 
-      pub frame-end : mapLength n + w * count + w ≡ 0 + length (frameIn w n xs (v ∷ []))
-      frame-end = rw (place, one-frame v, length-append, length-append, map-length, bytes-length w v) (omega arith)
+      pub frame-end : mapLength n + w * count + w * length vs ≡ 0 + length (frameIn w n xs vs)
+      frame-end = rw (place, parts, length-append, length-append, map-length, value-bytes-length w vs) (omega arith)

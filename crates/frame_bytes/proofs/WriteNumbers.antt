@@ -1,5 +1,5 @@
 -- The multipliers as the writer puts them, one after the other: what stands in the bytes after j of them, and where the next
--- one goes.
+-- one goes. Then the values, of which none is left out.
 use mathlib.Core.Path.{_≡_, refl, sym, ap, _∙_}
 use mathlib.Core.List.{List, [], _∷_, _++_, append-assoc, append-nil}
 use Prim.Native.Nat.{ℕ, suc, _+_, _*_, _<_, _≤_}
@@ -9,14 +9,14 @@ use native.Mathlib.Omega.{arith}
 use borrow.Author.Tests.{eq-eqb, ne-eqb}
 use lib.Dec.{eqb}
 use lib.ListN.{length, getD, take, length-append, length-take}
-use lib.Seq.{take-suc, take-length}
+use lib.Seq.{take-suc, take-length, take-all, length-take-le}
 use Rattle.algebra.specs.Choice.{choose}
 use Rattle.codec.specs.BigEndian.{bytesOf}
 use Rattle.codec.specs.Placed.{placed}
 use Rattle.codec.proofs.BigEndian.{bytes-length}
 use Rattle.codec.proofs.Placed.{placed-length, placed-none, placed-next}
-use Rattle.frame.specs.Format.{packed}
-use Rattle.frame.proofs.Bytes.{value-bytes-length}
+use Rattle.frame.specs.Format.{packed, valueBytes}
+use Rattle.frame.proofs.Bytes.{values-none, values-more, value-bytes-length}
 use Rattle.frame.proofs.RoundNumbers.{kept, packed-kept, kept-length}
 
 module _ (w : ℕ) where
@@ -98,3 +98,59 @@ module _ (w from : ℕ) (xs : List ℕ) (old : List ℕ) (room : from + w * leng
   -- after all of them
   pub packing-all : (at : ℕ) (new : List ℕ) → Packing w from xs (length xs) at old new → new ≡ placed from (packed w xs) old
   packing-all at new g = rw (take-length xs) at (g .bytes)
+
+-- ---- the values
+
+module _ (w : ℕ) where
+  values-append : (xs ys : List ℕ) → valueBytes w (xs ++ ys) ≡ valueBytes w xs ++ valueBytes w ys
+  values-append [] ys = rw values-none
+  values-append (x ∷ xs) ys =
+      rw (values-more w x (xs ++ ys), values-more w x xs, values-append xs ys) (sym (append-assoc (bytesOf w x) (valueBytes w xs) (valueBytes w ys)))
+
+  values-one : (v : ℕ) → valueBytes w (v ∷ []) ≡ bytesOf w v
+  values-one v = rw (values-more, values-none) (append-nil (bytesOf w v))
+
+  -- the bytes of one value more
+  values-next : (vs : List ℕ) (u : ℕ) → u < length vs → valueBytes w (take (u + 1) vs) ≡ valueBytes w (take u vs) ++ bytesOf w (getD vs u 0)
+  values-next vs u h = rw (add-one, take-suc vs u 0 h, values-append, values-one)
+
+  values-part : (vs : List ℕ) (u : ℕ) → u ≤ length vs → length (valueBytes w (take u vs)) ≡ w * u
+  values-part vs u h = rw (value-bytes-length, length-take-le u vs h)
+
+-- after u values: the place behind them, and the bytes
+pub record Laying (w from : ℕ) (vs : List ℕ) (u at : ℕ) (old new : List ℕ) : Type 0 where
+  pub reached : u ≤ length vs
+  pub place : at ≡ from + w * u
+  pub bytes : new ≡ placed from (valueBytes w (take u vs)) old
+
+module _ (w from : ℕ) (vs old : List ℕ) (room : from + w * length vs ≤ length old) where
+  pub laying-none : Laying w from vs 0 from old old
+  laying-none = record { reached = omega arith; place = omega arith; bytes = rw values-none (sym (placed-none from old)) }
+
+  module _ (u at : ℕ) (new : List ℕ) (g : Laying w from vs u at old new) where
+    within : from + w * u ≤ length old
+    within = omega (arith, mul-le-mul-left w (g .reached))
+
+    pub laying-length : length new ≡ length old
+    laying-length =
+        ap length (g .bytes) ∙ placed-length from (valueBytes w (take u vs)) old (omega (arith, values-part w vs u (g .reached), within))
+
+    module _ (more : u < length vs) where
+      -- there is room for the next value
+      pub laying-room : at + w ≤ length new
+      laying-room = omega (arith, laying-length, g .place, mul-le-mul-left w more, mul-suc w u)
+
+      pub laying-more : Laying w from vs (u + 1) (at + w) old (placed at (bytesOf w (getD vs u 0)) new)
+      laying-more =
+          let behind : at ≡ from + length (valueBytes w (take u vs)) = omega (arith, g .place, values-part w vs u (g .reached)) in
+          record {
+            reached = omega arith;
+            place = rw add-one (omega (arith, g .place, mul-suc w u));
+            bytes =
+                rw (behind, g .bytes, values-next w vs u more)
+                (placed-next from (valueBytes w (take u vs)) (bytesOf w (getD vs u 0)) old (omega (arith, within)));
+          }
+
+    -- after all of them
+    pub laying-all : length vs ≤ u → new ≡ placed from (valueBytes w vs) old
+    laying-all end = rw (take-all u vs end) at (g .bytes)

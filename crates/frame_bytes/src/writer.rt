@@ -1,17 +1,21 @@
-// Writing a frame: the bit map, the multipliers under its standing bits, and the value, to the front of the lent bytes.
+// Writing a frame: the bit map, the multipliers under its standing bits, and the values, to the front of the lent bytes.
 ghost use mathlib.Core.Path.{_≡_};
-ghost use mathlib.Core.List.{_∷_, []};
 ghost use Prim.Native.Nat.{_+_, _*_, _≤_, _<_};
 ghost use lib.ListN.{length};
-ghost use Rattle.checks.specs.Largest.{largest};
+ghost use Rattle.checks.specs.Largest.{largest, mostWords};
 ghost use Rattle.codec.specs.Placed.{placed, Put};
-ghost use Rattle.frame.specs.Format.{longest, packed, frameOf};
+ghost use Rattle.frame.specs.Format.{longest, packed, valueBytes, frameOf};
 ghost use Rattle.frame.specs.Bitmap.{mapOf};
 use super::bitmap;
 use super::width::width_of;
 
-// The bytes of the longest frame, whatever the modulus.
-pub const LONGEST: usize = 268;
+// The bytes of the longest frame with s words a record, whatever the modulus.
+pub fn longest(s: usize) -> usize
+    requires { ⌜ s ≤ mostWords ⌝ }
+    ensures { λ r. ⌜ r ≡ longest s ⌝ }
+{
+    264 + 4 * s
+}
 
 // Puts the multipliers under the standing bits of their map, each as w bytes, in the place of the bytes from `from` on.
 fn put_multipliers(map: [u8; 8], multipliers: &[u32], w: usize, from: usize, bytes: &mut [u8])
@@ -29,10 +33,26 @@ fn put_multipliers(map: [u8; 8], multipliers: &[u32], w: usize, from: usize, byt
     }
 }
 
-// Writes the frame of n multipliers and a value modulo p whose sizes are known to be right, and returns its length, which the map tells.
-pub fn write_frame(p: u32, n: usize, multipliers: &[u32], value: u32, bytes: &mut [u8]) -> usize
-    requires { ⌜ (1 ≤ n) × (n ≤ largest) × (length (now multipliers) ≡ n) × (length (now bytes) ≡ longest) ⌝ }
-    ensures { λ r. ⌜ Put 0 (frameOf p n (now (multipliers .entry)) (value ∷ [])) (now (bytes .entry)) (now (bytes .exit)) r ⌝ }
+// Puts the values, each as w bytes, in the place of the bytes from `from` on.
+fn put_values(values: &[u32], w: usize, from: usize, bytes: &mut [u8])
+    requires { ⌜ from + w * length (now values) ≤ length (now bytes) ⌝ }
+    ensures { λ _. ⌜ now (bytes .exit) ≡ placed from (valueBytes w (now (values .entry))) (now (bytes .entry)) ⌝ }
+{
+    let mut at = from;
+    let mut u = 0;
+    while u < values.len() {
+        codec::put_number(bytes, at, w, values[u]);
+        at += w;
+        u += 1;
+    }
+}
+
+// Writes the frame of n multipliers and its values modulo p whose sizes are known to be right, and returns its length, which the map
+// and the number of values tell.
+pub fn write_frame(p: u32, n: usize, multipliers: &[u32], values: &[u32], bytes: &mut [u8]) -> usize
+    requires { ⌜ (1 ≤ n) × (n ≤ largest) × (length (now multipliers) ≡ n) × (length (now values) ≤ mostWords)
+        × (length (now bytes) ≡ longest (length (now values))) ⌝ }
+    ensures { λ r. ⌜ Put 0 (frameOf p n (now (multipliers .entry)) (now (values .entry))) (now (bytes .entry)) (now (bytes .exit)) r ⌝ }
 {
     let map = bitmap::of(multipliers);
     let len = (n + 7) / 8;
@@ -40,6 +60,6 @@ pub fn write_frame(p: u32, n: usize, multipliers: &[u32], value: u32, bytes: &mu
     let end = len + w * bitmap::standing(map);
     bitmap::put(map, len, bytes);
     put_multipliers(map, multipliers, w, len, bytes);
-    codec::put_number(bytes, end, w, value);
-    end + w
+    put_values(values, w, end, bytes);
+    end + w * values.len()
 }

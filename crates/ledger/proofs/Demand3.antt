@@ -31,154 +31,154 @@ use Rattle.ledger.proofs.RankLedger.{ledger-rank, heard-rank}
 use Rattle.ledger.proofs.Missing as missing
 use Rattle.ledger.proofs.Shown.{step-answers, show-shows, take-mixes}
 
-module _ (p : ℕ) (ok : IsModulus p) (n : ℕ) (ws : List ℕ) (done : openCall p n ws .told .number ≡ 0) where
+module _ (p : ℕ) (ok : IsModulus p) (n s : ℕ) (ws : List ℕ) (done : openCall p n s ws .told .number ≡ 0) where
   -- ---- the board that a list of calls has reached
 
-  pub standing-proper : (cs : List Call) → Proper p n (standing p ok n cs)
-  standing-proper cs = run-proper p ok n (ledger []) (empty-proper p n) cs
+  pub standing-proper : (cs : List Call) → Proper p n s (standing p ok n s cs)
+  standing-proper cs = run-proper p ok n s (ledger []) (empty-proper p n s) cs
 
-  reached-layout : (cs : List Call) → wordsAfter p n ws cs ≡ layout p n (standing p ok n cs)
-  reached-layout cs = ap (λ (a : After (List ℕ)). a .state) (board-as-ledger p n ws ok done cs)
+  reached-layout : (cs : List Call) → wordsAfter p n s ws cs ≡ layout p n s (standing p ok n s cs)
+  reached-layout cs = ap (λ (a : After (List ℕ)). a .state) (board-as-ledger p n s ws ok done cs)
 
-  reached-count : (cs : List Call) → countWord (wordsAfter p n ws cs) ≡ length (standing p ok n cs)
-  reached-count cs = ap (λ b. countWord b) (reached-layout cs) ∙ layout-count p n (standing p ok n cs)
+  reached-count : (cs : List Call) → countWord (wordsAfter p n s ws cs) ≡ length (standing p ok n s cs)
+  reached-count cs = ap (λ b. countWord b) (reached-layout cs) ∙ layout-count p n s (standing p ok n s cs)
 
-  pub replies-same : (cs : List Call) → repliesTo p n ws cs ≡ ledgerRun p ok n (ledger []) cs .replies
-  replies-same cs = ap (λ (a : After (List ℕ)). a .replies) (board-as-ledger p n ws ok done cs)
+  pub replies-same : (cs : List Call) → repliesTo p n s ws cs ≡ ledgerRun p ok n s (ledger []) cs .replies
+  replies-same cs = ap (λ (a : After (List ℕ)). a .replies) (board-as-ledger p n s ws ok done cs)
 
   -- further calls from there: the ledger goes on
   further-standing : (cs ds : List Call)
-      → ledgerRun p ok n (ledger (standing p ok n cs)) ds .state .entries ≡ standing p ok n (cs ++ ds)
-  further-standing cs ds = sym (ap (λ (a : After _). a .state .entries) (run-append (ledgerStep p ok n) (ledger []) cs ds))
+      → ledgerRun p ok n s (ledger (standing p ok n s cs)) ds .state .entries ≡ standing p ok n s (cs ++ ds)
+  further-standing cs ds = sym (ap (λ (a : After _). a .state .entries) (run-append (ledgerStep p ok n s) (ledger []) cs ds))
 
   further-replies : (cs ds : List Call)
-      → boardRun (wordsAfter p n ws cs) ds .replies ≡ ledgerRun p ok n (ledger (standing p ok n cs)) ds .replies
+      → boardRun (wordsAfter p n s ws cs) ds .replies ≡ ledgerRun p ok n s (ledger (standing p ok n s cs)) ds .replies
   further-replies cs ds =
       ap (λ b. boardRun b ds .replies) (reached-layout cs)
       ∙ ap (λ (a : After (List ℕ)). a .replies)
-      (history p n ok (open-accepted p n ws done .size) (ledger (standing p ok n cs)) (standing-proper cs) ds)
+      (history p n s ok (open-accepted p n s ws done .size) (open-accepted p n s ws done .words) (ledger (standing p ok n s cs)) (standing-proper cs) ds)
 
   -- ---- a call of the list
 
   -- its reply is that of the ledger's step on what stood before it
   pub turn-replied : {cs : List Call} (t : Turn cs)
-      → replyAt p n ws t ≡ replyOf (ledgerStep p ok n (ledger (standing p ok n (t .before))) (t .call))
+      → replyAt p n s ws t ≡ replyOf (ledgerStep p ok n s (ledger (standing p ok n s (t .before))) (t .call))
   turn-replied {cs} t =
       ap (λ rs. getD rs (length (t .before)) noReply) (replies-same cs)
-      ∙ turn-answered (ledgerStep p ok n) (ledger-once p ok n) (ledger []) t
+      ∙ turn-answered (ledgerStep p ok n s) (ledger-once p ok n s) (ledger []) t
 
-  turn-refused-keeps : {cs : List Call} (t : Turn cs) → IsRefusal (replyAt p n ws t .told .number)
-      → left boardStep (freshBoard p n ws) t ≡ got boardStep (freshBoard p n ws) t
+  turn-refused-keeps : {cs : List Call} (t : Turn cs) → IsRefusal (replyAt p n s ws t .told .number)
+      → left boardStep (freshBoard p n s ws) t ≡ got boardStep (freshBoard p n s ws) t
   turn-refused-keeps t h =
-      turn-left boardStep (freshBoard p n ws) t
-      ∙ refused-keeps (got boardStep (freshBoard p n ws) t) (t .call)
-      (subst (λ (r : Reply). IsRefusal (r .told .number)) (turn-answered boardStep board-once (freshBoard p n ws) t) h)
+      turn-left boardStep (freshBoard p n s ws) t
+      ∙ refused-keeps (got boardStep (freshBoard p n s ws) t) (t .call)
+      (subst (λ (r : Reply). IsRefusal (r .told .number)) (turn-answered boardStep board-once (freshBoard p n s ws) t) h)
 
   -- the frames that stand after it are those of the ledger's step
   turn-standing : {cs : List Call} (t : Turn cs)
-      → standing p ok n (t .before ++ (t .call ∷ [])) ≡ ledgerStep p ok n (ledger (standing p ok n (t .before))) (t .call) .state .entries
-  turn-standing t = ap (λ (l : Ledger). l .entries) (turn-left (ledgerStep p ok n) (ledger []) t)
+      → standing p ok n s (t .before ++ (t .call ∷ [])) ≡ ledgerStep p ok n s (ledger (standing p ok n s (t .before))) (t .call) .state .entries
+  turn-standing t = ap (λ (l : Ledger). l .entries) (turn-left (ledgerStep p ok n s) (ledger []) t)
 
   turn-changes : {cs : List Call} (t : Turn cs)
-      → Changes p n (t .call) (replyAt p n ws t .told) (standing p ok n (t .before)) (standing p ok n (t .before ++ (t .call ∷ [])))
+      → Changes p n s (t .call) (replyAt p n s ws t .told) (standing p ok n s (t .before)) (standing p ok n s (t .before ++ (t .call ∷ [])))
   turn-changes t =
-      subst₂ (λ (r : Reply) fs. Changes p n (t .call) (r .told) (standing p ok n (t .before)) fs) (sym (turn-replied t)) (sym (turn-standing t))
-      (step-changes p ok n (ledger (standing p ok n (t .before))) (t .call))
+      subst₂ (λ (r : Reply) fs. Changes p n s (t .call) (r .told) (standing p ok n s (t .before)) fs) (sym (turn-replied t)) (sym (turn-standing t))
+      (step-changes p ok n s (ledger (standing p ok n s (t .before))) (t .call))
 
   -- the count of the board that it left is that of the ledger's step
   turn-count : {cs : List Call} (t : Turn cs)
-      → countWord (left boardStep (freshBoard p n ws) t)
-      ≡ length (ledgerStep p ok n (ledger (standing p ok n (t .before))) (t .call) .state .entries)
+      → countWord (left boardStep (freshBoard p n s ws) t)
+      ≡ length (ledgerStep p ok n s (ledger (standing p ok n s (t .before))) (t .call) .state .entries)
   turn-count t =
       reached-count (t .before ++ (t .call ∷ [])) ∙ ap length (turn-standing t)
 
   turn-counted : {cs : List Call} (t : Turn cs)
-      → Counted n (t .call) (replyAt p n ws t .told) (countWord (left boardStep (freshBoard p n ws) t))
+      → Counted n (t .call) (replyAt p n s ws t .told) (countWord (left boardStep (freshBoard p n s ws) t))
   turn-counted t =
       subst₂ (λ (r : Reply) k. Counted n (t .call) (r .told) k) (sym (turn-replied t)) (sym (turn-count t))
-      (step-counted p ok n (ledger (standing p ok n (t .before))) (t .call))
+      (step-counted p ok n s (ledger (standing p ok n s (t .before))) (t .call))
 
   turn-shows : {cs : List Call} (t : Turn cs) (low : ℕ) (marks : List ℕ) (numbers : List ℤ) → t .call ≡ Call.show low marks numbers
-      → (IsRefusal (replyAt p n ws t .told .number) → ⊥) → Shows p n low (standing p ok n (t .before)) (replyAt p n ws t)
+      → (IsRefusal (replyAt p n s ws t .told .number) → ⊥) → Shows p n s low (standing p ok n s (t .before)) (replyAt p n s ws t)
   unfolding ledgerStep
   turn-shows t low marks numbers e f =
-      let es = standing p ok n (t .before) in
-      let same = turn-replied t ∙ ap (λ c. replyOf (ledgerStep p ok n (ledger es) c)) e in
-      subst (Shows p n low es) (sym same)
-      (show-shows p ok n es (standing-proper (t .before)) low marks numbers
+      let es = standing p ok n s (t .before) in
+      let same = turn-replied t ∙ ap (λ c. replyOf (ledgerStep p ok n s (ledger es) c)) e in
+      subst (Shows p n s low es) (sym same)
+      (show-shows p ok n s es (standing-proper (t .before)) low marks numbers
       (λ h. f (subst (λ (r : Reply). IsRefusal (r .told .number)) (sym same) h)))
 
   turn-mixes : {cs : List Call} (t : Turn cs) (frame mix : List ℕ) → t .call ≡ Call.take frame mix
-      → (replyAt p n ws t .told .number ≡ 100) ⊎ (replyAt p n ws t .told .number ≡ 9)
-      → IsMix p n (standing p ok n (t .before)) (frameMultipliers p n frame) (replyAt p n ws t .words)
+      → (replyAt p n s ws t .told .number ≡ 100) ⊎ (replyAt p n s ws t .told .number ≡ 9)
+      → IsMix p n (standing p ok n s (t .before)) (frameMultipliers p n frame) (replyAt p n s ws t .words)
   unfolding ledgerStep
   turn-mixes t frame mix e d =
-      let es = standing p ok n (t .before) in
-      let same = turn-replied t ∙ ap (λ c. replyOf (ledgerStep p ok n (ledger es) c)) e in
+      let es = standing p ok n s (t .before) in
+      let same = turn-replied t ∙ ap (λ c. replyOf (ledgerStep p ok n s (ledger es) c)) e in
       subst (λ (r : Reply). IsMix p n es (frameMultipliers p n frame) (r .words)) (sym same)
-      (take-mixes p ok n es (standing-proper (t .before)) frame mix (took p ok n (ledger es) frame mix)
+      (take-mixes p ok n s es (standing-proper (t .before)) frame mix (took p ok n s (ledger es) frame mix)
       (subst (λ (r : Reply). (r .told .number ≡ 100) ⊎ (r .told .number ≡ 9)) same d))
 
   -- ---- withdrawals, rank and missing frames
 
   restored : (before takes : List Call) → NoWithdrawal takes
-      → (g : ℕ) → countWord (wordsAfter p n ws (before ++ takes)) ≡ countWord (wordsAfter p n ws before) + g
-      → wordsAfter p n ws ((before ++ takes) ++ (Call.withdraw g ∷ [])) ≡ wordsAfter p n ws before
+      → (g : ℕ) → countWord (wordsAfter p n s ws (before ++ takes)) ≡ countWord (wordsAfter p n s ws before) + g
+      → wordsAfter p n s ws ((before ++ takes) ++ (Call.withdraw g ∷ [])) ≡ wordsAfter p n s ws before
   restored before takes only g many =
-      let es = standing p ok n before in
-      let long : length (ledgerRun p ok n (ledger es) takes .state .entries) ≡ length es + g =
+      let es = standing p ok n s before in
+      let long : length (ledgerRun p ok n s (ledger es) takes .state .entries) ≡ length es + g =
       ap length (further-standing before takes) ∙ sym (reached-count (before ++ takes)) ∙ many ∙ ap (λ k. k + g) (reached-count before) in
-      ap (λ ds. wordsAfter p n ws ds) (append-assoc before takes (Call.withdraw g ∷ []))
-      ∙ ap (λ (a : After (List ℕ)). a .state) (run-append boardStep (freshBoard p n ws) before (takes ++ (Call.withdraw g ∷ [])))
+      ap (λ ds. wordsAfter p n s ws ds) (append-assoc before takes (Call.withdraw g ∷ []))
+      ∙ ap (λ (a : After (List ℕ)). a .state) (run-append boardStep (freshBoard p n s ws) before (takes ++ (Call.withdraw g ∷ [])))
       ∙ ap (λ b. boardRun b (takes ++ (Call.withdraw g ∷ [])) .state) (reached-layout before)
-      ∙ withdrawal-restores p n ok (open-accepted p n ws done .size) (ledger es) (standing-proper before) takes only g long
+      ∙ withdrawal-restores p n s ok (open-accepted p n s ws done .size) (open-accepted p n s ws done .words) (ledger es) (standing-proper before) takes only g long
       ∙ sym (reached-layout before)
 
-  at-least : (cs ds : List Call) → AllSettled p n (standing p ok n (cs ++ ds))
-      → n - countWord (wordsAfter p n ws cs) ≤ news ds (boardRun (wordsAfter p n ws cs) ds .replies)
+  at-least : (cs ds : List Call) → AllSettled p n s (standing p ok n s (cs ++ ds))
+      → n - countWord (wordsAfter p n s ws cs) ≤ news ds (boardRun (wordsAfter p n s ws cs) ds .replies)
   at-least cs ds all =
       subst₂ (λ k rs. n - k ≤ news ds rs) (sym (reached-count cs)) (sym (further-replies cs ds))
-      (missing.missing-at-least p ok n (ledger (standing p ok n cs)) (standing-proper cs) ds
-      (subst (AllSettled p n) (sym (further-standing cs ds)) all))
+      (missing.missing-at-least p ok n s (ledger (standing p ok n s cs)) (standing-proper cs) (open-accepted p n s ws done .words .0) ds
+      (subst (AllSettled p n s) (sym (further-standing cs ds)) all))
 
-  enough : (cs : List Call) → SettlingTakes p ok n ws cs
+  enough : (cs : List Call) → SettlingTakes p ok n s ws cs
   enough cs =
-      let (columns, many, settling) = missing.missing-enough p ok n (standing p ok n cs) (standing-proper cs) in
-      let replies = further-replies cs (map (unitTake p n) columns) in (
+      let (columns, many, settling) = missing.missing-enough p ok n s (standing p ok n s cs) (standing-proper cs) in
+      let replies = further-replies cs (map (unitTake p n s) columns) in (
         columns,
         many ∙ ap (λ k. n - k) (sym (reached-count cs)),
         (λ r m. settling .all-new r (subst (List·Memᴰ r) replies m)),
-        ap (news (map (unitTake p n) columns)) replies ∙ settling .news-told ∙ length-map columns (unitTake p n),
-        subst (AllSettled p n) (further-standing cs (map (unitTake p n) columns)) (settling .settles),
+        ap (news (map (unitTake p n s) columns)) replies ∙ settling .news-told ∙ length-map columns (unitTake p n s),
+        subst (AllSettled p n s) (further-standing cs (map (unitTake p n s) columns)) (settling .settles),
       )
 
   -- ---- all of it
 
-  pub demand-3 : (cs : List Call) → Demand3 p ok n ws cs
+  pub demand-3 : (cs : List Call) → Demand3 p ok n s ws cs
   demand-3 cs =
       record {
-        as-ledger = board-as-ledger p n ws ok done cs;
-        each-answered = replies-many boardStep board-once (freshBoard p n ws) cs;
+        as-ledger = board-as-ledger p n s ws ok done cs;
+        each-answered = replies-many boardStep board-once (freshBoard p n s ws) cs;
         answers = λ t.
-            subst (λ (r : Reply). Answers p n (standing p ok n (t .before)) (t .call) (r .told)) (sym (turn-replied t))
-            (step-answers p ok n (standing p ok n (t .before)) (standing-proper (t .before)) (t .call));
+            subst (λ (r : Reply). Answers p n s (standing p ok n s (t .before)) (t .call) (r .told)) (sym (turn-replied t))
+            (step-answers p ok n s (standing p ok n s (t .before)) (standing-proper (t .before)) (t .call));
         changes = turn-changes;
         counted = turn-counted;
         untouched = λ t.
-            subst (Untouched (t .call)) (sym (turn-replied t)) (step-untouched p ok n (ledger (standing p ok n (t .before))) (t .call));
+            subst (Untouched (t .call)) (sym (turn-replied t)) (step-untouched p ok n s (ledger (standing p ok n s (t .before))) (t .call));
         refused-keeps = turn-refused-keeps;
         never-eleven = λ t e.
-            step-not-eleven p ok n (ledger (standing p ok n (t .before))) (t .call)
+            step-not-eleven p ok n s (ledger (standing p ok n s (t .before))) (t .call)
             (sym (ap (λ (r : Reply). r .told .number) (turn-replied t)) ∙ e);
         restores = λ before takes e only g many.
-            ap (λ ds. wordsAfter p n ws (ds ++ (Call.withdraw g ∷ []))) e
-            ∙ restored before takes only g (ap (λ ds. countWord (wordsAfter p n ws ds)) (sym e) ∙ many);
+            ap (λ ds. wordsAfter p n s ws (ds ++ (Call.withdraw g ∷ []))) e
+            ∙ restored before takes only g (ap (λ ds. countWord (wordsAfter p n s ws ds)) (sym e) ∙ many);
         count-standing = reached-count cs;
-        count-rank = reached-count cs ∙ sym (ledger-rank p ok n (standing p ok n cs) (standing-proper cs));
+        count-rank = reached-count cs ∙ sym (ledger-rank p ok n s (standing p ok n s cs) (standing-proper cs));
         heard-rank = λ only hs order.
-            heard-rank p ok n cs only hs (subst (λ rs. Perm (heard p n cs rs) hs) (replies-same cs) order) ∙ sym (reached-count cs);
+            heard-rank p ok n s cs only hs (subst (λ rs. Perm (heard p n s cs rs) hs) (replies-same cs) order) ∙ sym (reached-count cs);
         shows = turn-shows;
-        common = λ before behind e. standing-met p ok n (standing p ok n before) (standing-proper before);
+        common = λ before behind e. standing-met p ok n s (standing p ok n s before) (standing-proper before);
         mixes = turn-mixes;
         missing-at-least = at-least cs;
         missing-enough = enough cs;

@@ -11,12 +11,12 @@ use Rattle.checks.specs.Outcome.{Outcome, untouched}
 use Rattle.checks.specs.Decide.{long?}
 use Rattle.checks.specs.Prime.{IsModulus}
 use Rattle.checks.proofs.InOrder.{none-left, in-order-then, _and-then_}
-use Rattle.frame.specs.Reading.{frameMultipliers, frameValue, frameChecks}
+use Rattle.frame.specs.Reading.{frameMultipliers, frameValues, frameChecks}
 use Rattle.frame.specs.EarlierOrder.{earlierChecks, Moved, MovesExactly, moved, kept}
 use Rattle.frame.proofs.EarlierOrder.{differ-exactly, moves-map, six-not-seven, behind, reading-moves}
 use Rattle.ledger.specs.Ledger.{Ledger}
 use Rattle.ledger.specs.Steps.{takeAccepted, ledgerTake}
-use Rattle.ledger.specs.Board.{modulusWord, sizeWord, ledgerOf, IsBoard}
+use Rattle.ledger.specs.Board.{modulusWord, sizeWord, valuesWord, ledgerOf, IsBoard}
 use Rattle.ledger.specs.Calls.{boardChecks, laidOut, takeCall}
 use Rattle.ledger.specs.History.{Call, reply, boardStep, run}
 use Rattle.ledger.specs.Turns.{Turn, replyOf}
@@ -27,16 +27,16 @@ use Rattle.ledger.proofs.Turns.{RepliesOnce, board-once, turn-answered}
 -- ---- take
 
 -- on the ledger, behind the length of the mix
-step-moves : (p : ℕ) (ok : IsModulus p) (n : ℕ) (l : Ledger) (frame mix : List ℕ)
-    → MovesExactly ((length mix ≡ n) × Moved p n frame) (untouched (l, mix) Padding) (untouched (l, mix) FrameLength)
-    (earlierTake p ok n l frame mix) (ledgerTake p ok n l frame mix)
+step-moves : (p : ℕ) (ok : IsModulus p) (n s : ℕ) (l : Ledger) (frame mix : List ℕ)
+    → MovesExactly ((length mix ≡ n) × Moved p n s frame) (untouched (l, mix) Padding) (untouched (l, mix) FrameLength)
+    (earlierTake p ok n s l frame mix) (ledgerTake p ok n s l frame mix)
 unfolding ledgerTake earlierTake
-step-moves p ok n l frame mix =
+step-moves p ok n s l frame mix =
     let room = long? mix n else Length ⨾ passed in
     let lent : Ledger × List ℕ = (l, mix) in
-    let o = takeAccepted p ok n l (frameMultipliers p n frame) (frameValue p n frame) mix in
-    rw (in-order-then room (frameChecks p n frame) o (untouched lent), in-order-then room (earlierChecks p n frame) o (untouched lent))
-    (behind room (untouched lent) (λ hs. hs .0) (λ h. h and-then none-left) _ _ (λ _. reading-moves p n frame o (untouched lent)))
+    let o = takeAccepted p ok n s l (frameMultipliers p n frame) (frameValues p n s frame) mix in
+    rw (in-order-then room (frameChecks p n s frame) o (untouched lent), in-order-then room (earlierChecks p n s frame) o (untouched lent))
+    (behind room (untouched lent) (λ hs. hs .0) (λ h. h and-then none-left) _ _ (λ _. reading-moves p n s frame o (untouched lent)))
 
 -- on words, behind the test that they are a board; a refused step leaves the ledger that they hold, and so the words
 module _ (ws frame mix : List ℕ) where
@@ -44,12 +44,12 @@ module _ (ws frame mix : List ℕ) where
   lent = (ws, mix)
 
   on-board : (b : IsBoard ws)
-      → MovesExactly ((length mix ≡ sizeWord ws) × Moved (modulusWord ws) (sizeWord ws) frame) (untouched lent Padding) (untouched lent FrameLength)
-      (laidOut (modulusWord ws) (sizeWord ws) (earlierTake (modulusWord ws) (b .prime) (sizeWord ws) (ledgerOf ws) frame mix))
-      (laidOut (modulusWord ws) (sizeWord ws) (ledgerTake (modulusWord ws) (b .prime) (sizeWord ws) (ledgerOf ws) frame mix))
+      → MovesExactly ((length mix ≡ sizeWord ws) × Moved (modulusWord ws) (sizeWord ws) (valuesWord ws) frame) (untouched lent Padding) (untouched lent FrameLength)
+      (laidOut (modulusWord ws) (sizeWord ws) (valuesWord ws) (earlierTake (modulusWord ws) (b .prime) (sizeWord ws) (valuesWord ws) (ledgerOf ws) frame mix))
+      (laidOut (modulusWord ws) (sizeWord ws) (valuesWord ws) (ledgerTake (modulusWord ws) (b .prime) (sizeWord ws) (valuesWord ws) (ledgerOf ws) frame mix))
   on-board b =
       rw (board-layout ws b) at
-      (moves-map (laidOut (modulusWord ws) (sizeWord ws)) (step-moves (modulusWord ws) (b .prime) (sizeWord ws) (ledgerOf ws) frame mix))
+      (moves-map (laidOut (modulusWord ws) (sizeWord ws) (valuesWord ws)) (step-moves (modulusWord ws) (b .prime) (sizeWord ws) (valuesWord ws) (ledgerOf ws) frame mix))
 
   pub take-moves : TakeMoves ws frame mix
   unfolding takeCall earlierTakeCall

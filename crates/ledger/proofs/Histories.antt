@@ -10,7 +10,7 @@ use lib.IntN.{ℤ}
 use lib.ListN.{length, take, length-append}
 use lib.Seq.{take-append-seam}
 use Rattle.checks.specs.Prime.{IsModulus}
-use Rattle.checks.specs.Largest.{FrameSize}
+use Rattle.checks.specs.Largest.{FrameSize, WordCount}
 use Rattle.checks.specs.Refusal.{IsRefusal}
 use Rattle.checks.specs.Told.{done}
 use Rattle.checks.specs.Outcome.{Outcome, outcome}
@@ -18,7 +18,7 @@ use Rattle.checks.proofs.Refusals.{refusal-number}
 use Rattle.checks.proofs.InOrder.{none-left, in-order-done, in-order-elim, _and-then_}
 use Rattle.ledger.specs.Ledger.{Entry, Ledger, ledger}
 use Rattle.ledger.specs.Steps.{ledgerWithdraw}
-use Rattle.ledger.specs.Board.{modulusWord, sizeWord, boardLength, layout, boardOf, ledgerOf, IsBoard}
+use Rattle.ledger.specs.Board.{modulusWord, sizeWord, valuesWord, boardLength, layout, boardOf, ledgerOf, IsBoard}
 use Rattle.ledger.specs.Decide.{board?}
 use Rattle.ledger.specs.Calls.{openCall, takeCall, withdrawCall}
 use Rattle.ledger.specs.Turns.{replyOf}
@@ -35,59 +35,61 @@ use Rattle.ledger.proofs.LedgerRuns.{run-append, only-appends, took-ref
 -- ---- an accepted open
 
 -- what an open has done that is told 0
-pub record AcceptedOpen (p n : ℕ) (o : Outcome (List ℕ)) : Type 0 where
+pub record AcceptedOpen (p n s : ℕ) (o : Outcome (List ℕ)) : Type 0 where
   pub prime : IsModulus p
   pub size : FrameSize n
-  pub board : o .lent ≡ layout p n []
+  pub words : WordCount s
+  pub board : o .lent ≡ layout p n s []
 
-pub open-accepted : (p n : ℕ) (ws : List ℕ) → openCall p n ws .told .number ≡ 0 → AcceptedOpen p n (openCall p n ws)
+pub open-accepted : (p n s : ℕ) (ws : List ℕ) → openCall p n s ws .told .number ≡ 0 → AcceptedOpen p n s (openCall p n s ws)
 unfolding openCall
-open-accepted p n ws =
-    in-order-elim _ _ (λ o. o .told .number ≡ 0 → AcceptedOpen p n o)
-    (λ hs _. record { prime = hs .0; size = hs .1 .0; board = refl })
+open-accepted p n s ws =
+    in-order-elim _ _ (λ o. o .told .number ≡ 0 → AcceptedOpen p n s o)
+    (λ hs _. record { prime = hs .0; size = hs .1 .0; words = hs .1 .1 .0; board = refl })
     (λ k _ e. absurd (omega (arith, refusal-number k)))
 
--- with a modulus, a size and a board's length open is accepted, and writes a fresh board
-pub open-done : (p n : ℕ) (ws : List ℕ) → IsModulus p → FrameSize n → length ws ≡ boardLength n
-    → openCall p n ws ≡ outcome done (layout p n [])
+-- with a modulus, a size, words a record and a board's length open is accepted, and writes a fresh board
+pub open-done : (p n s : ℕ) (ws : List ℕ) → IsModulus p → FrameSize n → WordCount s → length ws ≡ boardLength n s
+    → openCall p n s ws ≡ outcome done (layout p n s [])
 unfolding openCall
-open-done p n ws ok size long = in-order-done _ _ _ (ok and-then size and-then long and-then none-left) (λ _. refl)
+open-done p n s ws ok size words long =
+    in-order-done _ _ _ (ok and-then size and-then words and-then long and-then none-left) (λ _. refl)
 
 -- ---- a list of calls
 
-module _ (p n : ℕ) (ok : IsModulus p) (size : FrameSize n) where
+module _ (p n s : ℕ) (ok : IsModulus p) (size : FrameSize n) (words : WordCount s) where
   -- a call on the layout of a proper ledger is the ledger's step
-  step-at-layout : (l : Ledger) → Proper p n (l .entries) → (c : Call)
-      → boardStep (boardOf p n l) c ≡ onBoard p n (ledgerStep p ok n l c)
+  step-at-layout : (l : Ledger) → Proper p n s (l .entries) → (c : Call)
+      → boardStep (boardOf p n s l) c ≡ onBoard p n s (ledgerStep p ok n s l c)
   unfolding boardStep ledgerStep
   step-at-layout l proper (Call.take frame mix) =
       ap (λ (r : Outcome (List ℕ × List ℕ)). after (r .lent .0) (reply (r .told) (r .lent .1) [] ∷ []))
-      (take-at-layout p n (l .entries) ok size proper frame mix)
+      (take-at-layout p n s (l .entries) ok size words proper frame mix)
   step-at-layout l proper (Call.withdraw t) =
-      ap (λ (r : Outcome (List ℕ)). after (r .lent) (reply (r .told) [] [] ∷ [])) (withdraw-at-layout p n (l .entries) ok size proper t)
+      ap (λ (r : Outcome (List ℕ)). after (r .lent) (reply (r .told) [] [] ∷ [])) (withdraw-at-layout p n s (l .entries) ok size words proper t)
   step-at-layout l proper (Call.show low marks numbers) =
-      ap (λ (r : Outcome (List ℕ × List ℤ)). after (boardOf p n l) (reply (r .told) (r .lent .0) (r .lent .1) ∷ []))
-      (show-at-layout p n (l .entries) ok size proper low marks numbers)
+      ap (λ (r : Outcome (List ℕ × List ℤ)). after (boardOf p n s l) (reply (r .told) (r .lent .0) (r .lent .1) ∷ []))
+      (show-at-layout p n s (l .entries) ok size words proper low marks numbers)
 
   -- and so is a list of calls
-  pub history : (l : Ledger) → Proper p n (l .entries) → (cs : List Call)
-      → boardRun (boardOf p n l) cs ≡ onBoard p n (ledgerRun p ok n l cs)
+  pub history : (l : Ledger) → Proper p n s (l .entries) → (cs : List Call)
+      → boardRun (boardOf p n s l) cs ≡ onBoard p n s (ledgerRun p ok n s l cs)
   unfolding run
   history l proper [] = refl
   history l proper (c ∷ cs) =
       ap (λ (a : After (List ℕ)). let rest = run boardStep (a .state) cs in after (rest .state) (a .replies ++ rest .replies))
       (step-at-layout l proper c)
-      ∙ ap (λ (a : After (List ℕ)). after (a .state) (ledgerStep p ok n l c .replies ++ a .replies))
-      (history (ledgerStep p ok n l c .state) (step-proper p n (l .entries) proper ok c) cs)
+      ∙ ap (λ (a : After (List ℕ)). after (a .state) (ledgerStep p ok n s l c .replies ++ a .replies))
+      (history (ledgerStep p ok n s l c .state) (step-proper p n s (l .entries) proper ok c) cs)
 
 -- 01: "The list starts from the board that an accepted open has written, whatever open's arguments. .. After the list these equal
 -- the ledger's: every answer ..; every mix, mark and number as its call left it; all board words, being the board laid out as
 -- above."
-pub board-as-ledger : (p n : ℕ) (ws : List ℕ) (ok : IsModulus p) → openCall p n ws .told .number ≡ 0 → (cs : List Call)
-    → boardRun (openCall p n ws .lent) cs ≡ onBoard p n (ledgerRun p ok n (ledger []) cs)
-board-as-ledger p n ws ok e cs =
-    let fresh = open-accepted p n ws e in
-    ap (λ b. boardRun b cs) (fresh .board) ∙ history p n ok (fresh .size) (ledger []) (empty-proper p n) cs
+pub board-as-ledger : (p n s : ℕ) (ws : List ℕ) (ok : IsModulus p) → openCall p n s ws .told .number ≡ 0 → (cs : List Call)
+    → boardRun (openCall p n s ws .lent) cs ≡ onBoard p n s (ledgerRun p ok n s (ledger []) cs)
+board-as-ledger p n s ws ok e cs =
+    let fresh = open-accepted p n s ws e in
+    ap (λ b. boardRun b cs) (fresh .board) ∙ history p n s ok (fresh .size) (fresh .words) (ledger []) (empty-proper p n s) cs
 
 -- ---- what 01 says besides
 
@@ -100,10 +102,11 @@ take-refused-keeps ws frame mix = go (board? ws)
     go (yes b) h =
         let p = modulusWord ws in
         let n = sizeWord ws in
+        let s = valuesWord ws in
         let e = take-on-board ws b frame mix in
         ap (λ (r : Outcome (List ℕ × List ℕ)). r .lent .0) e
-        ∙ ap (boardOf p n)
-        (took-refused p (b .prime) n (ledgerOf ws) frame mix (took p (b .prime) n (ledgerOf ws) frame mix)
+        ∙ ap (boardOf p n s)
+        (took-refused p (b .prime) n s (ledgerOf ws) frame mix (took p (b .prime) n s (ledgerOf ws) frame mix)
         (subst (λ (r : Outcome (List ℕ × List ℕ)). IsRefusal (r .told .number)) e h))
         ∙ board-layout ws b
     go (no f) h = ap (λ (r : Outcome (List ℕ × List ℕ)). r .lent .0) (take-off-board ws f frame mix)
@@ -116,7 +119,7 @@ withdraw-refused-keeps ws t = go (board? ws)
     go (yes b) h =
         let e = withdraw-on-board ws b t in
         ap (λ (r : Outcome (List ℕ)). r .lent) e
-        ∙ ap (boardOf (modulusWord ws) (sizeWord ws))
+        ∙ ap (boardOf (modulusWord ws) (sizeWord ws) (valuesWord ws))
         (withdrew-refused (ledgerOf ws) t (withdrew (ledgerOf ws) t)
         (subst (λ (r : Outcome (List ℕ)). IsRefusal (r .told .number)) e h))
         ∙ board-layout ws b
@@ -140,15 +143,15 @@ withdraw-behind es ds =
 
 -- 01: "After accepted takes only, adding g entries, a withdrawal of g restores every word." Shows and refused takes may stand
 -- between them.
-pub withdrawal-restores : (p n : ℕ) (ok : IsModulus p) → FrameSize n → (l : Ledger) → Proper p n (l .entries)
-    → (cs : List Call) → NoWithdrawal cs → (g : ℕ) → length (ledgerRun p ok n l cs .state .entries) ≡ length (l .entries) + g
-    → boardRun (boardOf p n l) (cs ++ (Call.withdraw g ∷ [])) .state ≡ boardOf p n l
+pub withdrawal-restores : (p n s : ℕ) (ok : IsModulus p) → FrameSize n → WordCount s → (l : Ledger) → Proper p n s (l .entries)
+    → (cs : List Call) → NoWithdrawal cs → (g : ℕ) → length (ledgerRun p ok n s l cs .state .entries) ≡ length (l .entries) + g
+    → boardRun (boardOf p n s l) (cs ++ (Call.withdraw g ∷ [])) .state ≡ boardOf p n s l
 unfolding run ledgerStep
-withdrawal-restores p n ok size l proper cs only g long =
-    let (ds, e) = only-appends p ok n l cs only in
+withdrawal-restores p n s ok size words l proper cs only g long =
+    let (ds, e) = only-appends p ok n s l cs only in
     let many : length ds ≡ g = omega (arith, ap length e, length-append (l .entries) ds) in
-    ap (λ (a : After (List ℕ)). a .state) (history p n ok size l proper (cs ++ (Call.withdraw g ∷ [])))
-    ∙ ap (λ (a : After Ledger). boardOf p n (a .state)) (run-append (ledgerStep p ok n) l cs (Call.withdraw g ∷ []))
-    ∙ ap (λ es. boardOf p n (ledgerWithdraw (ledger es) g .lent)) e
-    ∙ ap (λ k. boardOf p n (ledgerWithdraw (ledger (l .entries ++ ds)) k .lent)) (sym many)
-    ∙ ap (boardOf p n) (withdraw-behind (l .entries) ds)
+    ap (λ (a : After (List ℕ)). a .state) (history p n s ok size words l proper (cs ++ (Call.withdraw g ∷ [])))
+    ∙ ap (λ (a : After Ledger). boardOf p n s (a .state)) (run-append (ledgerStep p ok n s) l cs (Call.withdraw g ∷ []))
+    ∙ ap (λ es. boardOf p n s (ledgerWithdraw (ledger es) g .lent)) e
+    ∙ ap (λ k. boardOf p n s (ledgerWithdraw (ledger (l .entries ++ ds)) k .lent)) (sym many)
+    ∙ ap (boardOf p n s) (withdraw-behind (l .entries) ds)

@@ -4,14 +4,13 @@
 use mathlib.Core.Path.{_≡_, refl, sym, ap, _∙_}
 use mathlib.Core.Logic.{_↔_}
 use mathlib.Core.List.{List, [], _∷_, _++_}
-use Prim.Native.Nat.{ℕ, zero, suc, _-_, _<_}
-use native.Mathlib.Nat.{not-suc-le-zero, le-of-suc-le-suc}
+use Prim.Native.Nat.{ℕ, suc, _-_, _*_, _<_}
 use native.Mathlib.Decide.{map-dec}
 use native.Mathlib.Omega.{arith}
 use lib.IntN.{ℤ, pos}
 use lib.ListN.{length, getD}
-use lib.Seq.{ext-getD}
-use Rattle.algebra.specs.Matrix.{apply}
+use Rattle.algebra.specs.Matrix.{Vector, apply}
+use Rattle.algebra.specs.Span.{Solves}
 use Rattle.algebra.specs.Ring.{IsField}
 use Rattle.algebra.proofs.Choice.{pick-by-elim, pick-by-same, pick-by-no}
 use Rattle.algebra.proofs.Sums as sums
@@ -29,9 +28,9 @@ use Rattle.field.proofs.Written.{length-tabulate, getD-tabulate, is-tabulate}
 use Rattle.signed.specs.Reading.{reading, IsRecord}
 use Rattle.signed.proofs.Readings.{reading-is-record, zero-is-record}
 use Rattle.frame.specs.Reading.{accepted, rejected, readFrame}
-use Rattle.ledger.specs.Ledger.{Entry, entry, ledger, Assignment, InSpan, GivesValue, MeetsAll, Settled, Agreed, multiplierRows, valueColumn}
+use Rattle.ledger.specs.Ledger.{Entry, entry, ledger, Assignment, InSpan, GivesValues, MeetsAll, Settled, Agreed, multiplierRows, valueTable}
 use Rattle.ledger.specs.Decide.{inSpan?, agreed?}
-use Rattle.ledger.specs.Steps.{newTold, repeatTold, mixWords, takeInSpan, takeAccepted, ledgerTake, tabulateℤ, shownMark}
+use Rattle.ledger.specs.Steps.{newTold, repeatTold, mixWords, takeInSpan, takeAccepted, ledgerTake, recordByRecord, shownMark}
 use Rattle.ledger.specs.Steps.{shownNumber, ledgerShow}
 use Rattle.ledger.specs.Settle.{Gives}
 use Rattle.ledger.specs.Proper.{Proper}
@@ -42,51 +41,33 @@ use Rattle.ledger.proofs.RankRows as rows
 tabulate-same : (k : ℕ) {f g : ℕ → ℕ} → ((i : ℕ) → i < k → f i ≡ g i) → tabulate k f ≡ tabulate k g
 tabulate-same k {f} {g} h = is-tabulate k g (tabulate k f) (length-tabulate k f) (λ i l. getD-tabulate k f i l ∙ h i l)
 
--- how many signed numbers are written, and what stands at each place
-pub length-tabulateℤ : (k : ℕ) (f : ℕ → ℤ) → length (tabulateℤ k f) ≡ k
-unfolding tabulateℤ
-length-tabulateℤ zero f = refl
-length-tabulateℤ (suc k) f = ap suc (length-tabulateℤ k (λ t. f (suc t)))
-
-pub getD-tabulateℤ : (k : ℕ) (f : ℕ → ℤ) (i : ℕ) → i < k → getD (tabulateℤ k f) i (pos 0) ≡ f i
-unfolding tabulateℤ
-getD-tabulateℤ zero f i h = absurd (not-suc-le-zero h)
-getD-tabulateℤ (suc k) f zero h = refl
-getD-tabulateℤ (suc k) f (suc i) h = getD-tabulateℤ k (λ t. f (suc t)) i (le-of-suc-le-suc h)
-
--- a list of k signed numbers with f i at each place i is what is written
-pub is-tabulateℤ : (k : ℕ) (f : ℕ → ℤ) (zs : List ℤ) → length zs ≡ k → ((i : ℕ) → i < k → getD zs i (pos 0) ≡ f i) → zs ≡ tabulateℤ k f
-is-tabulateℤ k f zs l h =
-    ext-getD (pos 0) zs (tabulateℤ k f) (l ∙ sym (length-tabulateℤ k f))
-    (λ i b. h i (rw l at b) ∙ sym (getD-tabulateℤ k f i (rw l at b)))
-
-module _ (p : ℕ) (ok : IsModulus p) (n : ℕ) (es : List Entry) where
+module _ (p : ℕ) (ok : IsModulus p) (n s : ℕ) (es : List Entry) where
   F : IsField (residues p)
   F = residues-field p (ok .prime)
 
   -- ---- take, by what reading finds
 
-  pub take-rejected : (frame mix : List ℕ) (k : Refusal) → length mix ≡ n → readFrame p n frame ≡ rejected k
-      → ledgerTake p ok n (ledger es) frame mix ≡ untouched (ledger es, mix) k
+  pub take-rejected : (frame mix : List ℕ) (k : Refusal) → length mix ≡ n → readFrame p n s frame ≡ rejected k
+      → ledgerTake p ok n s (ledger es) frame mix ≡ untouched (ledger es, mix) k
   unfolding takeFound
   take-rejected frame mix k h e =
-      take-found p ok n (ledger es) frame mix
-      ∙ in-order-done _ _ _ (h and-then none-left) (λ _. ap (λ f. takeFound p ok n (ledger es) f mix) e)
+      take-found p ok n s (ledger es) frame mix
+      ∙ in-order-done _ _ _ (h and-then none-left) (λ _. ap (λ f. takeFound p ok n s (ledger es) f mix) e)
 
-  pub take-accepted : (frame mix xs : List ℕ) (v : ℕ) → length mix ≡ n → readFrame p n frame ≡ accepted xs v
-      → ledgerTake p ok n (ledger es) frame mix ≡ takeAccepted p ok n (ledger es) xs v mix
+  pub take-accepted : (frame mix xs vs : List ℕ) → length mix ≡ n → readFrame p n s frame ≡ accepted xs vs
+      → ledgerTake p ok n s (ledger es) frame mix ≡ takeAccepted p ok n s (ledger es) xs vs mix
   unfolding takeFound
-  take-accepted frame mix xs v h e =
-      take-found p ok n (ledger es) frame mix
-      ∙ in-order-done _ _ _ (h and-then none-left) (λ _. ap (λ f. takeFound p ok n (ledger es) f mix) e)
+  take-accepted frame mix xs vs h e =
+      take-found p ok n s (ledger es) frame mix
+      ∙ in-order-done _ _ _ (h and-then none-left) (λ _. ap (λ f. takeFound p ok n s (ledger es) f mix) e)
 
   -- no combination: new
-  pub take-new : (xs : List ℕ) (v : ℕ) (mix : List ℕ) → (InSpan p n es xs → ⊥)
-      → takeAccepted p ok n (ledger es) xs v mix ≡ outcome (newTold (suc (length es))) (ledger (es ++ (entry xs v ∷ [])), mix)
+  pub take-new : (xs vs mix : List ℕ) → (InSpan p n es xs → ⊥)
+      → takeAccepted p ok n s (ledger es) xs vs mix ≡ outcome (newTold (suc (length es))) (ledger (es ++ (entry xs vs ∷ [])), mix)
   unfolding takeAccepted
-  take-new xs v mix new = pick-by-no (inSpan? p ok n es xs) _ _ new
+  take-new xs vs mix new = pick-by-no (inSpan? p ok n es xs) _ _ new
 
-  module _ (proper : Proper p n es) where
+  module _ (proper : Proper p n s es) where
     -- 01: "Otherwise the combination is unique"
     pub combination-once : (xs : List ℕ) (c d : InSpan p n es xs) (t : ℕ) → t < length es → c .0 t ≡ d .0 t
     combination-once xs c d =
@@ -100,94 +81,99 @@ module _ (p : ℕ) (ok : IsModulus p) (n : ℕ) (es : List Entry) where
         tabulate-same (length es) (λ t h. ap (λ (a : Residue p). a .value) (combination-once xs c d t h)) in
         rw same
 
-    same-value : (xs : List ℕ) (v : ℕ) (c d : InSpan p n es xs) → GivesValue p es (d .0) v → GivesValue p es (c .0) v
-    same-value xs v c d e =
-        sums.sum-same (residues p) (length es) (λ t. c .0 t ⊗ valueColumn p es t) (λ t. d .0 t ⊗ valueColumn p es t)
-        (λ t h. ap (λ a. a ⊗ valueColumn p es t) (combination-once xs c d t h))
-        ∙ e
+    same-values : (xs vs : List ℕ) (c d : InSpan p n es xs) → GivesValues p s es (d .0) vs → GivesValues p s es (c .0) vs
+    same-values xs vs c d e w b =
+        sums.sum-same (residues p) (length es) (λ t. c .0 t ⊗ valueTable p es t w) (λ t. d .0 t ⊗ valueTable p es t w)
+        (λ t h. ap (λ a. a ⊗ valueTable p es t w) (combination-once xs c d t h))
+        ∙ e w b
 
-    -- any combination decides: repeat if the same combination of values gives the frame's value
-    pub take-repeat : (xs : List ℕ) (v : ℕ) (mix : List ℕ) (c : InSpan p n es xs) → GivesValue p es (c .0) v
-        → takeAccepted p ok n (ledger es) xs v mix ≡ outcome (repeatTold (length es)) (ledger es, mixWords p n es (c .0))
+    -- any combination decides: repeat if the same combination of values gives the frame's values
+    pub take-repeat : (xs vs mix : List ℕ) (c : InSpan p n es xs) → GivesValues p s es (c .0) vs
+        → takeAccepted p ok n s (ledger es) xs vs mix ≡ outcome (repeatTold (length es)) (ledger es, mixWords p n es (c .0))
     unfolding takeAccepted takeInSpan
-    take-repeat xs v mix c e =
+    take-repeat xs vs mix c e =
         pick-by-elim (λ r. r ≡ outcome (repeatTold (length es)) (ledger es, mixWords p n es (c .0))) (inSpan? p ok n es xs) _ _
         (λ d.
-        in-order-done _ _ _ (same-value xs v d c e and-then none-left)
+        in-order-done _ _ _ (same-values xs vs d c e and-then none-left)
         (λ _. ap (λ ws. outcome (repeatTold (length es)) (ledger es, ws)) (same-mix xs d c)))
         (λ f. absurd (f c))
 
     -- otherwise refusal 9
-    pub take-conflict : (xs : List ℕ) (v : ℕ) (mix : List ℕ) (c : InSpan p n es xs) → (GivesValue p es (c .0) v → ⊥)
-        → takeAccepted p ok n (ledger es) xs v mix ≡ outcome (refused Conflict) (ledger es, mixWords p n es (c .0))
+    pub take-conflict : (xs vs mix : List ℕ) (c : InSpan p n es xs) → (GivesValues p s es (c .0) vs → ⊥)
+        → takeAccepted p ok n s (ledger es) xs vs mix ≡ outcome (refused Conflict) (ledger es, mixWords p n es (c .0))
     unfolding takeAccepted takeInSpan
-    take-conflict xs v mix c other =
+    take-conflict xs vs mix c other =
         pick-by-elim (λ r. r ≡ outcome (refused Conflict) (ledger es, mixWords p n es (c .0))) (inSpan? p ok n es xs) _ _
         (λ d.
-        in-order-refused _ _ (fails-here (λ e. other (same-value xs v c d e)))
+        in-order-refused _ _ (fails-here (λ e. other (same-values xs vs c d e)))
         ∙ ap (λ ws. outcome (refused Conflict) (ledger es, ws)) (same-mix xs d c))
         (λ f. absurd (f c))
 
-    -- ---- the standing frames have a common assignment
-    pub standing-met : (x : Assignment p) × MeetsAll p n es x
-    unfolding apply multiplierRows valueColumn
-    standing-met = rows.independent-solves (residues p) F (length es) n (multiplierRows p es) (proper .independent) (valueColumn p es)
+    -- ---- the standing frames have a common assignment, a word at a time
+    pub standing-met : (x : Assignment p) × MeetsAll p n s es x
+    unfolding apply multiplierRows valueTable
+    standing-met = (λ j w. word w .0 j, λ i h w l. word w .1 i h)
+      where
+        word : (w : ℕ) → (x : Vector (residues p)) × Solves (residues p) (length es) n (multiplierRows p es) x (λ i. valueTable p es i w)
+        word w = rows.independent-solves (residues p) F (length es) n (multiplierRows p es) (proper .independent) (λ i. valueTable p es i w)
 
     -- ---- show
 
     -- a settled record is one on which the assignments agree, and the other way round
-    settled-agreed : (j : ℕ) → Settled p n es j → Agreed p n es j
-    settled-agreed j s = let (x, met) = standing-met in (x j, λ y m. s y x m met)
+    settled-agreed : (j : ℕ) → Settled p n s es j → Agreed p n s es j
+    settled-agreed j e = let (x, met) = standing-met in (x j, λ y m. e y x m met)
 
-    agreed-settled : (j : ℕ) → Agreed p n es j → Settled p n es j
-    agreed-settled j (v, a) x y m l = a x m ∙ sym (a y l)
+    agreed-settled : (j : ℕ) → Agreed p n s es j → Settled p n s es j
+    agreed-settled j (v, a) x y m l w b = a x m w b ∙ sym (a y l w b)
 
     -- whether a record is settled is decided
-    settled? : (j : ℕ) → Dec (Settled p n es j)
-    settled? j = map-dec (agreed-settled j) (settled-agreed j) (agreed? p ok n es j)
+    settled? : (j : ℕ) → Dec (Settled p n s es j)
+    settled? j = map-dec (agreed-settled j) (settled-agreed j) (agreed? p ok n s es j)
 
-    shown-settled : (low j : ℕ) → Settled p n es j → (x : Assignment p) → MeetsAll p n es x
-        → (shownMark p ok n es j ≡ 1) × (shownNumber p ok n es low j ≡ reading p low (x j .value))
+    shown-settled : (low j : ℕ) → Settled p n s es j → (x : Assignment p) → MeetsAll p n s es x
+        → (shownMark p ok n s es j ≡ 1) × ((w : ℕ) → w < s → shownNumber p ok n s es low j w ≡ reading p low (x j w .value))
     unfolding shownMark shownNumber
-    shown-settled low j s x met =
-        let a : Agreed p n es j = (x j, λ y m. s y x m met) in (
-          pick-by-same (agreed? p ok n es j) (λ _. 1) 0 (λ _ _. refl) a,
-          pick-by-same (agreed? p ok n es j) (λ b. reading p low (b .0 .value)) (pos 0)
-              (λ b c. ap (λ (r : Residue p). reading p low (r .value)) (sym (b .1 x met) ∙ c .1 x met)) a,
+    shown-settled low j e x met =
+        let a : Agreed p n s es j = (x j, λ y m. e y x m met) in (
+          pick-by-same (agreed? p ok n s es j) (λ _. 1) 0 (λ _ _. refl) a,
+          λ w h.
+              pick-by-same (agreed? p ok n s es j) (λ b. reading p low (b .0 w .value)) (pos 0)
+              (λ b c. ap (λ (r : Residue p). reading p low (r .value)) (sym (b .1 x met w h) ∙ c .1 x met w h)) a,
         )
 
-    shown-unsettled : (low j : ℕ) → (Settled p n es j → ⊥) → (shownMark p ok n es j ≡ 0) × (shownNumber p ok n es low j ≡ pos 0)
+    shown-unsettled : (low j : ℕ) → (Settled p n s es j → ⊥)
+        → (shownMark p ok n s es j ≡ 0) × ((w : ℕ) → w < s → shownNumber p ok n s es low j w ≡ pos 0)
     unfolding shownMark shownNumber
-    shown-unsettled low j s = (
-      pick-by-no (agreed? p ok n es j) (λ _. 1) 0 (λ a. s (agreed-settled j a)),
-      pick-by-no (agreed? p ok n es j) (λ b. reading p low (b .0 .value)) (pos 0) (λ a. s (agreed-settled j a)),
+    shown-unsettled low j e = (
+      pick-by-no (agreed? p ok n s es j) (λ _. 1) 0 (λ a. e (agreed-settled j a)),
+      λ w h. pick-by-no (agreed? p ok n s es j) (λ b. reading p low (b .0 w .value)) (pos 0) (λ a. e (agreed-settled j a)),
     )
 
     -- 01: "Record j is marked 1 and its signed reading given exactly if all assignments of residues meeting the ledger's frames
-    -- agree at j; otherwise 0 and 0."
-    pub shown-exactly : (low j : ℕ) → Gives p n low es j (shownMark p ok n es j) (shownNumber p ok n es low j)
+    -- agree at j; otherwise 0 and 0.", of each of its words
+    pub shown-exactly : (low j : ℕ) → Gives p n s low es j (shownMark p ok n s es j) (shownNumber p ok n s es low j)
     shown-exactly low j = (shown-settled low j, shown-unsettled low j)
 
     -- whichever it is, it is in the range that the low end gives
-    pub shown-in-range : (low j : ℕ) → low < p → IsRecord p low (shownNumber p ok n es low j)
+    pub shown-in-range : (low j w : ℕ) → low < p → IsRecord p low (shownNumber p ok n s es low j w)
     unfolding shownNumber
-    shown-in-range low j b =
-        pick-by-elim (IsRecord p low) (agreed? p ok n es j) (λ a. reading p low (a .0 .value)) (pos 0)
-        (λ a. reading-is-record p low (a .0 .value) b (value-below (omega arith) (a .0)))
+    shown-in-range low j w b =
+        pick-by-elim (IsRecord p low) (agreed? p ok n s es j) (λ a. reading p low (a .0 w .value)) (pos 0)
+        (λ a. reading-is-record p low (a .0 w .value) b (value-below (omega arith) (a .0 w)))
         (λ _. zero-is-record p low)
 
     -- so a record is marked 1 exactly if it is settled
-    pub marked-exactly : (j : ℕ) → (shownMark p ok n es j ≡ 1) ↔ Settled p n es j
-    marked-exactly j = (only (settled? j), λ s. let (x, met) = standing-met in shown-settled 0 j s x met .0)
+    pub marked-exactly : (j : ℕ) → (shownMark p ok n s es j ≡ 1) ↔ Settled p n s es j
+    marked-exactly j = (only (settled? j), λ e. let (x, met) = standing-met in shown-settled 0 j e x met .0)
       where
-        only : Dec (Settled p n es j) → shownMark p ok n es j ≡ 1 → Settled p n es j
-        only (yes s) e = s
-        only (no s) e = absurd (omega (arith, shown-unsettled 0 j s .0))
+        only : Dec (Settled p n s es j) → shownMark p ok n s es j ≡ 1 → Settled p n s es j
+        only (yes e) d = e
+        only (no e) d = absurd (omega (arith, shown-unsettled 0 j e .0))
 
     -- and this is what a show that is not refused leaves in the memory lent to it, with n minus the count for an answer
-    pub show-accepted : (low : ℕ) (marks : List ℕ) (zs : List ℤ) → length marks ≡ n → length zs ≡ n → low < p
-        → ledgerShow p ok n (ledger es) low marks zs
-        ≡ outcome (results (n - length es)) (tabulate n (shownMark p ok n es), tabulateℤ n (shownNumber p ok n es low))
+    pub show-accepted : (low : ℕ) (marks : List ℕ) (zs : List ℤ) → length marks ≡ n → length zs ≡ n * s → low < p
+        → ledgerShow p ok n s (ledger es) low marks zs
+        ≡ outcome (results (n - length es)) (tabulate n (shownMark p ok n s es), recordByRecord n s (shownNumber p ok n s es low))
     unfolding ledgerShow
     show-accepted low marks zs h l b =
         in-order-done _ _ _ (h and-then l and-then b and-then none-left) (λ _. refl)

@@ -25,29 +25,30 @@ use Rattle.ledger.proofs.RankRows.{front-independent, append-independen
 use Rattle.algebra.proofs.Alike.{Alike, combination-alike, alike-back}
 
 -- the empty ledger is proper
-pub empty-proper : (p n : ℕ) → Proper p n []
-empty-proper p n =
+pub empty-proper : (p n s : ℕ) → Proper p n s []
+empty-proper p n s =
     record {
       fits = omega arith;
       wide = λ i h. absurd (not-suc-le-zero h);
       below = λ i j h l. absurd (not-suc-le-zero h);
-      value-below = λ i h. absurd (not-suc-le-zero h);
+      values-long = λ i h. absurd (not-suc-le-zero h);
+      value-below = λ i w h l. absurd (not-suc-le-zero h);
       independent = λ u c t h. absurd (not-suc-le-zero h);
     }
 
-module _ (p n : ℕ) (es : List Entry) (proper : Proper p n es) where
+module _ (p n s : ℕ) (es : List Entry) (proper : Proper p n s es) where
   -- a frame whose multipliers are no combination of the rows is appended to a proper ledger
-  module _ (ok : IsModulus p) (xs : List ℕ) (v : ℕ) (numbers : Numbers p n xs v) (new : InSpan p n es xs → ⊥) where
+  module _ (ok : IsModulus p) (xs vs : List ℕ) (numbers : Numbers p n s xs vs) (new : InSpan p n es xs → ⊥) where
     rows : Matrix (residues p)
-    rows = multiplierRows p (es ++ (entry xs v ∷ []))
+    rows = multiplierRows p (es ++ (entry xs vs ∷ []))
 
     before : Alike (residues p) (length es) n (multiplierRows p es) rows
     unfolding multiplierRows rows
-    before i j h l = rw (entry-before es (entry xs v) i h)
+    before i j h l = rw (entry-before es (entry xs vs) i h)
 
     last : (j : ℕ) → j < n → rows (length es) j ≡ reduce p (getD xs j 0)
     unfolding multiplierRows rows
-    last j l = rw (entry-last es (entry xs v))
+    last j l = rw (entry-last es (entry xs vs))
 
     longer : Independent (residues p) (suc (length es)) n rows
     longer =
@@ -57,30 +58,34 @@ module _ (p n : ℕ) (es : List Entry) (proper : Proper p n es) where
         (combination-alike (residues p) rows (multiplierRows p es) (alike-back (residues p) (multiplierRows p es) rows before)
         (rows (length es)) (λ j. reduce p (getD xs j 0)) last c))
 
-    pub append-proper : Proper p n (es ++ (entry xs v ∷ []))
+    pub append-proper : Proper p n s (es ++ (entry xs vs ∷ []))
     unfolding rows
     append-proper =
         record {
           fits =
-              rw (length-more es (entry xs v))
+              rw (length-more es (entry xs vs))
               (independent-most (residues p) (residues-field p (ok .prime)) (suc (length es)) n rows longer);
-          wide = each-more es (entry xs v) (λ e. length (e .multipliers) ≡ n) (proper .wide) (numbers .long);
+          wide = each-more es (entry xs vs) (λ e. length (e .multipliers) ≡ n) (proper .wide) (numbers .long);
           below = λ i j h l.
-              each-more es (entry xs v) (λ e. getD (e .multipliers) j 0 < p) (λ k b. proper .below k j b l)
+              each-more es (entry xs vs) (λ e. getD (e .multipliers) j 0 < p) (λ k b. proper .below k j b l)
               (numbers .below j (rw (numbers .long) l)) i h;
-          value-below = each-more es (entry xs v) (λ e. e .value < p) (proper .value-below) (numbers .value-below);
-          independent = rw (length-more es (entry xs v)) longer;
+          values-long = each-more es (entry xs vs) (λ e. length (e .values) ≡ s) (proper .values-long) (numbers .values-long);
+          value-below = λ i w h l.
+              each-more es (entry xs vs) (λ e. getD (e .values) w 0 < p) (λ k b. proper .value-below k w b l)
+              (numbers .values-below w (rw (numbers .values-long) l)) i h;
+          independent = rw (length-more es (entry xs vs)) longer;
         }
 
   -- a front of a proper ledger is proper
-  pub front-proper : (k : ℕ) → 0 < p → k ≤ length es → Proper p n (take k es)
+  pub front-proper : (k : ℕ) → 0 < p → k ≤ length es → Proper p n s (take k es)
   unfolding multiplierRows
   front-proper k positive h =
       record {
         fits = rw long (omega (arith, proper .fits));
         wide = λ i b. rw (same i b) (proper .wide i (within i b));
         below = λ i j b l. rw (same i b) (proper .below i j (within i b) l);
-        value-below = λ i b. rw (same i b) (proper .value-below i (within i b));
+        values-long = λ i b. rw (same i b) (proper .values-long i (within i b));
+        value-below = λ i w b l. rw (same i b) (proper .value-below i w (within i b) l);
         independent =
             rw long
             (independent-alike (residues p) k n (multiplierRows p es) (multiplierRows p (take k es)) alike
@@ -101,19 +106,19 @@ module _ (p n : ℕ) (es : List Entry) (proper : Proper p n es) where
 
   -- ---- every step keeps a ledger proper
   module _ (ok : IsModulus p) where
-    took-proper : (frame mix : List ℕ) {r : Outcome (Ledger × List ℕ)} → Took p ok n (ledger es) frame mix r
-        → Proper p n (r .lent .0 .entries)
-    took-proper frame mix (new xs v e free) = append-proper ok xs v (accepted-numbers p n frame xs v e) free
-    took-proper frame mix (repeat xs v e c g) = proper
-    took-proper frame mix (conflict xs v e c g) = proper
+    took-proper : (frame mix : List ℕ) {r : Outcome (Ledger × List ℕ)} → Took p ok n s (ledger es) frame mix r
+        → Proper p n s (r .lent .0 .entries)
+    took-proper frame mix (new xs vs e free) = append-proper ok xs vs (accepted-numbers p n s frame xs vs (omega (arith, ok .prime .two-or-more)) e) free
+    took-proper frame mix (repeat xs vs e c g) = proper
+    took-proper frame mix (conflict xs vs e c g) = proper
     took-proper frame mix (refusal k h) = proper
 
-    withdrew-proper : (t : ℕ) {r : Outcome Ledger} → Withdrew (ledger es) t r → Proper p n (r .lent .entries)
+    withdrew-proper : (t : ℕ) {r : Outcome Ledger} → Withdrew (ledger es) t r → Proper p n s (r .lent .entries)
     withdrew-proper t (dropped h) = front-proper (length es - t) (omega (arith, ok .prime .two-or-more)) (sub-le (length es) t)
     withdrew-proper t overlong = proper
 
-    pub step-proper : (c : Call) → Proper p n (ledgerStep p ok n (ledger es) c .state .entries)
+    pub step-proper : (c : Call) → Proper p n s (ledgerStep p ok n s (ledger es) c .state .entries)
     unfolding ledgerStep
-    step-proper (Call.take frame mix) = took-proper frame mix (took p ok n (ledger es) frame mix)
+    step-proper (Call.take frame mix) = took-proper frame mix (took p ok n s (ledger es) frame mix)
     step-proper (Call.withdraw t) = withdrew-proper t (withdrew (ledger es) t)
     step-proper (Call.show low marks numbers) = proper

@@ -1,10 +1,10 @@
--- When all solutions of a system agree: if they agree everywhere there are as many rows as columns at least, for every column
--- is then chosen; as many independent rows as columns do make them agree; and with fewer rows than columns the unit row of a
--- column outside I is no combination of them.
+-- When all solutions of a system agree: as many independent rows as columns make them agree; with fewer rows than columns the unit row
+-- of a column outside I is no combination of them, so that there are as many rows as columns at least where all unit rows are.
 use mathlib.Core.Path.{_≡_, sym, ap, _∙_}
-use mathlib.Core.Bool.{true, false}
+use mathlib.Core.Bool.{false}
 use Prim.Native.Nat.{ℕ, suc, _+_, _≤_, _<_}
 use native.Mathlib.Nat.{not-suc-le-zero, lt-suc-self, le-step}
+use native.Mathlib.Decide.{decLt}
 use native.Mathlib.Omega.{arith}
 use Rattle.algebra.specs.Choice.{choose}
 use Rattle.algebra.specs.Ring.{Ring, IsCommutativeRing, IsField}
@@ -15,9 +15,9 @@ use Rattle.algebra.specs.Kernel.{kernelVector}
 use Rattle.algebra.proofs.Rings as rings
 use Rattle.algebra.proofs.Sums as sums
 use Rattle.algebra.proofs.Applied as applied
-use Rattle.algebra.proofs.Marks.{by-test, is-true}
+use Rattle.algebra.proofs.Marks.{by-test}
 use Rattle.algebra.proofs.Kernel.{kernel-vector-in, kernel-vector-own, kernel-vector-chosen}
-use Rattle.algebra.proofs.Settled.{agree-if, agree-only-if}
+use Rattle.algebra.proofs.Settled.{agree-if}
 use Rattle.algebra.proofs.Exists.{PivotInverse, pivot-inverse}
 use Rattle.algebra.proofs.Decide.{cut-inside, cut-sized}
 use Rattle.algebra.proofs.Independent.{count-next, count-most, all-marked, all-counted}
@@ -48,23 +48,6 @@ module _ (R : Ring) (F : IsField R) (k n : ℕ) (X : Matrix R) where
 
   to-cut : (x w : Vector R) → Solves R k n X x w → Solves R k n C x w
   to-cut x w s i h = apply-alike R C X (cut-inside R k n X) x i h ∙ s i h
-
-  from-cut : (x w : Vector R) → Solves R k n C x w → Solves R k n X x w
-  from-cut x w s i h = sym (apply-alike R C X (cut-inside R k n X) x i h) ∙ s i h
-
-  -- solutions that agree at every column: n rows at least
-  pub agreeing-rows : (z w : Vector R) → Solves R k n X z w
-      → ((j : ℕ) → j < n → (x y : Vector R) → Solves R k n X x w → Solves R k n X y w → x j ≡ y j) → n ≤ k
-  agreeing-rows z w s agree =
-      omega (arith, all-counted n (S .I) chosen, S .holds .equally-many, count-most k (S .J))
-    where
-      chosen : (c : ℕ) → c < n → S .I c ≡ true
-      chosen c l =
-          is-true (S .I c)
-          (λ e.
-          F .one-not-zero
-          (sym (kernel-vector-own R L (S .holds) c c e ∙ sums.unit-same R c)
-          ∙ agree-only-if R L (S .holds .absorbs) w z (to-cut z w s) c c l (z c) (λ x t. agree c l x z (from-cut x w t) s)))
 
   -- n independent rows: the solutions agree at every column
   pub full-agree : k ≡ n → Independent R k n X → (w x y : Vector R) → Solves R k n X x w → Solves R k n X y w
@@ -97,3 +80,11 @@ module _ (R : Ring) (F : IsField R) (k n : ℕ) (X : Matrix R) where
         where
           x : Vector R
           x = kernelVector R k (S .D) C c
+
+  -- so where all unit rows are combinations of the rows, there are n rows at least
+  pub unit-rows : ((c : ℕ) → c < n → IsCombination R k n X (unit R c)) → n ≤ k
+  unit-rows all = go (decLt k n)
+    where
+      go : Dec (k < n) → n ≤ k
+      go (no h) = omega arith
+      go (yes h) = let (c, l, free) = free-unit h in absurd (free (all c l))

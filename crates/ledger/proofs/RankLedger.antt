@@ -66,7 +66,7 @@ perm-member (List·Permᴰ·trans d e) m = perm-member e (perm-member d m)
 abbrev pub Spanned : (p n : ℕ) → List (List ℕ) → List ℕ → Type 0
 Spanned p n yss xs = IsCombination (residues p) (length yss) n (residueRows p yss) (λ j. reduce p (getD xs j 0))
 
-module _ (p : ℕ) (ok : IsModulus p) (n : ℕ) where
+module _ (p : ℕ) (ok : IsModulus p) (n s : ℕ) where
   abbrev F : IsField (residues p)
   F = residues-field p (ok .prime)
 
@@ -103,7 +103,7 @@ module _ (p : ℕ) (ok : IsModulus p) (n : ℕ) where
       subst₂ (λ k X. IsCombination (residues p) k n X (λ j. reduce p (getD xs j 0))) (sym (ledger-length es)) (sym (ledger-rows es))
 
   -- "The count of frames held is the rank of the ledger's rows"
-  pub ledger-rank : (es : List Entry) → Proper p n es → rowsRank p ok n (ledgerRows es) ≡ length es
+  pub ledger-rank : (es : List Entry) → Proper p n s es → rowsRank p ok n (ledgerRows es) ≡ length es
   unfolding rowsRank
   ledger-rank es proper =
       independent-rank (residues p) F (combined? p ok) (length (ledgerRows es)) n (residueRows p (ledgerRows es))
@@ -122,78 +122,78 @@ module _ (p : ℕ) (ok : IsModulus p) (n : ℕ) where
       (λ j. reduce p (getD xs j 0)) (λ j. reduce p (getD xs j 0)) (λ j l. refl) c)
 
   -- the multipliers of an entry are a combination of the rows with it
-  span-own : (es : List Entry) (xs : List ℕ) (v : ℕ) → InSpan p n (es ++ (entry xs v ∷ [])) xs
+  span-own : (es : List Entry) (xs vs : List ℕ) → InSpan p n (es ++ (entry xs vs ∷ [])) xs
   unfolding multiplierRows
-  span-own es xs v =
-      let rows = multiplierRows p (es ++ (entry xs v ∷ [])) in
+  span-own es xs vs =
+      let rows = multiplierRows p (es ++ (entry xs vs ∷ [])) in
       combination-alike (residues p) rows rows (λ i j h l. refl) (rows (length es)) (λ j. reduce p (getD xs j 0))
-      (λ j l. ap (λ (e : Entry). reduce p (getD (e .multipliers) j 0)) (entry-last es (entry xs v)))
-      (own-combination (residues p) L rows (length es) (omega (arith, length-more es (entry xs v))))
+      (λ j l. ap (λ (e : Entry). reduce p (getD (e .multipliers) j 0)) (entry-last es (entry xs vs)))
+      (own-combination (residues p) L rows (length es) (omega (arith, length-more es (entry xs vs))))
 
   -- a refused take is not heard
   refused-unheard : (frame mix : List ℕ) (k : Refusal) (ws xs : List ℕ)
-      → List·Memᴰ xs (heardIn p n (Call.take frame mix) (reply (refused k) ws [])) → ⊥
+      → List·Memᴰ xs (heardIn p n s (Call.take frame mix) (reply (refused k) ws [])) → ⊥
   unfolding heardIn
   refused-unheard frame mix k ws xs m =
       let h = refusal-number k in
-      let none : heardIn p n (Call.take frame mix) (reply (refused k) ws []) ≡ [] =
+      let none : heardIn p n s (Call.take frame mix) (reply (refused k) ws []) ≡ [] =
       rw (ne-eqb (refusalNumber k) 0 (λ e. omega arith), ne-eqb (refusalNumber k) 100 (λ e. omega arith)) in
       List·Memᴰ·not-nil (subst (List·Memᴰ xs) none m)
 
   -- what a take heard is a combination of the rows after it
-  took-heard : (l : Ledger) (frame mix : List ℕ) {r : Outcome (Ledger × List ℕ)} → Took p ok n l frame mix r → (xs : List ℕ)
-      → List·Memᴰ xs (heardIn p n (Call.take frame mix) (reply (r .told) (r .lent .1) [])) → InSpan p n (r .lent .0 .entries) xs
+  took-heard : (l : Ledger) (frame mix : List ℕ) {r : Outcome (Ledger × List ℕ)} → Took p ok n s l frame mix r → (xs : List ℕ)
+      → List·Memᴰ xs (heardIn p n s (Call.take frame mix) (reply (r .told) (r .lent .1) [])) → InSpan p n (r .lent .0 .entries) xs
   unfolding heardIn multipliersOf
-  took-heard l frame mix (new ys v e f) xs m =
-      subst (InSpan p n (l .entries ++ (entry ys v ∷ [])))
+  took-heard l frame mix (new ys vs e f) xs m =
+      subst (InSpan p n (l .entries ++ (entry ys vs ∷ [])))
       (sym (List·Memᴰ·eq-of-singleton (subst (λ g. List·Memᴰ xs (multipliersOf g)) e m)))
-      (span-own (l .entries) ys v)
-  took-heard l frame mix (repeat ys v e c g) xs m =
+      (span-own (l .entries) ys vs)
+  took-heard l frame mix (repeat ys vs e c g) xs m =
       subst (InSpan p n (l .entries)) (sym (List·Memᴰ·eq-of-singleton (subst (λ g. List·Memᴰ xs (multipliersOf g)) e m))) c
-  took-heard l frame mix (conflict ys v e c g) xs m = absurd (refused-unheard frame mix Conflict (mixWords p n (l .entries) (c .0)) xs m)
+  took-heard l frame mix (conflict ys vs e c g) xs m = absurd (refused-unheard frame mix Conflict (mixWords p n (l .entries) (c .0)) xs m)
   took-heard l frame mix (refusal k h) xs m = absurd (refused-unheard frame mix k mix xs m)
 
   -- the entries after a take stood before it or were heard
-  took-stands : (l : Ledger) (frame mix : List ℕ) {r : Outcome (Ledger × List ℕ)} → Took p ok n l frame mix r → (e : Entry)
+  took-stands : (l : Ledger) (frame mix : List ℕ) {r : Outcome (Ledger × List ℕ)} → Took p ok n s l frame mix r → (e : Entry)
       → List·Memᴰ e (r .lent .0 .entries)
-      → List·Memᴰ e (l .entries) ⊎ List·Memᴰ (e .multipliers) (heardIn p n (Call.take frame mix) (reply (r .told) (r .lent .1) []))
+      → List·Memᴰ e (l .entries) ⊎ List·Memᴰ (e .multipliers) (heardIn p n s (Call.take frame mix) (reply (r .told) (r .lent .1) []))
   unfolding heardIn multipliersOf
-  took-stands l frame mix (new ys v e f) d m =
+  took-stands l frame mix (new ys vs e f) d m =
       ⊎-elim inl
       (λ k. inr
       (subst (λ g. List·Memᴰ (d .multipliers) (multipliersOf g)) (sym e)
       (List·Memᴰ·head (ap (λ (a : Entry). a .multipliers) (List·Memᴰ·eq-of-singleton k)))))
       (List·Memᴰ·append-cases (l .entries) m)
-  took-stands l frame mix (repeat ys v e c g) d m = inl m
-  took-stands l frame mix (conflict ys v e c g) d m = inl m
+  took-stands l frame mix (repeat ys vs e c g) d m = inl m
+  took-stands l frame mix (conflict ys vs e c g) d m = inl m
   took-stands l frame mix (refusal k h) d m = inl m
 
   -- what was heard is a combination of the rows at the end
   pub run-heard : (l : Ledger) (cs : List Call) → NoWithdrawal cs → (xs : List ℕ)
-      → List·Memᴰ xs (heard p n cs (ledgerRun p ok n l cs .replies)) → InSpan p n (ledgerRun p ok n l cs .state .entries) xs
+      → List·Memᴰ xs (heard p n s cs (ledgerRun p ok n s l cs .replies)) → InSpan p n (ledgerRun p ok n s l cs .state .entries) xs
   unfolding heard heardIn run ledgerStep
   run-heard l [] h xs m = absurd (List·Memᴰ·not-nil m)
   run-heard l (Call.take frame mix ∷ cs) h xs m =
-      let r = ledgerTake p ok n l frame mix in
+      let r = ledgerTake p ok n s l frame mix in
       ⊎-elim
       (λ k.
-      let (ds, e) = only-appends p ok n (r .lent .0) cs h in
+      let (ds, e) = only-appends p ok n s (r .lent .0) cs h in
       subst (λ es. InSpan p n es xs) (sym e)
-      (span-more (r .lent .0 .entries) ds xs (took-heard l frame mix (took p ok n l frame mix) xs k)))
+      (span-more (r .lent .0 .entries) ds xs (took-heard l frame mix (took p ok n s l frame mix) xs k)))
       (run-heard (r .lent .0) cs h xs)
-      (List·Memᴰ·append-cases (heardIn p n (Call.take frame mix) (reply (r .told) (r .lent .1) [])) m)
+      (List·Memᴰ·append-cases (heardIn p n s (Call.take frame mix) (reply (r .told) (r .lent .1) [])) m)
   run-heard l (Call.withdraw t ∷ cs) h xs m = absurd h
   run-heard l (Call.show low marks numbers ∷ cs) h xs m = run-heard l cs h xs m
 
   -- the entries at the end stood at the start or were heard
-  run-stands : (l : Ledger) (cs : List Call) → NoWithdrawal cs → (e : Entry) → List·Memᴰ e (ledgerRun p ok n l cs .state .entries)
-      → List·Memᴰ e (l .entries) ⊎ List·Memᴰ (e .multipliers) (heard p n cs (ledgerRun p ok n l cs .replies))
+  run-stands : (l : Ledger) (cs : List Call) → NoWithdrawal cs → (e : Entry) → List·Memᴰ e (ledgerRun p ok n s l cs .state .entries)
+      → List·Memᴰ e (l .entries) ⊎ List·Memᴰ (e .multipliers) (heard p n s cs (ledgerRun p ok n s l cs .replies))
   unfolding heard heardIn run ledgerStep
   run-stands l [] h e m = inl m
   run-stands l (Call.take frame mix ∷ cs) h e m =
-      let r = ledgerTake p ok n l frame mix in
-      let now = heardIn p n (Call.take frame mix) (reply (r .told) (r .lent .1) []) in
-      ⊎-elim (λ k. ⊎-elim inl (λ i. inr (Memᴰ·append-left _ i)) (took-stands l frame mix (took p ok n l frame mix) e k))
+      let r = ledgerTake p ok n s l frame mix in
+      let now = heardIn p n s (Call.take frame mix) (reply (r .told) (r .lent .1) []) in
+      ⊎-elim (λ k. ⊎-elim inl (λ i. inr (Memᴰ·append-left _ i)) (took-stands l frame mix (took p ok n s l frame mix) e k))
       (λ k. inr (Memᴰ·append-right now k)) (run-stands (r .lent .0) cs h e m)
   run-stands l (Call.withdraw t ∷ cs) h e m = absurd h
   run-stands l (Call.show low marks numbers ∷ cs) h e m = run-stands l cs h e m
@@ -201,17 +201,17 @@ module _ (p : ℕ) (ok : IsModulus p) (n : ℕ) where
   -- 01: "in a history without withdrawals that is also the rank of the multipliers of all frames answered new or repeat, in
   -- whatever order they came": hs is any order of them
   pub heard-rank : (cs : List Call) → NoWithdrawal cs → (hs : List (List ℕ))
-      → Perm (heard p n cs (ledgerRun p ok n (ledger []) cs .replies)) hs
-      → rowsRank p ok n hs ≡ length (ledgerRun p ok n (ledger []) cs .state .entries)
+      → Perm (heard p n s cs (ledgerRun p ok n s (ledger []) cs .replies)) hs
+      → rowsRank p ok n hs ≡ length (ledgerRun p ok n s (ledger []) cs .state .entries)
   heard-rank cs only hs order =
       ∥∥₁-elim order (ℕ-set (rowsRank p ok n hs) (length held))
-      (λ d. same-rank hs (ledgerRows held) (among d) (stands d) ∙ ledger-rank held (run-proper p ok n (ledger []) (empty-proper p n) cs))
+      (λ d. same-rank hs (ledgerRows held) (among d) (stands d) ∙ ledger-rank held (run-proper p ok n s (ledger []) (empty-proper p n s) cs))
     where
       held : List Entry
-      held = ledgerRun p ok n (ledger []) cs .state .entries
+      held = ledgerRun p ok n s (ledger []) cs .state .entries
 
       all : List (List ℕ)
-      all = heard p n cs (ledgerRun p ok n (ledger []) cs .replies)
+      all = heard p n s cs (ledgerRun p ok n s (ledger []) cs .replies)
 
       among : List·Permᴰ all hs → (xs : List ℕ) → List·Memᴰ xs hs → Spanned p n (ledgerRows held) xs
       among d xs m = span-spanned held xs (run-heard (ledger []) cs only xs (perm-member (Permᴰ·symm d) m))

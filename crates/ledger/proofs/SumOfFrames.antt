@@ -6,25 +6,26 @@ use mathlib.Core.List.{List, [], List·Memᴰ}
 use Prim.Native.Nat.{ℕ, _+_, _%_, _<_}
 use native.Mathlib.Nat.{mod-mod, mod-lt}
 use native.Mathlib.Omega.{arith}
-use lib.IntN.{ℤ, pos}
+use lib.IntN.{ℤ}
 use lib.ListN.{length, getD, replicate, length-replicate}
 use Rattle.algebra.specs.Ring.{IsCommutativeRing}
 use Rattle.algebra.specs.Matrix.{Vector}
 use Rattle.algebra.proofs.Alike.{combination-alike}
 use Rattle.algebra.proofs.Sums as sums
 use Rattle.checks.specs.Prime.{IsModulus}
-use Rattle.checks.specs.Largest.{FrameSize}
-use Rattle.checks.specs.Told.{gives}
-use Rattle.checks.specs.Outcome.{Outcome}
-use Rattle.checks.proofs.Refusals.{refusal-number, given-value}
+use Rattle.checks.specs.Largest.{FrameSize, WordCount}
+use Rattle.checks.specs.Told.{results}
+use Rattle.checks.specs.Outcome.{Outcome, outcome}
+use Rattle.checks.proofs.Refusals.{refusal-number}
 use Rattle.checks.proofs.InOrder.{none-left, _and-then_}
 use Rattle.field.specs.Residue.{Residue, reduce, residues, _⊕_, _⊗_}
 use Rattle.field.proofs.Residues.{reduce-same, reduce-plus}
 use Rattle.field.proofs.Field.{residues-field}
+use Rattle.field.proofs.Written.{getD-tabulate, is-tabulate}
 use Rattle.signed.specs.Reading.{residueOf}
 use Rattle.words.specs.Words.{Below}
 use Rattle.frame.specs.Reading.{accepted, readFrame}
-use Rattle.frame.specs.Sealing.{sealed}
+use Rattle.frame.specs.Sealing.{wordOf, sealedWord, sealed}
 use Rattle.frame.proofs.Round.{accepted-found}
 use Rattle.frame.proofs.Calls.{sizes-hold, seal-done, seal-told, read-told}
 use Rattle.ledger.specs.Ledger.{Entry, noEntry, Ledger, ledger, InSpan, multiplierRows}
@@ -40,7 +41,7 @@ use Rattle.ledger.proofs.LedgerSteps.{Took, new, repeat, conflict, refu
 use Rattle.ledger.proofs.Histories.{open-accepted}
 use Rattle.ledger.proofs.Demand3.{turn-replied, replies-same}
 
-module _ (p : ℕ) (ok : IsModulus p) (n : ℕ) where
+module _ (p : ℕ) (ok : IsModulus p) (n s : ℕ) where
   L : IsCommutativeRing (residues p)
   L = residues-field p (ok .prime) .ring
 
@@ -54,97 +55,118 @@ module _ (p : ℕ) (ok : IsModulus p) (n : ℕ) where
   -- and so is the sum of two that are
   sum-in-span : (es : List Entry) (xs ys summed : List ℕ) → InSpan p n es xs → InSpan p n es ys → IsSum p n xs ys summed
       → InSpan p n es summed
-  sum-in-span es xs ys summed c d s =
+  sum-in-span es xs ys summed c d m =
       combination-alike (residues p) (multiplierRows p es) (multiplierRows p es) (λ i j h l. refl)
       (λ j. reduce p (getD xs j 0) ⊕ reduce p (getD ys j 0)) (λ j. reduce p (getD summed j 0))
       (λ j l.
       sym (reduce-plus p (getD xs j 0) (getD ys j 0))
       ∙ reduce-same p _ _ (sym (mod-mod (getD xs j 0 + getD ys j 0) p))
-      ∙ ap (reduce p) (sym (s .sums j l)))
+      ∙ ap (reduce p) (sym (m .sums j l)))
       (combination-plus (residues p) L (length es) n (multiplierRows p es) _ _ c d)
 
   -- a frame that reads as a combination of the standing rows is not answered new
-  took-not-new : (l : Ledger) (frame mix xs : List ℕ) (v : ℕ) {r : Outcome (Ledger × List ℕ)} → Took p ok n l frame mix r
-      → readFrame p n frame ≡ accepted xs v → InSpan p n (l .entries) xs → r .told .number ≡ 0 → ⊥
-  took-not-new l frame mix xs v (new ys w e f) q c d =
-      f (subst (InSpan p n (l .entries)) (sym (accepted-found p n frame xs v q .0) ∙ accepted-found p n frame ys w e .0) c)
-  took-not-new l frame mix xs v (repeat ys w e k g) q c d = omega arith
-  took-not-new l frame mix xs v (conflict ys w e k g) q c d = omega arith
-  took-not-new l frame mix xs v (refusal k h) q c d = omega (arith, refusal-number k)
+  took-not-new : (l : Ledger) (frame mix xs vs : List ℕ) {r : Outcome (Ledger × List ℕ)} → Took p ok n s l frame mix r
+      → readFrame p n s frame ≡ accepted xs vs → InSpan p n (l .entries) xs → r .told .number ≡ 0 → ⊥
+  took-not-new l frame mix xs vs (new ys us e f) q c d =
+      f (subst (InSpan p n (l .entries)) (sym (accepted-found p n s frame xs vs q .0) ∙ accepted-found p n s frame ys us e .0) c)
+  took-not-new l frame mix xs vs (repeat ys us e k g) q c d = omega arith
+  took-not-new l frame mix xs vs (conflict ys us e k g) q c d = omega arith
+  took-not-new l frame mix xs vs (refusal k h) q c d = omega (arith, refusal-number k)
 
-  module _ (ws : List ℕ) (done : openCall p n ws .told .number ≡ 0) where
+  module _ (ws : List ℕ) (done : openCall p n s ws .told .number ≡ 0) where
     size : FrameSize n
-    size = open-accepted p n ws done .size
+    size = open-accepted p n s ws done .size
+
+    words : WordCount s
+    words = open-accepted p n s ws done .words
 
     module _ {cs : List Call} (t : Turn cs) (frame mix : List ℕ) (e : t .call ≡ Call.take frame mix)
-        (summed : List ℕ) (v : ℕ) (reads : ReadsAs p n frame summed v) where
-      combination-never-new : InSpan p n (standing p ok n (t .before)) summed → replyAt p n ws t .told .number ≡ 0 → ⊥
+        (summed vs : List ℕ) (reads : ReadsAs p n s frame summed vs) where
+      combination-never-new : InSpan p n (standing p ok n s (t .before)) summed → replyAt p n s ws t .told .number ≡ 0 → ⊥
       unfolding ledgerStep
       combination-never-new c zero-told =
-          let l = ledger (standing p ok n (t .before)) in
-          let same = turn-replied p ok n ws done t ∙ ap (λ d. replyOf (ledgerStep p ok n l d)) e in
-          took-not-new l frame mix summed v (took p ok n l frame mix)
-          (read-told p n frame (replicate n 0) summed v (sizes-hold p n ok size) (length-replicate n 0) (reads (replicate n 0) (length-replicate n 0))) c
+          let l = ledger (standing p ok n s (t .before)) in
+          let same = turn-replied p ok n s ws done t ∙ ap (λ d. replyOf (ledgerStep p ok n s l d)) e in
+          let room : List ℕ = replicate n 0 in
+          let values-room : List ℕ = replicate s 0 in
+          took-not-new l frame mix summed vs (took p ok n s l frame mix)
+          (read-told p n s frame room values-room summed vs (sizes-hold p n s ok size words) (length-replicate n 0) (length-replicate s 0)
+          (reads room values-room (length-replicate n 0) (length-replicate s 0))) c
           (sym (ap (λ (r : Reply). r .told .number) same) ∙ zero-told)
 
       -- a frame whose multipliers are the sum of those of two standing frames is never answered new
-      pub sum-never-new : (i k : ℕ) → i < length (standing p ok n (t .before)) → k < length (standing p ok n (t .before))
-          → IsSum p n (getD (standing p ok n (t .before)) i noEntry .multipliers) (getD (standing p ok n (t .before)) k noEntry .multipliers) summed
-          → replyAt p n ws t .told .number ≡ 0 → ⊥
-      sum-never-new i k h l s =
-          let es = standing p ok n (t .before) in
-          combination-never-new (sum-in-span es _ _ summed (standing-in-span es i h) (standing-in-span es k l) s)
+      pub sum-never-new : (i k : ℕ) → i < length (standing p ok n s (t .before)) → k < length (standing p ok n s (t .before))
+          → IsSum p n (getD (standing p ok n s (t .before)) i noEntry .multipliers) (getD (standing p ok n s (t .before)) k noEntry .multipliers) summed
+          → replyAt p n s ws t .told .number ≡ 0 → ⊥
+      sum-never-new i k h l m =
+          let es = standing p ok n s (t .before) in
+          combination-never-new (sum-in-span es _ _ summed (standing-in-span es i h) (standing-in-span es k l) m)
 
       -- without withdrawals: of two frames answered new or repeat
       pub sum-of-heard-never-new : NoWithdrawal (t .before) → (xs ys : List ℕ)
-          → List·Memᴰ xs (heard p n (t .before) (repliesTo p n ws (t .before)))
-          → List·Memᴰ ys (heard p n (t .before) (repliesTo p n ws (t .before)))
-          → IsSum p n xs ys summed → replyAt p n ws t .told .number ≡ 0 → ⊥
-      sum-of-heard-never-new only xs ys m k s = combination-never-new (sum-in-span (standing p ok n (t .before)) xs ys summed (spans xs m) (spans ys k) s)
+          → List·Memᴰ xs (heard p n s (t .before) (repliesTo p n s ws (t .before)))
+          → List·Memᴰ ys (heard p n s (t .before) (repliesTo p n s ws (t .before)))
+          → IsSum p n xs ys summed → replyAt p n s ws t .told .number ≡ 0 → ⊥
+      sum-of-heard-never-new only xs ys m k sum =
+          combination-never-new (sum-in-span (standing p ok n s (t .before)) xs ys summed (spans xs m) (spans ys k) sum)
         where
-          spans : (zs : List ℕ) → List·Memᴰ zs (heard p n (t .before) (repliesTo p n ws (t .before)))
-              → InSpan p n (standing p ok n (t .before)) zs
+          spans : (zs : List ℕ) → List·Memᴰ zs (heard p n s (t .before) (repliesTo p n s ws (t .before)))
+              → InSpan p n (standing p ok n s (t .before)) zs
           spans zs i =
-              run-heard p ok n (ledger []) (t .before) only zs
-              (subst (λ rs. List·Memᴰ zs (heard p n (t .before) rs)) (replies-same p ok n ws done (t .before)) i)
+              run-heard p ok n s (ledger []) (t .before) only zs
+              (subst (λ rs. List·Memᴰ zs (heard p n s (t .before) rs)) (replies-same p ok n s ws done (t .before)) i)
 
   -- ---- sums of frames that come from records
 
-  -- the sealed value of a sum is the sum of the sealed values
-  sealed-sum : (zs : List ℤ) (xs ys summed : List ℕ) → IsSum p n xs ys summed
-      → sealed p n zs summed ≡ (sealed p n zs xs + sealed p n zs ys) % p
-  unfolding sealed _⊕_ reduce
-  sealed-sum zs xs ys summed s =
-      let z : Vector (residues p) = λ t. reduce p (residueOf p (getD zs t (pos 0))) in
+  -- the sealed values of a sum are the sums of the sealed values
+  sealed-word-sum : (zs : List ℤ) (xs ys summed : List ℕ) (w : ℕ) → IsSum p n xs ys summed
+      → sealedWord p n s zs summed w ≡ (sealedWord p n s zs xs w + sealedWord p n s zs ys w) % p
+  unfolding sealedWord _⊕_ reduce
+  sealed-word-sum zs xs ys summed w m =
+      let z : Vector (residues p) = λ t. reduce p (residueOf p (wordOf s zs t w)) in
       ap (λ (a : Residue p). a .value)
       (sums.sum-same (residues p) n (λ t. z t ⊗ reduce p (getD summed t 0)) (λ t. z t ⊗ reduce p (getD xs t 0) ⊕ z t ⊗ reduce p (getD ys t 0))
       (λ t h.
       ap (λ a. z t ⊗ a)
-      (ap (reduce p) (s .sums t h) ∙ reduce-same p _ _ (mod-mod (getD xs t 0 + getD ys t 0) p) ∙ reduce-plus p (getD xs t 0) (getD ys t 0))
+      (ap (reduce p) (m .sums t h) ∙ reduce-same p _ _ (mod-mod (getD xs t 0 + getD ys t 0) p) ∙ reduce-plus p (getD xs t 0) (getD ys t 0))
       ∙ L .times-plus (z t) (reduce p (getD xs t 0)) (reduce p (getD ys t 0)))
       ∙ sums.sum-plus (residues p) L n (λ t. z t ⊗ reduce p (getD xs t 0)) (λ t. z t ⊗ reduce p (getD ys t 0)))
 
-  -- what seal gives for the sum of two frames' multipliers is the sum of what it gives for theirs
-  pub seals-sum : FrameSize n → (low : ℕ) (zs : List ℤ) → HeatRecords p n low zs → (xs ys summed : List ℕ) (v w : ℕ)
-      → SealsAs p n low zs xs v → SealsAs p n low zs ys w → IsSum p n xs ys summed → SealsAs p n low zs summed ((v + w) % p)
-  seals-sum size low zs heat xs ys summed v w e f s =
-      ap (λ (o : Outcome (Unit {0})). o .told)
-      (sym (seal-done p n low zs summed (sizes-hold p n ok size)
-      (heat .many and-then s .long and-then below and-then heat .low-below and-then heat .in-range and-then none-left)))
-      ∙ ap (λ (k : ℕ). gives (pos k))
-      (sealed-sum zs xs ys summed s ∙ ap₂ (λ a b. (a + b) % p) (sym (seal-told p n low zs xs v e)) (sym (seal-told p n low zs ys w f)))
+  sealed-sum : (zs : List ℤ) (xs ys summed totals : List ℕ) → IsSum p n xs ys summed
+      → IsSum p s (sealed p n s zs xs) (sealed p n s zs ys) totals → totals ≡ sealed p n s zs summed
+  unfolding sealed
+  sealed-sum zs xs ys summed totals m k =
+      is-tabulate s (sealedWord p n s zs summed) totals (k .long)
+      (λ w h.
+      k .sums w h
+      ∙ ap₂ (λ a b. (a + b) % p) (getD-tabulate s (sealedWord p n s zs xs) w h) (getD-tabulate s (sealedWord p n s zs ys) w h)
+      ∙ sym (sealed-word-sum zs xs ys summed w m))
+
+  -- what seal gives for the sum of two frames' multipliers is the sum of what it gives for theirs, word by word
+  pub seals-sum : FrameSize n → WordCount s → (low : ℕ) (zs : List ℤ) → HeatRecords p n s low zs → (xs ys summed vs us totals : List ℕ)
+      → SealsAs p n s low zs xs vs → SealsAs p n s low zs ys us → IsSum p n xs ys summed → IsSum p s vs us totals
+      → SealsAs p n s low zs summed totals
+  seals-sum size words low zs heat xs ys summed vs us totals e f m k lent long =
+      sym (seal-done p n s low zs summed lent (sizes-hold p n s ok size words)
+      (heat .many and-then m .long and-then long and-then below and-then heat .low-below and-then heat .in-range and-then none-left))
+      ∙ ap (outcome (results s)) (sym (sealed-sum zs xs ys summed totals m (subst₂ (λ a b. IsSum p s a b totals) (gave xs vs e) (gave ys us f) k)))
     where
       below : Below p summed
-      below i h = rw (s .sums i (rw (s .long) at h)) (mod-lt (getD xs i 0 + getD ys i 0) (omega (arith, ok .prime .two-or-more)))
+      below i h = rw (m .sums i (rw (m .long) at h)) (mod-lt (getD xs i 0 + getD ys i 0) (omega (arith, ok .prime .two-or-more)))
+
+      gave : (row values : List ℕ) → SealsAs p n s low zs row values → values ≡ sealed p n s zs row
+      gave row values g = seal-told p n s low zs row lent values (g lent long)
 
   -- so a frame that reads as the sum of two frames that come from records comes from those records
-  pub sum-comes-from : FrameSize n → (low : ℕ) (zs : List ℤ) → HeatRecords p n low zs → (frame₁ frame₂ frame xs ys summed : List ℕ) (v w : ℕ)
-      → ReadsAs p n frame₁ xs v → ComesFrom p n low zs frame₁ → ReadsAs p n frame₂ ys w → ComesFrom p n low zs frame₂
-      → ReadsAs p n frame summed ((v + w) % p) → IsSum p n xs ys summed → ComesFrom p n low zs frame
-  sum-comes-from size low zs heat frame₁ frame₂ frame xs ys summed v w r from s from′ t sums us u q =
+  pub sum-comes-from : FrameSize n → WordCount s → (low : ℕ) (zs : List ℤ) → HeatRecords p n s low zs
+      → (frame₁ frame₂ frame xs ys summed vs us totals : List ℕ)
+      → ReadsAs p n s frame₁ xs vs → ComesFrom p n s low zs frame₁ → ReadsAs p n s frame₂ ys us → ComesFrom p n s low zs frame₂
+      → ReadsAs p n s frame summed totals → IsSum p n xs ys summed → IsSum p s vs us totals → ComesFrom p n s low zs frame
+  sum-comes-from size words low zs heat frame₁ frame₂ frame xs ys summed vs us totals r from q from′ t m k row values g =
       let room : List ℕ = replicate n 0 in
-      let read = sym (t room (length-replicate n 0)) ∙ q room (length-replicate n 0) in
-      let value = given-value (ap (λ (o : Outcome (List ℕ)). o .told) read) in
-      let u-is : (v + w) % p ≡ u = cc in
-      subst₂ (SealsAs p n low zs) (ap (λ (o : Outcome (List ℕ)). o .lent) read) u-is
-      (seals-sum size low zs heat xs ys summed v w (from xs v r) (from′ ys w s) sums)
+      let values-room : List ℕ = replicate s 0 in
+      let read =
+      sym (t room values-room (length-replicate n 0) (length-replicate s 0)) ∙ g room values-room (length-replicate n 0) (length-replicate s 0) in
+      subst₂ (SealsAs p n s low zs) (ap (λ (o : Outcome (List ℕ × List ℕ)). o .lent .0) read)
+      (ap (λ (o : Outcome (List ℕ × List ℕ)). o .lent .1) read)
+      (seals-sum size words low zs heat xs ys summed vs us totals (from xs vs r) (from′ ys us q) m k)

@@ -21,11 +21,11 @@ board-once ws (Call.take frame mix) = refl
 board-once ws (Call.withdraw t) = refl
 board-once ws (Call.show low marks numbers) = refl
 
-pub ledger-once : (p : ℕ) (ok : IsModulus p) (n : ℕ) → RepliesOnce (ledgerStep p ok n)
+pub ledger-once : (p : ℕ) (ok : IsModulus p) (n s : ℕ) → RepliesOnce (ledgerStep p ok n s)
 unfolding ledgerStep
-ledger-once p ok n l (Call.take frame mix) = refl
-ledger-once p ok n l (Call.withdraw t) = refl
-ledger-once p ok n l (Call.show low marks numbers) = refl
+ledger-once p ok n s l (Call.take frame mix) = refl
+ledger-once p ok n s l (Call.withdraw t) = refl
+ledger-once p ok n s l (Call.show low marks numbers) = refl
 
 module _ {S : Type 0} (step : S → Call → After S) where
   -- the state that a turn left is its step's

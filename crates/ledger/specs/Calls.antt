@@ -12,16 +12,16 @@ use Rattle.checks.specs.Decide.{long?}
 use Rattle.checks.specs.Sizes.{frameSizes}
 use Rattle.ledger.specs.Ledger.{Ledger}
 use Rattle.ledger.specs.Steps.{ledgerTake, ledgerWithdraw, ledgerShow}
-use Rattle.ledger.specs.Board.{boardLength, modulusWord, sizeWord, layout, boardOf, ledgerOf}
+use Rattle.ledger.specs.Board.{boardLength, modulusWord, sizeWord, valuesWord, layout, boardOf, ledgerOf}
 use Rattle.ledger.specs.Decide.{board?}
 
--- ---- open: 1, 2, 3, then writes a fresh board
+-- ---- open: 1, 2, 12, 3, then writes a fresh board
 
-abbrev pub openChecks : (p n : ℕ) (ws : List ℕ) → Checks Refusal
-openChecks p n ws = andThen (frameSizes p n) (λ _. long? ws (boardLength n) else Length ⨾ passed)
+abbrev pub openChecks : (p n s : ℕ) (ws : List ℕ) → Checks Refusal
+openChecks p n s ws = andThen (frameSizes p n s) (λ _. long? ws (boardLength n s) else Length ⨾ passed)
 
-unfoldable pub openCall : (p n : ℕ) → List ℕ → Outcome (List ℕ)
-openCall p n ws = inOrder (openChecks p n ws) (λ _. outcome done (layout p n [])) (untouched ws)
+unfoldable pub openCall : (p n s : ℕ) → List ℕ → Outcome (List ℕ)
+openCall p n s ws = inOrder (openChecks p n s ws) (λ _. outcome done (layout p n s [])) (untouched ws)
 
 -- ---- the calls on a board: 11, then the ledger's step
 
@@ -29,23 +29,26 @@ abbrev pub boardChecks : List ℕ → Checks Refusal
 boardChecks ws = board? ws else NotBoard ⨾ passed
 
 -- the outcome of a step, with the ledger laid out
-abbrev pub laidOut : (p n : ℕ) → Outcome (Ledger × List ℕ) → Outcome (List ℕ × List ℕ)
-laidOut p n r = outcome (r .told) (boardOf p n (r .lent .0), r .lent .1)
+abbrev pub laidOut : (p n s : ℕ) → Outcome (Ledger × List ℕ) → Outcome (List ℕ × List ℕ)
+laidOut p n s r = outcome (r .told) (boardOf p n s (r .lent .0), r .lent .1)
 
 unfoldable pub takeCall : (ws frame mix : List ℕ) → Outcome (List ℕ × List ℕ)
 takeCall ws frame mix =
     inOrder (boardChecks ws)
-    (λ hs. laidOut (modulusWord ws) (sizeWord ws) (ledgerTake (modulusWord ws) (hs .0 .prime) (sizeWord ws) (ledgerOf ws) frame mix))
+    (λ hs.
+    laidOut (modulusWord ws) (sizeWord ws) (valuesWord ws)
+    (ledgerTake (modulusWord ws) (hs .0 .prime) (sizeWord ws) (valuesWord ws) (ledgerOf ws) frame mix))
     (untouched (ws, mix))
 
-abbrev pub wordsOf : (p n : ℕ) → Outcome Ledger → Outcome (List ℕ)
-wordsOf p n r = outcome (r .told) (boardOf p n (r .lent))
+abbrev pub wordsOf : (p n s : ℕ) → Outcome Ledger → Outcome (List ℕ)
+wordsOf p n s r = outcome (r .told) (boardOf p n s (r .lent))
 
 unfoldable pub withdrawCall : (ws : List ℕ) (t : ℕ) → Outcome (List ℕ)
 withdrawCall ws t =
-    inOrder (boardChecks ws) (λ _. wordsOf (modulusWord ws) (sizeWord ws) (ledgerWithdraw (ledgerOf ws) t)) (untouched ws)
+    inOrder (boardChecks ws) (λ _. wordsOf (modulusWord ws) (sizeWord ws) (valuesWord ws) (ledgerWithdraw (ledgerOf ws) t))
+    (untouched ws)
 
 unfoldable pub showCall : (ws : List ℕ) (low : ℕ) (marks : List ℕ) (zs : List ℤ) → Outcome (List ℕ × List ℤ)
 showCall ws low marks zs =
-    inOrder (boardChecks ws) (λ hs. ledgerShow (modulusWord ws) (hs .0 .prime) (sizeWord ws) (ledgerOf ws) low marks zs)
+    inOrder (boardChecks ws) (λ hs. ledgerShow (modulusWord ws) (hs .0 .prime) (sizeWord ws) (valuesWord ws) (ledgerOf ws) low marks zs)
     (untouched (marks, zs))

@@ -10,25 +10,27 @@ use Rattle.checks.specs.Told.{refused}
 use Rattle.checks.specs.Outcome.{Outcome, untouched}
 use Rattle.checks.specs.Decide.{long?}
 use Rattle.checks.specs.Prime.{IsModulus}
-use Rattle.frame.specs.Reading.{frameMultipliers, frameValue}
+use Rattle.frame.specs.Reading.{frameMultipliers, frameValues}
 use Rattle.frame.specs.EarlierOrder.{earlierChecks, Moved, MovesExactly}
 use Rattle.ledger.specs.Ledger.{Ledger}
 use Rattle.ledger.specs.Steps.{takeAccepted}
-use Rattle.ledger.specs.Board.{modulusWord, sizeWord, ledgerOf, IsBoard}
+use Rattle.ledger.specs.Board.{modulusWord, sizeWord, valuesWord, ledgerOf, IsBoard}
 use Rattle.ledger.specs.Calls.{boardChecks, laidOut, takeCall}
 use Rattle.ledger.specs.History.{Call, Reply, reply, After, after, boardStep}
 use Rattle.ledger.specs.Turns.{Turn, got, left, answered}
 
 -- the ledger's step, the call and a step of a list, with the frame's checks in the order of 01
-unfoldable pub earlierTake : (p : ℕ) → IsModulus p → (n : ℕ) → Ledger → (frame mix : List ℕ) → Outcome (Ledger × List ℕ)
-earlierTake p ok n l frame mix =
-    inOrder (long? mix n else Length ⨾ earlierChecks p n frame)
-    (λ _. takeAccepted p ok n l (frameMultipliers p n frame) (frameValue p n frame) mix) (untouched (l, mix))
+unfoldable pub earlierTake : (p : ℕ) → IsModulus p → (n s : ℕ) → Ledger → (frame mix : List ℕ) → Outcome (Ledger × List ℕ)
+earlierTake p ok n s l frame mix =
+    inOrder (long? mix n else Length ⨾ earlierChecks p n s frame)
+    (λ _. takeAccepted p ok n s l (frameMultipliers p n frame) (frameValues p n s frame) mix) (untouched (l, mix))
 
 unfoldable pub earlierTakeCall : (ws frame mix : List ℕ) → Outcome (List ℕ × List ℕ)
 earlierTakeCall ws frame mix =
     inOrder (boardChecks ws)
-    (λ hs. laidOut (modulusWord ws) (sizeWord ws) (earlierTake (modulusWord ws) (hs .0 .prime) (sizeWord ws) (ledgerOf ws) frame mix))
+    (λ hs.
+    laidOut (modulusWord ws) (sizeWord ws) (valuesWord ws)
+    (earlierTake (modulusWord ws) (hs .0 .prime) (sizeWord ws) (valuesWord ws) (ledgerOf ws) frame mix))
     (untouched (ws, mix))
 
 unfoldable pub earlierStep : List ℕ → Call → After (List ℕ)
@@ -39,7 +41,7 @@ earlierStep ws (Call.show low marks numbers) = boardStep ws (Call.show low marks
 
 -- where the answer of take moved: 11 and 3 are passed, and the frame is one of those that the request names
 abbrev pub TakeMoved : (ws frame mix : List ℕ) → Type 0
-TakeMoved ws frame mix = IsBoard ws × ((length mix ≡ sizeWord ws) × Moved (modulusWord ws) (sizeWord ws) frame)
+TakeMoved ws frame mix = IsBoard ws × ((length mix ≡ sizeWord ws) × Moved (modulusWord ws) (sizeWord ws) (valuesWord ws) frame)
 
 -- there take gave 7 and gives 6, with board and mix as they were either way
 abbrev pub TakeMoves : (ws frame mix : List ℕ) → Type 0

@@ -40,21 +40,21 @@ news (c ∷ cs) (r ∷ rs) = newIn c r + news cs rs
 
 -- the multipliers that reading found
 unfoldable pub multipliersOf : Found → List (List ℕ)
-multipliersOf (accepted xs v) = xs ∷ []
+multipliersOf (accepted xs vs) = xs ∷ []
 multipliersOf (rejected k) = []
 
 -- those of a take that is told 0 or 100
-unfoldable pub heardIn : (p n : ℕ) → Call → Reply → List (List ℕ)
-heardIn p n (take frame mix) r =
-    choose (eqb (r .told .number) 0) (multipliersOf (readFrame p n frame))
-    (choose (eqb (r .told .number) 100) (multipliersOf (readFrame p n frame)) [])
-heardIn p n (withdraw t) r = []
-heardIn p n (show low marks numbers) r = []
+unfoldable pub heardIn : (p n s : ℕ) → Call → Reply → List (List ℕ)
+heardIn p n s (take frame mix) r =
+    choose (eqb (r .told .number) 0) (multipliersOf (readFrame p n s frame))
+    (choose (eqb (r .told .number) 100) (multipliersOf (readFrame p n s frame)) [])
+heardIn p n s (withdraw t) r = []
+heardIn p n s (show low marks numbers) r = []
 
-unfoldable pub heard : (p n : ℕ) → List Call → List Reply → List (List ℕ)
-heard p n [] rs = []
-heard p n (c ∷ cs) [] = []
-heard p n (c ∷ cs) (r ∷ rs) = heardIn p n c r ++ heard p n cs rs
+unfoldable pub heard : (p n s : ℕ) → List Call → List Reply → List (List ℕ)
+heard p n s [] rs = []
+heard p n s (c ∷ cs) [] = []
+heard p n s (c ∷ cs) (r ∷ rs) = heardIn p n s c r ++ heard p n s cs rs
 
 -- ---- the rank of rows of n numbers
 

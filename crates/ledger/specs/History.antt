@@ -34,12 +34,12 @@ abbrev pub after : {S : Type 0} → S → List Reply → After S
 after s rs = record { state = s; replies = rs }
 
 -- one call on the ledger
-unfoldable pub ledgerStep : (p : ℕ) → IsModulus p → (n : ℕ) → Ledger → Call → After Ledger
-ledgerStep p ok n l (take frame mix) =
-    let r = ledgerTake p ok n l frame mix in after (r .lent .0) (reply (r .told) (r .lent .1) [] ∷ [])
-ledgerStep p ok n l (withdraw t) = let r = ledgerWithdraw l t in after (r .lent) (reply (r .told) [] [] ∷ [])
-ledgerStep p ok n l (show low marks numbers) =
-    let r = ledgerShow p ok n l low marks numbers in after l (reply (r .told) (r .lent .0) (r .lent .1) ∷ [])
+unfoldable pub ledgerStep : (p : ℕ) → IsModulus p → (n s : ℕ) → Ledger → Call → After Ledger
+ledgerStep p ok n s l (take frame mix) =
+    let r = ledgerTake p ok n s l frame mix in after (r .lent .0) (reply (r .told) (r .lent .1) [] ∷ [])
+ledgerStep p ok n s l (withdraw t) = let r = ledgerWithdraw l t in after (r .lent) (reply (r .told) [] [] ∷ [])
+ledgerStep p ok n s l (show low marks numbers) =
+    let r = ledgerShow p ok n s l low marks numbers in after l (reply (r .told) (r .lent .0) (r .lent .1) ∷ [])
 
 -- one call on the board
 unfoldable pub boardStep : List ℕ → Call → After (List ℕ)
@@ -55,12 +55,12 @@ run step s (c ∷ cs) =
     let one = step s c in
     let rest = run step (one .state) cs in after (rest .state) (one .replies ++ rest .replies)
 
-abbrev pub ledgerRun : (p : ℕ) → IsModulus p → (n : ℕ) → Ledger → List Call → After Ledger
-ledgerRun p ok n = run (ledgerStep p ok n)
+abbrev pub ledgerRun : (p : ℕ) → IsModulus p → (n s : ℕ) → Ledger → List Call → After Ledger
+ledgerRun p ok n s = run (ledgerStep p ok n s)
 
 abbrev pub boardRun : List ℕ → List Call → After (List ℕ)
 boardRun = run boardStep
 
 -- the ledger's state laid out as a board, with its replies
-abbrev pub onBoard : (p n : ℕ) → After Ledger → After (List ℕ)
-onBoard p n a = after (boardOf p n (a .state)) (a .replies)
+abbrev pub onBoard : (p n s : ℕ) → After Ledger → After (List ℕ)
+onBoard p n s a = after (boardOf p n s (a .state)) (a .replies)

@@ -36,11 +36,11 @@ module _ {p n : ℕ} {at e : List ℕ} (h : ReducedRows p n at e) (c j : ℕ) wh
 
   -- where j has a pivot: the place of its row's number at c, and what it gives
   module _ (pivot : getD at j 0 ≡ 0 → ⊥) where
-    pub place-inside : c < n → (getD at j 0 - 1) * (n + 1) + c < length e
+    pub place-inside : c < n → (getD at j 0 - 1) * n + c < length e
     place-inside l =
-        omega (arith, row-inside (getD at j 0 - 1) (n + 1) (omega (arith, h .at-most j)) (omega (arith, h .n-most)), h .e-long)
+        omega (arith, row-inside (getD at j 0 - 1) n (omega (arith, h .at-most j)) (omega (arith, h .n-most)), h .e-long)
 
-    pub pivot-number : IsFree n at c → (r : ℕ) → r ≡ (reduce p 0 ⊕ negated (reduce p (getD e ((getD at j 0 - 1) * (n + 1) + c) 0))) .value
+    pub pivot-number : IsFree n at c → (r : ℕ) → r ≡ (reduce p 0 ⊕ negated (reduce p (getD e ((getD at j 0 - 1) * n + c) 0))) .value
         → r ≡ entry .value
     unfolding kernelVector
     pivot-number free r x =

@@ -1,9 +1,10 @@
 -- A table that is read in place is the table as it stands, or its transpose where it is read turned. So a pivot inverse of what is
 -- read is 01's D, or D turned; and the worked rows of the reduced form are the rows of D A.
-use mathlib.Core.Path.{_≡_, refl, sym, ap₂, _∙_, fun-ext, subst}
+use mathlib.Core.Path.{_≡_, refl, sym, ap, ap₂, _∙_, fun-ext, subst}
 use mathlib.Core.Bool.{true, false}
 use mathlib.Core.List.{List}
-use Prim.Native.Nat.{ℕ, zero, suc, _≤_}
+use Prim.Native.Nat.{ℕ, zero, suc, _+_, _*_, _≤_}
+use native.Mathlib.Nat.{add-zero}
 use native.Mathlib.Omega.{arith}
 use lib.ListN.{length, getD}
 use Rattle.algebra.specs.Matrix.{product, transpose}
@@ -15,13 +16,13 @@ use Rattle.algebra.proofs.Marks.{by-test}
 use Rattle.algebra.proofs.Transpose.{transposed}
 use Rattle.checks.specs.Largest.{largest}
 use Rattle.checks.specs.Prime.{IsModulus}
-use Rattle.field.specs.Residue.{residues}
+use Rattle.field.specs.Residue.{residues, reduce}
 use Rattle.field.specs.View.{table}
 use Rattle.field.proofs.Field.{residues-ring}
-use Rattle.matrix_echelon.specs.Grid.{gridOf, Readable}
+use Rattle.matrix_echelon.specs.Grid.{gridOf, TableReadable, Readable}
 use Rattle.matrix_echelon.specs.Forward.{IsRank}
 use Rattle.matrix_echelon.specs.Reduced.{ReducedForm, RowsByPivot}
-use Rattle.matrix_echelon.proofs.Grids.{grid-table, grid-turned}
+use Rattle.matrix_echelon.proofs.Grids.{grid-table, grid-turned, readable-one}
 use Rattle.matrix_echelon.proofs.ReducedRows.{no-pivot-outside}
 use Rattle.matrix.specs.Calls.{tableOf, tableRank, inverseOf}
 use Rattle.matrix.specs.Parts.{Checked, plain, turned, marked, ReducedRows, KernelVectors, StoresBasis}
@@ -29,33 +30,30 @@ use Rattle.matrix.proofs.Memory.{place-inside, marked-no, marked-yes}
 use Rattle.matrix.proofs.Stored.{rank-is, inverse-so}
 use Rattle.matrix.proofs.Basis.{basis-stored}
 
--- a table that has passed the checks can be read, with a column of numbers beside it
-module _ {p m n : ℕ} {a : List ℕ} (k : Checked p m n a) {w : List ℕ} where
-  pub plain-readable : m ≤ length w → Readable p (plain m n) a w 1
-  plain-readable l =
+-- a table that has passed the checks can be read, and with a column of numbers beside it
+module _ {p m n : ℕ} {a : List ℕ} (k : Checked p m n a) where
+  pub plain-table : TableReadable p (plain m n) a
+  plain-table =
       record {
-        table =
-            record {
-              is-modulus = k .is-modulus;
-              rows-most = k .m-most;
-              columns-most = k .n-most;
-              inside = λ i j h b. omega (arith, place-inside i j m n h b, k .a-long);
-            };
-        carried = λ t h. omega arith;
+        is-modulus = k .is-modulus;
+        rows-most = k .m-most;
+        columns-most = k .n-most;
+        inside = λ i j h b. omega (arith, place-inside i j m n h b, k .a-long);
       }
 
-  pub turned-readable : n ≤ length w → Readable p (turned m n) a w 1
+  pub plain-readable : {w : List ℕ} → m ≤ length w → Readable p (plain m n) a w 1 1
+  plain-readable l = readable-one plain-table (λ t h. omega arith)
+
+  pub turned-readable : {w : List ℕ} → n ≤ length w → Readable p (turned m n) a w 1 1
   turned-readable l =
-      record {
-        table =
-            record {
-              is-modulus = k .is-modulus;
-              rows-most = k .n-most;
-              columns-most = k .m-most;
-              inside = λ i j h b. omega (arith, place-inside j i m n b h, k .a-long);
-            };
-        carried = λ t h. omega arith;
-      }
+      readable-one
+      (record {
+        is-modulus = k .is-modulus;
+        rows-most = k .n-most;
+        columns-most = k .m-most;
+        inside = λ i j h b. omega (arith, place-inside j i m n b h, k .a-long);
+      })
+      (λ t h. omega arith)
 
 module _ (p m n : ℕ) (a : List ℕ) where
   plain-same : gridOf p (plain m n) a ≡ tableOf p m n a
@@ -89,9 +87,9 @@ module _ (p m n : ℕ) (a : List ℕ) where
       (transposed (residues p) (residues-ring p (omega (arith, ok .prime .two-or-more)))
       (subst (λ X. IsPivotInverse (residues p) n m X (h .D) (h .I) (h .J)) turned-same (h .inverse)))
 
-  -- ---- the reduced form of the table
+  -- ---- the reduced form of the table, with nothing carried
 
-  module _ {w : List ℕ} {step r : ℕ} {e pivots : List ℕ} (f : ReducedForm p (plain m n) a w step r e pivots) where
+  module _ {w : List ℕ} {step r : ℕ} {e pivots : List ℕ} (f : ReducedForm p (plain m n) a w step 0 r e pivots) where
     module _ {at : List ℕ} (b : RowsByPivot r pivots at) where
       -- a column has no pivot exactly if it is outside I
       free-outside : (j : ℕ) → getD at j 0 ≡ 0 → f .rank .I j ≡ false
@@ -136,7 +134,7 @@ module _ (p m n : ℕ) (a : List ℕ) where
                 (λ t l. f .rank .inverse .row-outside j t (free-outside j z)) c;
             row = λ j t c z l.
                 let (s, d) = b .row j t z in
-                f .row t c s l ∙ ap₂ (λ X q. product (residues p) m (f .rank .D) X q c) plain-same d;
+                ap (λ q. reduce p (getD e (t * q + c) 0)) (sym (add-zero n)) ∙ f .row t c s l ∙ ap₂ (λ X q. product (residues p) m (f .rank .D) X q c) plain-same d;
           }
 
       -- so the vectors that they give are the basis

@@ -51,7 +51,7 @@ turned m n = record { start = 0; down = 1; along = n; rows = n; columns = m }
 unfoldable pub marked : List ℕ → Marks
 marked xs c = not (eqb (getD xs c 0) 0)
 
--- e has rows of n numbers and a carried one, the rows of D A that are not zeros: row j is row at[j] - 1 of e, or zeros where at[j] is 0
+-- e has rows of n numbers, the rows of D A that are not zeros: row j is row at[j] - 1 of e, or zeros where at[j] is 0
 pub record ReducedRows (p n : ℕ) (at e : List ℕ) : Type 0 where
   pub is-modulus : IsModulus p
   pub n-most : n ≤ largest
@@ -63,7 +63,7 @@ pub record ReducedRows (p n : ℕ) (at e : List ℕ) : Type 0 where
   pub D : Matrix (residues p)
   pub A : Matrix (residues p)
   pub zeros : (j c : ℕ) → getD at j 0 ≡ 0 → product (residues p) m D A j c ≡ residues p .zero
-  pub row : (j t c : ℕ) → getD at j 0 ≡ suc t → c < n → reduce p (getD e (t * (n + 1) + c) 0) ≡ product (residues p) m D A j c
+  pub row : (j t c : ℕ) → getD at j 0 ≡ suc t → c < n → reduce p (getD e (t * n + c) 0) ≡ product (residues p) m D A j c
 
 -- column c has no pivot
 abbrev pub IsFree : ℕ → List ℕ → ℕ → Type 0

@@ -42,7 +42,7 @@ fn kernel_entry(p: u32, n: usize, at: &[u32], e: &[u32], c: usize, j: usize) -> 
     if row == 0 {
         return if j == c { 1 } else { 0 };
     }
-    field::arith::minus(p, 0, e[(row - 1) * (n + 1) + c])
+    field::arith::minus(p, 0, e[(row - 1) * n + c])
 }
 
 // The kernel vector of column c, which has no pivot: column c of 1 - D A.

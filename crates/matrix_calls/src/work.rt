@@ -34,7 +34,7 @@ pub fn invert_ranked(
     parts::count_marks(columns)
 }
 
-// The basis of the kernel of the table, and how many vectors it has.
+// The basis of the kernel of the table, and how many vectors it has. No column is carried along, so that a stands for their numbers too.
 pub fn kernel_of(p: u32, m: usize, n: usize, a: &[u32], basis: &mut [u32]) -> u32
     requires { ⌜ Checked p m n (now a) × (length (now basis) ≡ n * n) ⌝ }
     ensures { λ r. ⌜ ((ok : IsModulus p) → StoresBasis p ok m n (now (a .entry)) (now (basis .exit)) r) ⌝ }
@@ -46,10 +46,9 @@ pub fn kernel_of(p: u32, m: usize, n: usize, a: &[u32], basis: &mut [u32]) -> u3
         rows: m,
         columns: n,
     };
-    let none = words::row_room();
     let mut e = words::wide_table();
     let mut pivots = words::row_room();
-    let rank = reduced::reduced(p, plain, a, &none, 1, &mut e, &mut pivots);
+    let rank = reduced::reduced(p, plain, a, a, 0, 0, &mut e, &mut pivots);
     let at = reduced::rows_by_pivot(rank, &pivots);
     parts::kernel_vectors(p, n, &at, &e, basis)
 }

@@ -1,43 +1,51 @@
--- What is read in place: a table with its rows one behind the other, as it stands or turned. With its carried column, cut to its sizes,
+-- What is read in place: a table with its rows one behind the other, as it stands or turned. With its carried columns, cut to its sizes,
 -- it is the table; so the worked rows of all its rows give its rank, and their pivots lie in its columns.
 use mathlib.Core.Path.{_≡_, refl, ap, _∙_, subst, fun-ext}
 use mathlib.Core.Bool.{Bool, true, false}
 use mathlib.Core.List.{List}
-use Prim.Native.Nat.{ℕ, _+_, _*_, _<_}
+use Prim.Native.Nat.{ℕ, _+_, _*_, _-_, _<_}
 use native.Mathlib.Omega.{arith}
 use lib.Dec.{ltb}
-use lib.ListN.{getD}
-use borrow.Author.Tests.{lt-ltb, le-ltb}
+use lib.ListN.{length, getD}
 use Rattle.algebra.specs.Choice.{choose}
 use Rattle.algebra.specs.Ring.{IsCommutativeRing}
 use Rattle.algebra.specs.Matrix.{Matrix, cut, transpose}
 use Rattle.algebra.specs.Quasiinverse.{IsPivotInverse}
 use Rattle.algebra.specs.Echelon.{Worked}
 use Rattle.algebra.proofs.Matrices.{entries}
+use Rattle.algebra.proofs.Blocks.{choose-upper, choose-lower}
 use Rattle.algebra.proofs.Echelon.{pivot-below, rank-columns}
 use Rattle.checks.specs.Prime.{IsModulus}
 use Rattle.words.specs.Lengths.{longestRow, widestTable}
 use Rattle.words.specs.Words.{Zeros}
 use Rattle.field.specs.Residue.{reduce, residues}
 use Rattle.field.specs.View.{line, table}
+use Rattle.field.specs.Products.{Reaches}
 use Rattle.field.proofs.Field.{residues-ring}
 use Rattle.field.proofs.Views.{blank-below}
 use Rattle.matrix_echelon.specs.declared.Grid.{Grid}
-use Rattle.matrix_echelon.specs.Grid.{gridPlace, entryOf, gridOf, wide, Readable}
+use Rattle.matrix_echelon.specs.Grid.{gridPlace, entryOf, gridOf, wide, TableReadable, Readable}
 use Rattle.matrix_echelon.specs.Group.{Pivots}
 use Rattle.matrix_echelon.specs.Forward.{Room, Held, IsRank}
 use Rattle.matrix_echelon.proofs.Groups.{one-not-zero}
 use Rattle.matrix_echelon.proofs.Settle.{modulus-proper}
 
--- the table with its carried column, at a column and behind them
+-- the table alone can be read, and with one carried column
+pub readable-none : {p : ℕ} {g : Grid} {a : List ℕ} (w : List ℕ) (step : ℕ) → TableReadable p g a → Readable p g a w step 0
+readable-none w step s = record { table = s; carried-most = omega arith; reaches = λ u h. absurd (omega arith) }
+
+pub readable-one : {p : ℕ} {g : Grid} {a w : List ℕ} {step : ℕ} → TableReadable p g a → Reaches (g .rows) 0 step (length w)
+    → Readable p g a w step 1
+readable-one s reach = record { table = s; carried-most = omega arith; reaches = λ u h t l. omega (arith, reach t l) }
+
+-- the table with its carried columns, at a column and behind them
 pub wide-front : (p : ℕ) (g : Grid) (a w : List ℕ) (step i j : ℕ) → j < g .columns → wide p g a w step i j ≡ entryOf p g a i j
 unfolding wide
-wide-front p g a w step i j h = ap (λ b. choose b (entryOf p g a i j) (line p w 0 step i)) (lt-ltb j (g .columns) h)
+wide-front p g a w step i j h = choose-upper (g .columns) j (entryOf p g a i j) (line p w (j - g .columns) step i) h
 
-pub wide-carried : (p : ℕ) (g : Grid) (a w : List ℕ) (step i : ℕ) → wide p g a w step i (g .columns) ≡ line p w 0 step i
+pub wide-carried : (p : ℕ) (g : Grid) (a w : List ℕ) (step i u : ℕ) → wide p g a w step i (g .columns + u) ≡ line p w u step i
 unfolding wide
-wide-carried p g a w step i =
-    ap (λ b. choose b (entryOf p g a i (g .columns)) (line p w 0 step i)) (le-ltb (g .columns) (g .columns) (omega arith))
+wide-carried p g a w step i u = choose-lower (g .columns) u (entryOf p g a i (g .columns + u)) (λ q. line p w q step i)
 
 -- a choice that is made twice
 chosen-twice : {A : Type 0} (b : Bool) (x y z : A) → choose b (choose b x y) z ≡ choose b x z
@@ -51,11 +59,11 @@ module _ (p : ℕ) (g : Grid) (a w : List ℕ) (step : ℕ) where
       entries (residues p) _ _
       (λ i j.
       ap (λ x. choose (ltb i (g .rows)) x (reduce p 0))
-      (chosen-twice (ltb j (g .columns)) (entryOf p g a i j) (line p w 0 step i) (reduce p 0)))
+      (chosen-twice (ltb j (g .columns)) (entryOf p g a i j) (line p w (j - g .columns) step i) (reduce p 0)))
 
-  -- behind the table stands the carried column
-  pub wide-last : _≡_ {A = ℕ → residues p .Carrier} (λ i. wide p g a w step i (g .columns)) (line p w 0 step)
-  wide-last = fun-ext (λ i. wide-carried p g a w step i)
+  -- behind the table stand the carried columns
+  pub wide-behind : (u : ℕ) → _≡_ {A = ℕ → residues p .Carrier} (λ i. wide p g a w step i (g .columns + u)) (line p w u step)
+  wide-behind u = fun-ext (λ i. wide-carried p g a w step i u)
 
 -- a table whose rows begin `stride` numbers apart, read row by row, and read turned: row i of the table is column i of what is read
 module _ (p : ℕ) (g : Grid) (a : List ℕ) (start stride : ℕ) where
@@ -81,8 +89,8 @@ module _ (p : ℕ) (g : Grid) (a : List ℕ) (start stride : ℕ) where
       swapped false false x z = refl
 
 -- the D of the worked rows is a pivot inverse of the table
-abbrev pub rank-worked : {p : ℕ} {g : Grid} {a : List ℕ} (w : List ℕ) (step : ℕ) {r : ℕ} {E : Matrix (residues p)} {pivot : ℕ → ℕ}
-    → Worked (residues p) (g .rows) (g .columns) (wide p g a w step) r E pivot → IsRank p g a r
+abbrev pub rank-worked : {p : ℕ} {g : Grid} {a : List ℕ} (w : List ℕ) (step : ℕ) {width r : ℕ} {E : Matrix (residues p)} {pivot : ℕ → ℕ}
+    → Worked (residues p) (g .rows) (g .columns) width (wide p g a w step) r E pivot → IsRank p g a r
 rank-worked {p} {g} {a} w step k =
     record {
       D = k .D;
@@ -102,8 +110,8 @@ room-fresh {p} e pivots ok zeros none =
     }
 
 -- the pivots lie in the columns
-module _ {p : ℕ} {g : Grid} {i : ℕ} {a w : List ℕ} {step r : ℕ} {e pivots : List ℕ} (s : Readable p g a w step)
-    (h : Held p g i a w step r e pivots) where
+module _ {p : ℕ} {g : Grid} {i : ℕ} {a w : List ℕ} {step carried r : ℕ} {e pivots : List ℕ} (s : Readable p g a w step carried)
+    (h : Held p g i a w step carried r e pivots) where
   proper : 1 < p
   proper = modulus-proper (s .table .is-modulus)
 
@@ -113,10 +121,10 @@ module _ {p : ℕ} {g : Grid} {i : ℕ} {a w : List ℕ} {step r : ℕ} {e pivot
   pub pivot-in-columns : (t : ℕ) → t < r → getD pivots t 0 < g .columns
   pivot-in-columns = pivot-below (residues p) L (one-not-zero p proper) (h .worked)
 
-  pub pivots-held : Pivots (g .columns + 1) r pivots
+  pub pivots-held : Pivots (g .columns + carried) r pivots
   pivots-held =
       record {
-        narrow = omega (arith, s .table .columns-most);
+        narrow = omega (arith, s .table .columns-most, s .carried-most);
         few = omega (arith, s .table .columns-most, rank-columns (residues p) L (one-not-zero p proper) (h .worked));
         long = h .room .pivots-long;
         inside = λ t l. omega (arith, pivot-in-columns t l);

@@ -33,14 +33,14 @@ use Rattle.matrix_echelon.proofs.WorkedClear.{row-inside}
 pub one-not-zero : (p : ℕ) → 1 < p → reduce p 1 ≡ reduce p 0 → ⊥
 one-not-zero p h = nonzero-of-positive p 1 (omega arith) h
 
--- at their first n + 1 places the limbs are sums of at most k limbs
-pub record Limbs (k n : ℕ) (lo hi : List ℕ) : Type 0 where
+-- at their first `width` places the limbs are sums of at most k limbs
+pub record Limbs (k width : ℕ) (lo hi : List ℕ) : Type 0 where
   pub long-lo : length lo ≡ widestRow
   pub long-hi : length hi ≡ widestRow
-  pub low-within : (j : ℕ) → j < n + 1 → Within k (getD lo j 0)
-  pub high-within : (j : ℕ) → j < n + 1 → Within k (getD hi j 0)
+  pub low-within : (j : ℕ) → j < width → Within k (getD lo j 0)
+  pub high-within : (j : ℕ) → j < width → Within k (getD hi j 0)
 
-pub limbs-fresh : {p n r : ℕ} {e pivots lo hi : List ℕ} → Clearable p n r e pivots lo hi → Limbs 1 n lo hi
+pub limbs-fresh : {p width r : ℕ} {e pivots lo hi : List ℕ} → Clearable p width r e pivots lo hi → Limbs 1 width lo hi
 limbs-fresh c =
     record {
       long-lo = c .long-lo;
@@ -49,7 +49,7 @@ limbs-fresh c =
       high-within = λ j h. rw (c .fresh j) (within-more 0 1 0 (omega arith) within-zero);
     }
 
-pub limbs-ready : {k n : ℕ} {lo hi : List ℕ} → k ≤ limbBase → n + 1 ≤ widestRow → Limbs k n lo hi → Ready (n + 1) lo hi
+pub limbs-ready : {k width : ℕ} {lo hi : List ℕ} → k ≤ limbBase → width ≤ widestRow → Limbs k width lo hi → Ready width lo hi
 limbs-ready {k} b w l =
     record {
       small = w;
@@ -59,20 +59,20 @@ limbs-ready {k} b w l =
       fits-hi = λ j h. within-fits k _ b (l .high-within j h);
     }
 
-module _ (p n r : ℕ) (e pivots : List ℕ) (positive : 0 < p) (in-range : p ≤ largestModulus) (room : WorkedRoom p e)
-    (ps : Pivots (n + 1) r pivots) {g : ℕ} {lo hi : List ℕ} {four : Four}
-    (taken : GroupTaken p (n + 1) r g pivots lo hi four)
+module _ (p width r : ℕ) (e pivots : List ℕ) (positive : 0 < p) (in-range : p ≤ largestModulus) (room : WorkedRoom p e)
+    (ps : Pivots width r pivots) {g : ℕ} {lo hi : List ℕ} {four : Four}
+    (taken : GroupTaken p width r g pivots lo hi four)
   where
     -- a row with its multiplier lies in the memory of the worked rows
-    row-in : {t : ℕ} {row : Row} → IsPivotRow p (n + 1) r t pivots lo hi row → Inside (n + 1) e row
+    row-in : {t : ℕ} {row : Row} → IsPivotRow p width r t pivots lo hi row → Inside width e row
     unfolding Short
     row-in {t} {row} i = record { short = omega (arith, i .below); in-table = place (decLt t r) }
       where
-        place : Dec (t < r) → row .at + (n + 1) ≤ length e
-        place (yes h) = omega (arith, i .place h, room .long, row-inside t (n + 1) (omega (arith, ps .few)) (ps .narrow))
+        place : Dec (t < r) → row .at + width ≤ length e
+        place (yes h) = omega (arith, i .place h, room .long, row-inside t width (omega (arith, ps .few)) (ps .narrow))
         place (no h) = omega (arith, i .first (omega arith), room .long, ps .narrow)
 
-    pub four-inside : FourInside (n + 1) e four
+    pub four-inside : FourInside width e four
     four-inside =
         record {
           table-short = below-shorts p e in-range (room .below);
@@ -91,8 +91,8 @@ module _ (p n r : ℕ) (e pivots : List ℕ) (positive : 0 < p) (in-range : p �
         (quarter-product _ _ (i .third .short) (i .table-short _)) (quarter-product _ _ (i .fourth .short) (i .table-short _)))
 
     -- in front of the least pivot of the group its rows are 0
-    pub nothing-before : {v : ℕ} → NoPivotBefore (n + 1) r g pivots v → Leading (residues p) r (workedRows p e (n + 1)) (pivotsOf pivots)
-        → NothingBefore (n + 1) v e four
+    pub nothing-before : {v : ℕ} → NoPivotBefore width r g pivots v → Leading (residues p) r (workedRows p e width) (pivotsOf pivots)
+        → NothingBefore width v e four
     unfolding fourAt productAt
     nothing-before {v} l leading =
         record {
@@ -107,22 +107,22 @@ module _ (p n r : ℕ) (e pivots : List ℕ) (positive : 0 < p) (in-range : p �
               );
         }
       where
-        product-none : {t : ℕ} {row : Row} → IsPivotRow p (n + 1) r t pivots lo hi row → g ≤ t → t < g + 4 → (j : ℕ) → j < v
+        product-none : {t : ℕ} {row : Row} → IsPivotRow p width r t pivots lo hi row → g ≤ t → t < g + 4 → (j : ℕ) → j < v
             → productAt e row j ≡ 0
         product-none {t} {row} i a b j h = at (decLt t r)
           where
             at : Dec (t < r) → row .times * getD e (row .at + j) 0 ≡ 0
             at (yes k) =
-                let room-for = row-inside t (n + 1) (omega (arith, ps .few)) (ps .narrow) in
+                let room-for = row-inside t width (omega (arith, ps .few)) (ps .narrow) in
                 let in-row : j < pivotsOf pivots t = omega (arith, l .least t a b k) in
-                let none : getD e (t * (n + 1) + j) 0 ≡ 0 =
+                let none : getD e (t * width + j) 0 ≡ 0 =
                 reduce-zero p _ (room .below _ (omega (arith, room .long, room-for, ps .inside t k))) (leading t j k in-row)
                 in
                 ap (λ q. row .times * getD e (q + j) 0) (i .place k) ∙ ap (λ m. row .times * m) none ∙ mul-zero (row .times)
             at (no k) = ap (λ m. m * getD e (row .at + j) 0) (i .no-multiplier (omega arith)) ∙ zero-mul (getD e (row .at + j) 0)
 
     -- the limbs with the group added
-    pub limbs-more : {k : ℕ} {los his : List ℕ} → Limbs k n lo hi → Added (n + 1) (fourAt e four) lo hi los his → Limbs (k + 1) n los his
+    pub limbs-more : {k : ℕ} {los his : List ℕ} → Limbs k width lo hi → Added width (fourAt e four) lo hi los his → Limbs (k + 1) width los his
     limbs-more {k} l a =
         record {
           long-lo = a .long-lo ∙ l .long-lo;
@@ -132,8 +132,8 @@ module _ (p n r : ℕ) (e pivots : List ℕ) (positive : 0 < p) (in-range : p �
         }
 
     -- what a row adds is its multiplier times the worked row
-    term : {t : ℕ} {row : Row} → IsPivotRow p (n + 1) r t pivots lo hi row → (j : ℕ)
-        → reduce p (productAt e row j) ≡ reduce p (row .times) ⊗ workedRows p e (n + 1) t j
+    term : {t : ℕ} {row : Row} → IsPivotRow p width r t pivots lo hi row → (j : ℕ)
+        → reduce p (productAt e row j) ≡ reduce p (row .times) ⊗ workedRows p e width t j
     unfolding productAt
     term {t} {row} i j = reduce-times p (row .times) _ ∙ at-row (decLt t r)
       where
@@ -141,19 +141,19 @@ module _ (p n r : ℕ) (e pivots : List ℕ) (positive : 0 < p) (in-range : p �
         L = residues-ring p positive
 
         at-row : Dec (t < r)
-            → reduce p (row .times) ⊗ reduce p (getD e (row .at + j) 0) ≡ reduce p (row .times) ⊗ workedRows p e (n + 1) t j
+            → reduce p (row .times) ⊗ reduce p (getD e (row .at + j) 0) ≡ reduce p (row .times) ⊗ workedRows p e width t j
         at-row (yes h) = ap (λ q. reduce p (row .times) ⊗ reduce p (getD e (q + j) 0)) (i .place h)
         at-row (no h) =
             let none = i .no-multiplier (omega arith) in
             ap (λ c. reduce p c ⊗ reduce p (getD e (row .at + j) 0)) none
             ∙ rings.zero-times (residues p) L (reduce p (getD e (row .at + j) 0))
-            ∙ sym (rings.zero-times (residues p) L (workedRows p e (n + 1) t j))
-            ∙ ap (λ c. reduce p c ⊗ workedRows p e (n + 1) t j) (sym none)
+            ∙ sym (rings.zero-times (residues p) L (workedRows p e width t j))
+            ∙ ap (λ c. reduce p c ⊗ workedRows p e width t j) (sym none)
 
-    first-row : IsPivotRow p (n + 1) r (g + 0) pivots lo hi (four .a)
+    first-row : IsPivotRow p width r (g + 0) pivots lo hi (four .a)
     first-row =
         let here : g ≡ g + 0 = omega arith in
-        subst (λ t. IsPivotRow p (n + 1) r t pivots lo hi (four .a)) here (taken .row-a)
+        subst (λ t. IsPivotRow p width r t pivots lo hi (four .a)) here (taken .row-a)
 
     -- the four multipliers
     multipliers : ℕ → Residue p
@@ -163,7 +163,7 @@ module _ (p n r : ℕ) (e pivots : List ℕ) (positive : 0 < p) (in-range : p �
     multipliers (suc (suc (suc k))) = reduce p (four .d .times)
 
     -- the group adds the combination of its rows
-    combination : (j : ℕ) → reduce p (fourAt e four j) ≡ mixed (residues p) 4 multipliers (λ k. workedRows p e (n + 1) (g + k)) j
+    combination : (j : ℕ) → reduce p (fourAt e four j) ≡ mixed (residues p) 4 multipliers (λ k. workedRows p e width (g + k)) j
     unfolding fourAt mixed sum multipliers
     combination j =
         reduce-plus p (productAt e (four .a) j + productAt e (four .b) j + productAt e (four .c) j) (productAt e (four .d) j)
@@ -175,8 +175,8 @@ module _ (p n r : ℕ) (e pivots : List ℕ) (positive : 0 < p) (in-range : p �
         (term (taken .row-c) j))
         (term (taken .row-d) j)
 
-    group-added : {los his : List ℕ} → Added (n + 1) (fourAt e four) lo hi los his
-        → GroupAdded (residues p) g n r (workedRows p e (n + 1)) (pivotsOf pivots) (rowIn p lo hi) (rowIn p los his)
+    group-added : {los his : List ℕ} → Added width (fourAt e four) lo hi los his
+        → GroupAdded (residues p) g width r (workedRows p e width) (pivotsOf pivots) (rowIn p lo hi) (rowIn p los his)
     unfolding wholeAt multipliers
     group-added a =
         record {
@@ -204,13 +204,13 @@ module _ (p n r : ℕ) (e pivots : List ℕ) (positive : 0 < p) (in-range : p �
         beyond (suc (suc (suc (suc k)))) h l = absurd (omega arith)
 
     -- the row is cleared at the pivots of one group more
-    pub group-cleared : (1 < p) → (q : ℕ) → g ≡ 4 * q → GroupsCleared p n r e pivots → {x : Vector (residues p)} {los his : List ℕ}
-        → ClearedTo (residues p) (4 * q) 0 n (λ i. x) r (workedRows p e (n + 1)) (pivotsOf pivots) (rowIn p lo hi)
-        → Added (n + 1) (fourAt e four) lo hi los his
-        → ClearedTo (residues p) (4 * (q + 1)) 0 n (λ i. x) r (workedRows p e (n + 1)) (pivotsOf pivots) (rowIn p los his)
+    pub group-cleared : (1 < p) → (q : ℕ) → g ≡ 4 * q → GroupsCleared p width r e pivots → {x : Vector (residues p)} {los his : List ℕ}
+        → ClearedTo (residues p) (4 * q) 0 width (λ i. x) r (workedRows p e width) (pivotsOf pivots) (rowIn p lo hi)
+        → Added width (fourAt e four) lo hi los his
+        → ClearedTo (residues p) (4 * (q + 1)) 0 width (λ i. x) r (workedRows p e width) (pivotsOf pivots) (rowIn p los his)
     group-cleared proper q at-q groups {x} {los} {his} c a =
         let more : 4 * q + 4 ≡ 4 * (q + 1) = omega arith in
-        subst (λ k. ClearedTo (residues p) k 0 n (λ i. x) r (workedRows p e (n + 1)) (pivotsOf pivots) (rowIn p los his)) more
+        subst (λ k. ClearedTo (residues p) k 0 width (λ i. x) r (workedRows p e width) (pivotsOf pivots) (rowIn p los his)) more
         (cleared.cleared-group (residues p) (residues-ring p positive) (one-not-zero p proper) q groups
         (λ t h. omega (arith, ps .inside t h)) c
-        (subst (λ k. GroupAdded (residues p) k n r (workedRows p e (n + 1)) (pivotsOf pivots) (rowIn p lo hi) (rowIn p los his)) at-q (group-added a)))
+        (subst (λ k. GroupAdded (residues p) k width r (workedRows p e width) (pivotsOf pivots) (rowIn p lo hi) (rowIn p los his)) at-q (group-added a)))

@@ -28,26 +28,25 @@ use Rattle.matrix_echelon.specs.Group.{workedRows, pivotsOf, WorkedRoom}
 use Rattle.matrix_echelon.specs.Forward.{Held}
 use Rattle.matrix_echelon.specs.Reduced.{FirstFree, RowLessened, ReducedForm, Pivoting, RowsByPivot}
 use Rattle.matrix_echelon.proofs.Groups.{one-not-zero}
-use Rattle.matrix_echelon.proofs.Grids.{wide-cut, wide-last, rank-worked}
+use Rattle.matrix_echelon.proofs.Grids.{wide-cut, wide-behind, rank-worked}
 
 -- e has become e′, whose rows from t on are reduced
 pub record RowsReduced (p width r t : ℕ) (pivots e e′ : List ℕ) : Type 0 where
   pub room : WorkedRoom p e′
   pub rows :
-      (m n : ℕ) (M : Matrix (residues p)) → width ≡ n + 1
-      → Worked (residues p) m n M r (workedRows p e width) (pivotsOf pivots)
-      → Worked (residues p) m n M r (workedRows p e′ width) (pivotsOf pivots) × ReducedFrom (residues p) t r (workedRows p e′ width) (pivotsOf pivots)
+      (m n : ℕ) (M : Matrix (residues p)) → Worked (residues p) m n width M r (workedRows p e width) (pivotsOf pivots)
+      → Worked (residues p) m n width M r (workedRows p e′ width) (pivotsOf pivots) × ReducedFrom (residues p) t r (workedRows p e′ width) (pivotsOf pivots)
 
 pub reduced-none : {p width r : ℕ} {pivots e : List ℕ} → WorkedRoom p e → RowsReduced p width r r pivots e e
-reduced-none room = record { room = room; rows = λ m n M h w. (w, λ s t l b k. absurd (omega arith)) }
+reduced-none room = record { room = room; rows = λ m n M w. (w, λ s t l b k. absurd (omega arith)) }
 
 -- every column in front of `from` has a pivot
 abbrev pub TakenBefore : (from r : ℕ) (pivots : List ℕ) → Type 0
 TakenBefore from r pivots = (j : ℕ) → j < from → (s : ℕ) × ((s < r) × (getD pivots s 0 ≡ j))
 
 -- what is written in front of `from` is what the other rows make of the row there
-module _ {p width from r t m n : ℕ} {pivots e e′ : List ℕ} {M : Matrix (residues p)} (proper : 1 < p) (long : width ≡ n + 1)
-    (taken : TakenBefore from r pivots) (w : Worked (residues p) m n M r (workedRows p e width) (pivotsOf pivots)) (l : t < r)
+module _ {p width from r t m n : ℕ} {pivots e e′ : List ℕ} {M : Matrix (residues p)} (proper : 1 < p)
+    (taken : TakenBefore from r pivots) (w : Worked (residues p) m n width M r (workedRows p e width) (pivotsOf pivots)) (l : t < r)
     (after : ReducedFrom (residues p) (suc t) r (workedRows p e width) (pivotsOf pivots)) (h : RowLessened p width from r t pivots e e′) where
   ring : IsCommutativeRing (residues p)
   ring = residues-ring p (omega (arith, proper))
@@ -65,14 +64,14 @@ module _ {p width from r t m n : ℕ} {pivots e e′ : List ℕ} {M : Matrix (re
           (ne-eqb j (getD pivots t 0) (λ same. differs (pivots-differ (residues p) ring (one-not-zero p proper) w s t k l (at ∙ same))))
           ∙ sym (unit-other (residues p) s t differs)
 
-  pub lessened-reduced : RowReduced (residues p) n r t (workedRows p e width) (pivotsOf pivots) (workedRows p e′ width)
-  lessened-reduced = record { row = λ j b. row j b (decLt j from); rest = λ s j k d b. h .rest s j d (omega (arith, long)) }
+  pub lessened-reduced : RowReduced (residues p) width r t (workedRows p e width) (pivotsOf pivots) (workedRows p e′ width)
+  lessened-reduced = record { row = λ j b. row j b (decLt j from); rest = λ s j k d b. h .rest s j d b }
     where
-      row : (j : ℕ) → j < suc n → Dec (j < from)
+      row : (j : ℕ) → j < width → Dec (j < from)
           → workedRows p e′ width t j
           ≡ workedRows p e width t j
           ⊕ mixed (residues p) r (others (residues p) t (workedRows p e width) (pivotsOf pivots)) (workedRows p e width) j
-      row j b (no k) = h .row j (omega arith) (omega (arith, long))
+      row j b (no k) = h .row j (omega arith) b
       row j b (yes k) =
           let (s, (c, at)) = taken j k in
           unit-front j s k c at
@@ -88,25 +87,26 @@ pub reduced-more : {p width from r t : ℕ} {pivots e e′ e″ : List ℕ} → 
 reduced-more {p} {width} {from} {r} {t} {pivots} {e} {e′} {e″} proper some most taken k h =
     record {
       room = h .room;
-      rows = λ m n M long w.
-          let (w′, after) = k .rows m n M long w in
+      rows = λ m n M w.
+          let (w′, after) = k .rows m n M w in
           let later : ReducedFrom (residues p) (suc (t - 1)) r (workedRows p e′ width) (pivotsOf pivots) = λ s q l b c. after s q l (omega arith) c in
           row-reduced (residues p) (residues-ring p (omega arith)) (one-not-zero p proper) w′ (omega arith) later
-          (lessened-reduced proper long taken w′ (omega arith) later h);
+          (lessened-reduced proper taken w′ (omega arith) later h);
     }
 
-module _ {p : ℕ} {g : Grid} {a w : List ℕ} {step r : ℕ} {e e′ pivots : List ℕ} (proper : 1 < p)
-    (h : Held p g (g .rows) a w step r e pivots) (k : RowsReduced p (g .columns + 1) r 0 pivots e e′) where
+module _ {p : ℕ} {g : Grid} {a w : List ℕ} {step carried r : ℕ} {e e′ pivots : List ℕ} (proper : 1 < p)
+    (h : Held p g (g .rows) a w step carried r e pivots) (k : RowsReduced p (g .columns + carried) r 0 pivots e e′) where
   L : IsCommutativeRing (residues p)
   L = residues-ring p (omega (arith, proper))
 
-  worked : Worked (residues p) (g .rows) (g .columns) (wide p g a w step) r (workedRows p e′ (g .columns + 1)) (pivotsOf pivots)
-  worked = k .rows (g .rows) (g .columns) (wide p g a w step) refl (h .worked) .0
+  worked :
+      Worked (residues p) (g .rows) (g .columns) (g .columns + carried) (wide p g a w step) r (workedRows p e′ (g .columns + carried)) (pivotsOf pivots)
+  worked = k .rows (g .rows) (g .columns) (wide p g a w step) (h .worked) .0
 
-  all-reduced : ReducedFrom (residues p) 0 r (workedRows p e′ (g .columns + 1)) (pivotsOf pivots)
-  all-reduced = k .rows (g .rows) (g .columns) (wide p g a w step) refl (h .worked) .1
+  all-reduced : ReducedFrom (residues p) 0 r (workedRows p e′ (g .columns + carried)) (pivotsOf pivots)
+  all-reduced = k .rows (g .rows) (g .columns) (wide p g a w step) (h .worked) .1
 
-  pub reduced-form : ReducedForm p g a w step r e′ pivots
+  pub reduced-form : ReducedForm p g a w step carried r e′ pivots
   reduced-form =
       record {
         rank = rank-worked w step worked;
@@ -119,9 +119,9 @@ module _ {p : ℕ} {g : Grid} {a w : List ℕ} {step r : ℕ} {e e′ pivots : L
         row = λ t j l b.
             reduced-row (residues p) L (one-not-zero p proper) worked all-reduced t l j b
             ∙ ap (λ X. product (residues p) (g .rows) (worked .D) X (pivotsOf pivots t) j) (wide-cut p g a w step);
-        carried = λ t l.
-            reduced-carried (residues p) L (one-not-zero p proper) worked all-reduced t l
-            ∙ ap (λ v. apply (residues p) (g .rows) (worked .D) v (pivotsOf pivots t)) (wide-last p g a w step);
+        carried = λ t u l b.
+            reduced-carried (residues p) L (one-not-zero p proper) worked all-reduced t l (g .columns + u) (omega arith)
+            ∙ ap (λ v. apply (residues p) (g .rows) (worked .D) v (pivotsOf pivots t)) (wide-behind p g a w step u);
       }
 
 -- in front of the first free column every column has a pivot
@@ -137,7 +137,7 @@ taken-before {n} {r} {from} {pivots} {at} small k f j h = go (getD at j 0) refl
     go (suc s) e = (s, k .row j s e)
 
 -- what the reduced form says of the pivots: they lie in the longest row, and a column where none stands is outside I
-module _ {p : ℕ} {g : Grid} {a w : List ℕ} {step r : ℕ} {e pivots : List ℕ} (f : ReducedForm p g a w step r e pivots) where
+module _ {p : ℕ} {g : Grid} {a w : List ℕ} {step carried r : ℕ} {e pivots : List ℕ} (f : ReducedForm p g a w step carried r e pivots) where
   pub reduced-pivoting : g .columns ≤ longestRow → Pivoting r pivots
   reduced-pivoting most =
       record {

@@ -1,9 +1,10 @@
 -- Substituting back. From the last worked row on the number at each pivot is that of D w, whatever table the rows come from; the other
 -- numbers are 0. One row more has its number at its pivot. After the first row the list is D w, since D is 0 outside the pivots.
-use mathlib.Core.Path.{_≡_, sym, ap, _∙_}
+use mathlib.Core.Path.{_≡_, sym, ap, _∙_, fun-ext}
 use mathlib.Core.Bool.{true, false}
 use mathlib.Core.List.{List}
 use Prim.Native.Nat.{ℕ, _+_, _*_, _≤_, _<_}
+use native.Mathlib.Nat.{add-zero}
 use native.Mathlib.Decide.{ℕ-discrete}
 use native.Mathlib.Omega.{arith}
 use lib.ListN.{length, getD, set, length-set}
@@ -28,18 +29,19 @@ use Rattle.field.proofs.Views.{blank-below}
 use Rattle.field.proofs.Written.{is-tabulate}
 use Rattle.matrix_mul.proofs.PlaceRows.{IsPart}
 use Rattle.matrix_echelon.specs.declared.Grid.{Grid}
+use Rattle.matrix_echelon.specs.Grid.{wide}
 use Rattle.matrix_echelon.specs.Group.{workedRows, pivotsOf}
 use Rattle.matrix_echelon.specs.Forward.{Held}
 use Rattle.matrix_echelon.specs.Reduced.{SolutionFound}
 use Rattle.matrix_echelon.proofs.Groups.{one-not-zero}
-use Rattle.matrix_echelon.proofs.Grids.{wide-last, rank-worked}
+use Rattle.matrix_echelon.proofs.Grids.{wide-carried, rank-worked}
 
 -- z is D w at the pivots of the worked rows from t on, and 0 elsewhere
 pub record SolvedFrom (p n r t : ℕ) (e pivots z : List ℕ) : Type 0 where
   pub long : length z ≡ n
   pub below : Below p z
   pub at-pivot :
-      (m : ℕ) (M : Matrix (residues p)) (k : Worked (residues p) m n M r (workedRows p e (n + 1)) (pivotsOf pivots)) (s : ℕ)
+      (m : ℕ) (M : Matrix (residues p)) (k : Worked (residues p) m n (n + 1) M r (workedRows p e (n + 1)) (pivotsOf pivots)) (s : ℕ)
       → t ≤ s → s < r → reduce p (getD z (getD pivots s 0) 0) ≡ apply (residues p) m (k .D) (λ i. M i n) (getD pivots s 0)
   pub elsewhere : (c : ℕ) → c < n → ((s : ℕ) → t ≤ s → s < r → getD pivots s 0 ≡ c → ⊥) → getD z c 0 ≡ 0
 
@@ -94,7 +96,7 @@ module _ {p n r t : ℕ} {e pivots z row : List ℕ} {y v : ℕ} (proper : 1 < p
           rw (ap (λ q. getD (set z at v) q 0) d ∙ here) (below-of-value (omega arith) (workedRows p e (n + 1) t n ⊕ negated (reduce p y)) is-number)
       by-place (no d) = rw (other c d) (k .below c (omega (arith, length-set z at v)))
 
-  module _ (m : ℕ) (M : Matrix (residues p)) (w : Worked (residues p) m n M r (workedRows p e (n + 1)) (pivotsOf pivots)) where
+  module _ (m : ℕ) (M : Matrix (residues p)) (w : Worked (residues p) m n (n + 1) M r (workedRows p e (n + 1)) (pivotsOf pivots)) where
     abbrev solution : ℕ → Residue p
     solution = apply (residues p) m (w .D) (λ i. M i n)
 
@@ -103,7 +105,7 @@ module _ {p n r t : ℕ} {e pivots z row : List ℕ} {y v : ℕ} (proper : 1 < p
         reduce-of-value _ is-number
         ∙ ap (λ q. workedRows p e (n + 1) t n ⊕ negated q) (reduce-of-value _ is-sum ∙ row-sum p n t e row z part)
         ∙ sym
-        (back-substituted (residues p) L (one-not-zero p proper) w (λ j. reduce p (getD z j 0)) t one-of
+        (back-substituted (residues p) L (one-not-zero p proper) w n (omega arith) (λ j. reduce p (getD z j 0)) t one-of
         (λ s h l. k .at-pivot m M w s (omega arith) l)
         (λ c h f. ap (reduce p) (k .elsewhere c h (λ s b l. f s (omega arith) l))))
 
@@ -129,7 +131,7 @@ module _ {p n r t : ℕ} {e pivots z row : List ℕ} {y v : ℕ} (proper : 1 < p
 
 -- all rows are done
 module _ {p m n : ℕ} {M : Matrix (residues p)} {r : ℕ} {e pivots z : List ℕ} (positive : 0 < p)
-    (w : Worked (residues p) m n M r (workedRows p e (n + 1)) (pivotsOf pivots)) (k : SolvedFrom p n r 0 e pivots z) where
+    (w : Worked (residues p) m n (n + 1) M r (workedRows p e (n + 1)) (pivotsOf pivots)) (k : SolvedFrom p n r 0 e pivots z) where
   solved-at : (c : ℕ) → c < n → reduce p (getD z c 0) ≡ apply (residues p) m (w .D) (λ i. M i n) c
   solved-at c h = by-test (w .I c) pivot outside
     where
@@ -147,11 +149,15 @@ module _ {p m n : ℕ} {M : Matrix (residues p)} {r : ℕ} {e pivots z : List �
   all-solved = is-tabulate n _ z (k .long) (λ c h. value-unique p _ _ (k .below c (omega (arith, k .long))) (solved-at c h))
 
 pub solution-found : {p : ℕ} {g : Grid} {a w : List ℕ} {step r : ℕ} {e pivots z : List ℕ} → 0 < p
-    → Held p g (g .rows) a w step r e pivots → SolvedFrom p (g .columns) r 0 e pivots z → SolutionFound p g a w step r z
+    → Held p g (g .rows) a w step 1 r e pivots → SolvedFrom p (g .columns) r 0 e pivots z → SolutionFound p g a w step r z
 solution-found {p} {g} {a} {w} {step} positive h k =
     record {
       rank = rank-worked w step (h .worked);
       is-solution =
           all-solved positive (h .worked) k
-          ∙ ap (λ x. numbers (g .columns) (apply (residues p) (g .rows) (h .worked .D) x)) (wide-last p g a w step);
+          ∙ ap (λ x. numbers (g .columns) (apply (residues p) (g .rows) (h .worked .D) x)) (fun-ext carried);
     }
+  where
+    -- the column behind the table is the carried one
+    carried : (i : ℕ) → wide p g a w step i (g .columns) ≡ line p w 0 step i
+    carried i = ap (wide p g a w step i) (sym (add-zero (g .columns))) ∙ wide-carried p g a w step i 0

@@ -2,7 +2,7 @@
 -- column has its pivot nothing is to be done.
 use mathlib.Core.Path.{_≡_, sym, ap, _∙_, subst}
 use mathlib.Core.List.{List}
-use Prim.Native.Nat.{ℕ, suc, _+_, _*_, _≤_, _<_}
+use Prim.Native.Nat.{ℕ, suc, _+_, _*_, _-_, _≤_, _<_}
 use native.Mathlib.Decide.{decLt}
 use native.Mathlib.Omega.{arith}
 use lib.ListN.{length, getD, take, List·getD-eq-default}
@@ -24,25 +24,25 @@ use Rattle.matrix_echelon.specs.Group.{rowIn, workedRows, pivotsOf, RowR
 use Rattle.matrix_echelon.specs.Forward.{Room, Settleable, RowSettled, Held, Workable}
 use Rattle.matrix_echelon.proofs.Groups.{one-not-zero}
 use Rattle.matrix_echelon.proofs.Settle.{modulus-proper}
-use Rattle.matrix_echelon.proofs.Grids.{wide-front, wide-carried, pivot-in-columns, pivots-held}
+use Rattle.matrix_echelon.proofs.Grids.{wide-front, wide-carried, pivots-held}
 
 -- no row yet
-pub held-none : {p : ℕ} {g : Grid} {a w : List ℕ} {step : ℕ} {e pivots : List ℕ} → Readable p g a w step → Room p e pivots
-    → Held p g 0 a w step 0 e pivots
-held-none {p} {g} {a} {w} {step} {e} {pivots} s r =
+pub held-none : {p : ℕ} {g : Grid} {a w : List ℕ} {step carried : ℕ} {e pivots : List ℕ} → Readable p g a w step carried → Room p e pivots
+    → Held p g 0 a w step carried 0 e pivots
+held-none {p} {g} {a} {w} {step} {carried} {e} {pivots} s r =
     let proper = modulus-proper (s .table .is-modulus) in
     record {
       room = r;
       leading = λ t j h. absurd (omega arith);
       worked =
-          worked-none (residues p) (residues-ring p (omega (arith, proper))) (one-not-zero p proper) (g .columns) (wide p g a w step)
-          (workedRows p e (g .columns + 1)) (pivotsOf pivots);
+          worked-none (residues p) (residues-ring p (omega (arith, proper))) (one-not-zero p proper) (g .columns) (g .columns + carried)
+          (wide p g a w step) (workedRows p e (g .columns + carried)) (pivotsOf pivots) (omega arith);
     }
 
 -- every column has its pivot
-pub held-follows : {p : ℕ} {g : Grid} {i : ℕ} {a w : List ℕ} {step r : ℕ} {e pivots : List ℕ} → Readable p g a w step → g .columns ≤ r
-    → Held p g i a w step r e pivots → Held p g (suc i) a w step r e pivots
-held-follows {p} {g} {i} {a} {w} {step} {r} {e} {pivots} s full h =
+pub held-follows : {p : ℕ} {g : Grid} {i : ℕ} {a w : List ℕ} {step carried r : ℕ} {e pivots : List ℕ} → Readable p g a w step carried → g .columns ≤ r
+    → Held p g i a w step carried r e pivots → Held p g (suc i) a w step carried r e pivots
+held-follows {p} {g} {i} {a} {w} {step} {carried} {r} {e} {pivots} s full h =
     record {
       room = h .room;
       leading = h .leading;
@@ -56,32 +56,37 @@ held-follows {p} {g} {i} {a} {w} {step} {r} {e} {pivots} s full h =
     L = residues-ring p (omega (arith, proper))
 
     Rows : ℕ → ℕ → Type 0
-    Rows k q = Worked (residues p) k (g .columns) (wide p g a w step) q (workedRows p e (g .columns + 1)) (pivotsOf pivots)
+    Rows k q = Worked (residues p) k (g .columns) (g .columns + carried) (wide p g a w step) q (workedRows p e (g .columns + carried)) (pivotsOf pivots)
 
     is-n : r ≡ g .columns
     is-n = omega (arith, rank-columns (residues p) L (one-not-zero p proper) (h .worked))
 
-module _ (p : ℕ) (g : Grid) (i : ℕ) (a w : List ℕ) (step r : ℕ) (e pivots : List ℕ) (s : Workable p g i a w step r e pivots) where
+module _ (p : ℕ) (g : Grid) (i : ℕ) (a w : List ℕ) (step carried r : ℕ) (e pivots : List ℕ)
+    (s : Workable p g i a w step carried r e pivots) where
   proper : 1 < p
   proper = modulus-proper (s .readable .table .is-modulus)
 
   L : IsCommutativeRing (residues p)
   L = residues-ring p (omega (arith, proper))
 
-  worked : Worked (residues p) i (g .columns) (wide p g a w step) r (workedRows p e (g .columns + 1)) (pivotsOf pivots)
+  worked : Worked (residues p) i (g .columns) (g .columns + carried) (wide p g a w step) r (workedRows p e (g .columns + carried)) (pivotsOf pivots)
   worked = s .held .worked
 
-  pub row-readable : RowReadable g i a w step
+  pub row-readable : RowReadable g i a w step carried
   row-readable =
       record {
-        some = omega (arith, s .free);
-        narrow = s .readable .table .columns-most;
-        inside = λ j h. s .readable .table .inside i j (s .in-table) h;
-        carried = omega (arith, s .readable .carried i (s .in-table));
+        numbers =
+            record {
+              some = omega (arith, s .free);
+              narrow = s .readable .table .columns-most;
+              inside = λ j h. s .readable .table .inside i j (s .in-table) h;
+            };
+        carried-most = s .readable .carried-most;
+        carried-inside = λ u h. omega (arith, s .readable .reaches u h i (s .in-table));
       }
 
-  module _ (lo hi : List ℕ) (l : RowRead g i a w step lo) (z : Zeros widestRow hi) where
-    pub clearable : Clearable p (g .columns) r e pivots lo hi
+  module _ (lo hi : List ℕ) (l : RowRead g i a w step carried lo) (z : Zeros widestRow hi) where
+    pub clearable : Clearable p (g .columns + carried) r e pivots lo hi
     clearable =
         record {
           proper = proper;
@@ -97,7 +102,7 @@ module _ (p : ℕ) (g : Grid) (i : ℕ) (a w : List ℕ) (step r : ℕ) (e pivot
         }
 
     -- the limbs stand for row i
-    row-there : (j : ℕ) → j < suc (g .columns) → rowIn p lo hi j ≡ wide p g a w step i j
+    row-there : (j : ℕ) → j < g .columns + carried → rowIn p lo hi j ≡ wide p g a w step i j
     unfolding wholeAt whole line
     row-there j h = at (decLt j (g .columns))
       where
@@ -107,49 +112,56 @@ module _ (p : ℕ) (g : Grid) (i : ℕ) (a w : List ℕ) (step r : ℕ) (e pivot
         at : Dec (j < g .columns) → reduce p (whole (getD lo j 0) (getD hi j 0)) ≡ wide p g a w step i j
         at (yes b) = ap (reduce p) (only-low ∙ l .each j b) ∙ sym (wide-front p g a w step i j b)
         at (no b) =
-            let e : j ≡ g .columns = omega arith in
-            let place : i * step ≡ 0 + i * step = omega arith in
-            ap (reduce p) only-low ∙ ap (λ k. reduce p (getD lo k 0)) e ∙ ap (reduce p) (l .last ∙ ap (λ q. getD w q 0) place)
-            ∙ sym (wide-carried p g a w step i)
+            let u = j - g .columns in
+            let e : j ≡ g .columns + u = omega arith in
+            let place : i * step + u ≡ u + i * step = omega arith in
+            ap (reduce p) only-low
+            ∙ ap (λ k. reduce p (getD lo k 0)) e
+            ∙ ap (reduce p) (l .behind u (omega arith) ∙ ap (λ q. getD w q 0) place)
+            ∙ sym (wide-carried p g a w step i u)
             ∙ ap (wide p g a w step i) (sym e)
 
-    module _ (los his : List ℕ) (c : PivotsCleared p (g .columns) r e pivots lo hi los his) where
-      pub settleable : (x : List ℕ) → Zeros widestRow x → Settleable p (g .columns) r los his (take (g .columns + 1) x) e pivots
+    -- the front of the room is as long as a worked row
+    room-long : (x : List ℕ) → Zeros widestRow x → length (take (g .columns + carried) x) ≡ g .columns + carried
+    room-long x y =
+        length-take-le (g .columns + carried) x (omega (arith, y .0, s .readable .table .columns-most, s .readable .carried-most))
+
+    module _ (los his : List ℕ) (c : PivotsCleared p (g .columns + carried) r e pivots lo hi los his) where
+      pub settleable : (x : List ℕ) → Zeros widestRow x → Settleable p (g .columns) r los his (take (g .columns + carried) x) e pivots
       settleable x y =
           record {
             is-modulus = s .readable .table .is-modulus;
-            narrow = s .readable .table .columns-most;
+            narrow = omega (arith, wide-long);
             few = omega (arith, s .free, s .readable .table .columns-most);
-            ready = c .ready;
-            x-long = length-take-le (g .columns + 1) x long;
+            ready = rw wide-long (c .ready);
             x-blank = blank;
             room = s .held .room;
           }
         where
-          long : g .columns + 1 ≤ length x
-          long = omega (arith, y .0, s .readable .table .columns-most)
+          wide-long : length (take (g .columns + carried) x) ≡ g .columns + carried
+          wide-long = room-long x y
 
-          blank : Blank (take (g .columns + 1) x)
-          blank j = at (decLt j (g .columns + 1))
+          blank : Blank (take (g .columns + carried) x)
+          blank j = at (decLt j (g .columns + carried))
             where
-              at : Dec (j < g .columns + 1) → getD (take (g .columns + 1) x) j 0 ≡ 0
-              at (yes b) = getD-take (g .columns + 1) x j 0 b ∙ y .1 j
-              at (no b) = List·getD-eq-default (take (g .columns + 1) x) 0 (omega (arith, length-take-le (g .columns + 1) x long))
+              at : Dec (j < g .columns + carried) → getD (take (g .columns + carried) x) j 0 ≡ 0
+              at (yes b) = getD-take (g .columns + carried) x j 0 b ∙ y .1 j
+              at (no b) = List·getD-eq-default (take (g .columns + carried) x) 0 (omega (arith, wide-long))
 
-      row-cleared : Cleared (residues p) i (g .columns) (wide p g a w step) r (workedRows p e (g .columns + 1)) (pivotsOf pivots) (rowIn p los his)
+      row-cleared : Cleared (residues p) i (g .columns + carried) (wide p g a w step) r (workedRows p e (g .columns + carried)) (pivotsOf pivots) (rowIn p los his)
       row-cleared =
           record {
             by = c .cleared .by;
             beyond = c .cleared .beyond;
-            sums = λ j h. c .cleared .sums j h ∙ ap (λ y. residues p .plus y (mixed (residues p) r (c .cleared .by) (workedRows p e (g .columns + 1)) j)) (row-there j h);
+            sums = λ j h. c .cleared .sums j h ∙ ap (λ y. residues p .plus y (mixed (residues p) r (c .cleared .by) (workedRows p e (g .columns + carried)) j)) (row-there j h);
             zeros-at = c .cleared .zeros-at;
           }
 
-      pub row-worked : {r′ : ℕ} {e′ pivots′ : List ℕ} → RowSettled p (g .columns) r los his e pivots r′ e′ pivots′
-          → Held p g (suc i) a w step r′ e′ pivots′
-      row-worked t =
+      pub row-worked : (x : List ℕ) → Zeros widestRow x → {r′ : ℕ} {e′ pivots′ : List ℕ}
+          → RowSettled p (g .columns) r los his (take (g .columns + carried) x) e pivots r′ e′ pivots′ → Held p g (suc i) a w step carried r′ e′ pivots′
+      row-worked x y t =
           record {
             room = t .room;
-            worked = t .worked i (wide p g a w step) worked row-cleared;
-            leading = t .leading (pivot-in-columns (s .readable) (s .held)) (s .held .leading);
+            worked = t .worked _ (room-long x y) i (wide p g a w step) worked row-cleared;
+            leading = t .leading _ (room-long x y) (pivots-held (s .readable) (s .held) .inside) (s .held .leading);
           }

@@ -54,10 +54,10 @@ module _ {p s : ℕ} {x x′ : List ℕ} {v r : ℕ} {e e′ pivots : List ℕ} 
   earlier-row t j h l = ap (reduce p) (put .2 (t * length x′ + j) (row-before t r (length x′) j h l))
 
   grown-rows :
-      (n : ℕ) → length x′ ≡ n + 1
-      → Grown (residues p) n r v (reduce p s) (λ j. reduce p (getD x j 0)) (workedRows p e (length x′)) (pivotsOf pivots)
+      (width : ℕ) → length x′ ≡ width
+      → Grown (residues p) width r v (reduce p s) (λ j. reduce p (getD x j 0)) (workedRows p e (length x′)) (pivotsOf pivots)
       (workedRows p e″ (length x′)) (pivotsOf (set pivots r v))
-  grown-rows n long =
+  grown-rows width long =
       record {
         new = λ j h. new-row j (omega arith) ∙ reduce-of-value _ (scaled .each j (omega (arith, scaled .same-length)));
         group =
@@ -86,12 +86,12 @@ module _ {p s : ℕ} {x x′ : List ℕ} {v r : ℕ} {e e′ pivots : List ℕ} 
         factor = reduce p s;
         to-one = one;
         grown =
-            λ n long.
-            let wide : length x′ ≡ n + 1 = scaled .same-length ∙ long in
+            λ width long.
+            let wide : length x′ ≡ width = scaled .same-length ∙ long in
             subst
             (λ w.
-            Grown (residues p) n r v (reduce p s) (λ j. reduce p (getD x j 0)) (workedRows p e w) (pivotsOf pivots) (workedRows p e″ w)
+            Grown (residues p) width r v (reduce p s) (λ j. reduce p (getD x j 0)) (workedRows p e w) (pivotsOf pivots) (workedRows p e″ w)
             (pivotsOf (set pivots r v)))
             wide
-            (grown-rows n wide);
+            (grown-rows width wide);
       }

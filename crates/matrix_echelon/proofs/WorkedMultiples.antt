@@ -83,6 +83,9 @@ pub record Spanned (at n : ℕ) (g : ℕ → ℕ) (before after : List ℕ) : Ty
   pub front : (q : ℕ) → q < at → getD after q 0 ≡ getD before q 0
   pub behind : (q : ℕ) → at + n ≤ q → getD after q 0 ≡ getD before q 0
 
+pub spanned-none : (at : ℕ) (g : ℕ → ℕ) (xs : List ℕ) → Spanned at 0 g xs xs
+spanned-none at g xs = record { long = refl; passed = λ j h. absurd (omega arith); front = λ q h. refl; behind = λ q h. refl }
+
 -- the multiple has been added at the places in front of `from`, since it is 0 there
 pub added-front : {p c : ℕ} {x : List ℕ} {from : ℕ} {e : List ℕ} {at : ℕ} → Addable p c x from e at
     → Spanned at from (addedAt p c x at e) e e

@@ -20,39 +20,40 @@ pub record Room (p : ℕ) (e pivots : List ℕ) : Type 0 where
   pub rows-in : WorkedRoom p e
   pub pivots-long : length pivots ≡ longestRow
 
--- limbs of a row of n numbers and a carried one, and room for it beside that for the worked rows
+-- limbs of a row of n numbers and the carried ones, and the room x for it beside that for the worked rows
 pub record Settleable (p n r : ℕ) (lo hi x e pivots : List ℕ) : Type 0 where
   pub is-modulus : IsModulus p
-  pub narrow : n ≤ longestRow
+  pub narrow : n ≤ length x
   pub few : r < longestRow
-  pub ready : Ready (n + 1) lo hi
-  pub x-long : length x ≡ n + 1
+  pub ready : Ready (length x) lo hi
   pub x-blank : Blank x
   pub room : Room p e pivots
 
--- what becomes of the worked rows of any table when the row is its next one, cleared at all pivots
-pub record RowSettled (p n r : ℕ) (lo hi e pivots : List ℕ) (r′ : ℕ) (e′ pivots′ : List ℕ) : Type 0 where
+-- what becomes of the worked rows, of `width` numbers as x, of any table when the row is its next one, cleared at all pivots
+pub record RowSettled (p n r : ℕ) (lo hi x e pivots : List ℕ) (r′ : ℕ) (e′ pivots′ : List ℕ) : Type 0 where
   pub room : Room p e′ pivots′
   pub worked :
-      (i : ℕ) (M : Matrix (residues p)) → Worked (residues p) i n M r (workedRows p e (n + 1)) (pivotsOf pivots)
-      → Cleared (residues p) i n M r (workedRows p e (n + 1)) (pivotsOf pivots) (rowIn p lo hi)
-      → Worked (residues p) (suc i) n M r′ (workedRows p e′ (n + 1)) (pivotsOf pivots′)
+      (width : ℕ) → length x ≡ width → (i : ℕ) (M : Matrix (residues p))
+      → Worked (residues p) i n width M r (workedRows p e width) (pivotsOf pivots)
+      → Cleared (residues p) i width M r (workedRows p e width) (pivotsOf pivots) (rowIn p lo hi)
+      → Worked (residues p) (suc i) n width M r′ (workedRows p e′ width) (pivotsOf pivots′)
   pub leading :
-      ((t : ℕ) → t < r → pivotsOf pivots t < n) → Leading (residues p) r (workedRows p e (n + 1)) (pivotsOf pivots)
-      → Leading (residues p) r′ (workedRows p e′ (n + 1)) (pivotsOf pivots′)
+      (width : ℕ) → length x ≡ width → ((t : ℕ) → t < r → pivotsOf pivots t < width)
+      → Leading (residues p) r (workedRows p e width) (pivotsOf pivots) → Leading (residues p) r′ (workedRows p e′ width) (pivotsOf pivots′)
 
 -- r worked rows have come of the first i rows of the table
-pub record Held (p : ℕ) (g : Grid) (i : ℕ) (a w : List ℕ) (step r : ℕ) (e pivots : List ℕ) : Type 0 where
+pub record Held (p : ℕ) (g : Grid) (i : ℕ) (a w : List ℕ) (step carried r : ℕ) (e pivots : List ℕ) : Type 0 where
   pub room : Room p e pivots
-  pub worked : Worked (residues p) i (g .columns) (wide p g a w step) r (workedRows p e (g .columns + 1)) (pivotsOf pivots)
-  pub leading : Leading (residues p) r (workedRows p e (g .columns + 1)) (pivotsOf pivots)
+  pub worked :
+      Worked (residues p) i (g .columns) (g .columns + carried) (wide p g a w step) r (workedRows p e (g .columns + carried)) (pivotsOf pivots)
+  pub leading : Leading (residues p) r (workedRows p e (g .columns + carried)) (pivotsOf pivots)
 
 -- row i can be worked off: some column has no pivot yet
-pub record Workable (p : ℕ) (g : Grid) (i : ℕ) (a w : List ℕ) (step r : ℕ) (e pivots : List ℕ) : Type 0 where
-  pub readable : Readable p g a w step
+pub record Workable (p : ℕ) (g : Grid) (i : ℕ) (a w : List ℕ) (step carried r : ℕ) (e pivots : List ℕ) : Type 0 where
+  pub readable : Readable p g a w step carried
   pub in-table : i < g .rows
   pub free : r < g .columns
-  pub held : Held p g i a w step r e pivots
+  pub held : Held p g i a w step carried r e pivots
 
 -- r is the number of columns of I, for a pivot inverse of the table
 pub record IsRank (p : ℕ) (g : Grid) (a : List ℕ) (r : ℕ) : Type 0 where

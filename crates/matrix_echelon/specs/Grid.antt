@@ -1,12 +1,12 @@
--- A table that is read in place, with a column that is carried along: the numbers of w at 0, step, 2 × step, .. .
+-- A table that is read in place, with columns that are carried along: column u has the numbers of w at u, u + step, u + 2 × step, .. .
 use mathlib.Core.List.{List}
-use Prim.Native.Nat.{ℕ, _+_, _*_, _≤_, _<_}
+use Prim.Native.Nat.{ℕ, _+_, _*_, _-_, _≤_, _<_}
 use lib.ListN.{length, getD}
 use lib.Dec.{ltb}
 use Rattle.algebra.specs.Choice.{choose}
 use Rattle.algebra.specs.Matrix.{Matrix, cut}
 use Rattle.checks.specs.Prime.{IsModulus}
-use Rattle.words.specs.Lengths.{longestRow}
+use Rattle.words.specs.Lengths.{longestRow, mostCarried}
 use Rattle.field.specs.Residue.{reduce, residues}
 use Rattle.field.specs.View.{line}
 use Rattle.field.specs.Products.{Reaches}
@@ -24,9 +24,9 @@ entryOf p g a i j = reduce p (getD a (gridPlace g i j) 0)
 unfoldable pub gridOf : (p : ℕ) → Grid → List ℕ → Matrix (residues p)
 gridOf p g a = cut (residues p) (g .rows) (g .columns) (entryOf p g a)
 
--- the table with its carried column behind it
+-- the table with its carried columns behind it
 unfoldable pub wide : (p : ℕ) → Grid → List ℕ → List ℕ → ℕ → Matrix (residues p)
-wide p g a w step i j = choose (ltb j (g .columns)) (entryOf p g a i j) (line p w 0 step i)
+wide p g a w step i j = choose (ltb j (g .columns)) (entryOf p g a i j) (line p w (j - g .columns) step i)
 
 -- the table lies in a
 pub record TableReadable (p : ℕ) (g : Grid) (a : List ℕ) : Type 0 where
@@ -35,7 +35,8 @@ pub record TableReadable (p : ℕ) (g : Grid) (a : List ℕ) : Type 0 where
   pub columns-most : g .columns ≤ longestRow
   pub inside : (i j : ℕ) → i < g .rows → j < g .columns → gridPlace g i j < length a
 
--- and the carried column in w
-pub record Readable (p : ℕ) (g : Grid) (a w : List ℕ) (step : ℕ) : Type 0 where
+-- and the carried columns in w
+pub record Readable (p : ℕ) (g : Grid) (a w : List ℕ) (step carried : ℕ) : Type 0 where
   pub table : TableReadable p g a
-  pub carried : Reaches (g .rows) 0 step (length w)
+  pub carried-most : carried ≤ mostCarried
+  pub reaches : (u : ℕ) → u < carried → Reaches (g .rows) u step (length w)

@@ -6,7 +6,7 @@ use lib.ListN.{length, getD}
 use Rattle.algebra.specs.Matrix.{Vector, Matrix, unit}
 use Rattle.algebra.specs.Echelon.{Cleared, Leading}
 use Rattle.checks.specs.Prime.{largestModulus}
-use Rattle.words.specs.Lengths.{longestRow, widestRow, widestTable}
+use Rattle.words.specs.Lengths.{longestRow, mostCarried, widestRow, widestTable}
 use Rattle.words.specs.Words.{Below}
 use Rattle.field.specs.Residue.{reduce, residues, negated}
 use Rattle.field.specs.Limbs.{limbBase, LimbFits}
@@ -16,19 +16,44 @@ use Rattle.matrix_mul.specs.Rows.{Powers, Ready, wholeAt}
 use Rattle.matrix_echelon.specs.declared.Grid.{Grid}
 use Rattle.matrix_echelon.specs.Grid.{gridPlace}
 
--- row i of a table that has columns, and its carried number, can be read
-pub record RowReadable (g : Grid) (i : ℕ) (a w : List ℕ) (step : ℕ) : Type 0 where
+-- row i of a table that has columns can be read
+pub record NumbersReadable (g : Grid) (i : ℕ) (a : List ℕ) : Type 0 where
   pub some : 0 < g .columns
   pub narrow : g .columns ≤ longestRow
   pub inside : (j : ℕ) → j < g .columns → gridPlace g i j < length a
-  pub carried : i * step < length w
 
--- the numbers of the row, and behind them the carried one
-pub record RowRead (g : Grid) (i : ℕ) (a w : List ℕ) (step : ℕ) (lo : List ℕ) : Type 0 where
+-- its numbers
+pub record NumbersRead (g : Grid) (i : ℕ) (a lo : List ℕ) : Type 0 where
   pub long : length lo ≡ widestRow
   pub each : (j : ℕ) → j < g .columns → getD lo j 0 ≡ getD a (gridPlace g i j) 0
-  pub last : getD lo (g .columns) 0 ≡ getD w (i * step) 0
-  pub small : (j : ℕ) → j ≤ g .columns → getD lo j 0 < limbBase
+  pub small : (j : ℕ) → j < g .columns → getD lo j 0 < limbBase
+
+-- the numbers carried behind the n numbers of row i can be read, and there is room for them
+pub record CarriedReadable (n i : ℕ) (w : List ℕ) (step carried : ℕ) (lo : List ℕ) : Type 0 where
+  pub narrow : n ≤ longestRow
+  pub carried-most : carried ≤ mostCarried
+  pub inside : (u : ℕ) → u < carried → i * step + u < length w
+  pub long : length lo ≡ widestRow
+
+-- lo has become lo′: they are behind the n numbers, which stay
+pub record CarriedRead (n i : ℕ) (w : List ℕ) (step carried : ℕ) (lo lo′ : List ℕ) : Type 0 where
+  pub long : length lo′ ≡ widestRow
+  pub front : (j : ℕ) → j < n → getD lo′ j 0 ≡ getD lo j 0
+  pub each : (u : ℕ) → u < carried → getD lo′ (n + u) 0 ≡ getD w (i * step + u) 0
+  pub small : (u : ℕ) → u < carried → getD lo′ (n + u) 0 < limbBase
+
+-- row i and its carried numbers can be read
+pub record RowReadable (g : Grid) (i : ℕ) (a w : List ℕ) (step carried : ℕ) : Type 0 where
+  pub numbers : NumbersReadable g i a
+  pub carried-most : carried ≤ mostCarried
+  pub carried-inside : (u : ℕ) → u < carried → i * step + u < length w
+
+-- the numbers of the row, and behind them the carried ones
+pub record RowRead (g : Grid) (i : ℕ) (a w : List ℕ) (step carried : ℕ) (lo : List ℕ) : Type 0 where
+  pub long : length lo ≡ widestRow
+  pub each : (j : ℕ) → j < g .columns → getD lo j 0 ≡ getD a (gridPlace g i j) 0
+  pub behind : (u : ℕ) → u < carried → getD lo (g .columns + u) 0 ≡ getD w (i * step + u) 0
+  pub small : (j : ℕ) → j < g .columns + carried → getD lo j 0 < limbBase
 
 -- the row that sums of limbs stand for
 abbrev pub rowIn : (p : ℕ) (lo hi : List ℕ) → Vector (residues p)
@@ -105,25 +130,25 @@ pub record WorkedRoom (p : ℕ) (e : List ℕ) : Type 0 where
   pub below : Below p e
 
 -- each worked row has a 1 at its pivot, and 0 at those of its own group and of earlier ones
-abbrev pub GroupsCleared : (p n r : ℕ) (e pivots : List ℕ) → Type 0
-GroupsCleared p n r e pivots =
+abbrev pub GroupsCleared : (p width r : ℕ) (e pivots : List ℕ) → Type 0
+GroupsCleared p width r e pivots =
     (s t : ℕ) → s < r → t < r → s / 4 ≤ t / 4
-    → workedRows p e (n + 1) t (pivotsOf pivots s) ≡ unit (residues p) s t
+    → workedRows p e width t (pivotsOf pivots s) ≡ unit (residues p) s t
 
 -- what clearing a fresh row at all pivots asks
-pub record Clearable (p n r : ℕ) (e pivots lo hi : List ℕ) : Type 0 where
+pub record Clearable (p width r : ℕ) (e pivots lo hi : List ℕ) : Type 0 where
   pub proper : 1 < p
   pub in-range : p ≤ largestModulus
   pub room : WorkedRoom p e
-  pub pivots-in : Pivots (n + 1) r pivots
-  pub cleared : GroupsCleared p n r e pivots
-  pub leading : Leading (residues p) r (workedRows p e (n + 1)) (pivotsOf pivots)
+  pub pivots-in : Pivots width r pivots
+  pub cleared : GroupsCleared p width r e pivots
+  pub leading : Leading (residues p) r (workedRows p e width) (pivotsOf pivots)
   pub long-lo : length lo ≡ widestRow
   pub long-hi : length hi ≡ widestRow
-  pub small : (j : ℕ) → j ≤ n → getD lo j 0 < limbBase
+  pub small : (j : ℕ) → j < width → getD lo j 0 < limbBase
   pub fresh : (j : ℕ) → getD hi j 0 ≡ 0
 
 -- the row has multiples of the worked rows added, and is 0 at all pivots
-pub record PivotsCleared (p n r : ℕ) (e pivots lo hi los his : List ℕ) : Type 0 where
-  pub cleared : Cleared (residues p) 0 n (λ i. rowIn p lo hi) r (workedRows p e (n + 1)) (pivotsOf pivots) (rowIn p los his)
-  pub ready : Ready (n + 1) los his
+pub record PivotsCleared (p width r : ℕ) (e pivots lo hi los his : List ℕ) : Type 0 where
+  pub cleared : Cleared (residues p) 0 width (λ i. rowIn p lo hi) r (workedRows p e width) (pivotsOf pivots) (rowIn p los his)
+  pub ready : Ready width los his

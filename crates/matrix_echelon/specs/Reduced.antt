@@ -64,8 +64,9 @@ pub record RowLessened (p width from r t : ℕ) (pivots e e′ : List ℕ) : Typ
   pub front : (j : ℕ) → j < from → getD e′ (t * width + j) 0 ≡ choose (eqb j (getD pivots t 0)) 1 0
   pub rest : (s j : ℕ) → (s ≡ t → ⊥) → j < width → workedRows p e′ width s j ≡ workedRows p e width s j
 
--- the reduced form: for some pivot inverse D of the table, the row of pivot c is row c of D A, with row c of D w behind it
-pub record ReducedForm (p : ℕ) (g : Grid) (a w : List ℕ) (step r : ℕ) (e pivots : List ℕ) : Type 0 where
+-- the reduced form: for some pivot inverse D of the table, the row of pivot c is row c of D A, with row c of D w behind it for
+-- each w of the `count` carried columns
+pub record ReducedForm (p : ℕ) (g : Grid) (a w : List ℕ) (step count r : ℕ) (e pivots : List ℕ) : Type 0 where
   pub rank : IsRank p g a r
   pub below : Below p e
   pub long : length e ≡ widestTable
@@ -75,12 +76,12 @@ pub record ReducedForm (p : ℕ) (g : Grid) (a w : List ℕ) (step r : ℕ) (e p
   pub found : (c : ℕ) → rank .I c ≡ true → (t : ℕ) × ((t < r) × (getD pivots t 0 ≡ c))
   pub row :
       (t j : ℕ) → t < r → j < g .columns
-      → reduce p (getD e (t * (g .columns + 1) + j) 0)
+      → reduce p (getD e (t * (g .columns + count) + j) 0)
       ≡ product (residues p) (g .rows) (rank .D) (gridOf p g a) (getD pivots t 0) j
   pub carried :
-      (t : ℕ) → t < r
-      → reduce p (getD e (t * (g .columns + 1) + g .columns) 0)
-      ≡ apply (residues p) (g .rows) (rank .D) (line p w 0 step) (getD pivots t 0)
+      (t u : ℕ) → t < r → u < count
+      → reduce p (getD e (t * (g .columns + count) + (g .columns + u)) 0)
+      ≡ apply (residues p) (g .rows) (rank .D) (line p w u step) (getD pivots t 0)
 
 -- r pivots that lie in rows of the longest length
 pub record Pivoting (r : ℕ) (pivots : List ℕ) : Type 0 where

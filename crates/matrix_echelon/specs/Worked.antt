@@ -65,13 +65,13 @@ pub record Growable (p : ℕ) (x : List ℕ) (v r : ℕ) (e pivots : List ℕ) :
   pub not-zero : getD x v 0 ≡ 0 → ⊥
   pub pivots-long : length pivots ≡ longestRow
 
--- it has become that row; `grown` says so for x of n numbers and a carried one
+-- it has become that row, of `width` numbers
 pub record RowGrown (p : ℕ) (x : List ℕ) (v r : ℕ) (e pivots e′ pivots′ : List ℕ) : Type 0 where
   pub room : WorkedRoom p e′
   pub pivots-long : length pivots′ ≡ longestRow
   pub factor : Residue p
   pub to-one : reduce p (getD x v 0) ⊗ factor ≡ reduce p 1
   pub grown :
-      (n : ℕ) → length x ≡ n + 1
-      → Grown (residues p) n r v factor (λ j. reduce p (getD x j 0)) (workedRows p e (n + 1)) (pivotsOf pivots)
-      (workedRows p e′ (n + 1)) (pivotsOf pivots′)
+      (width : ℕ) → length x ≡ width
+      → Grown (residues p) width r v factor (λ j. reduce p (getD x j 0)) (workedRows p e width) (pivotsOf pivots)
+      (workedRows p e′ width) (pivotsOf pivots′)

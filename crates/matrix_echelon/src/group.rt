@@ -1,8 +1,9 @@
 // A row that is worked off: it is read as sums of limbs, which stay apart while the worked rows are added, group after group, each
 // with the multiplier that makes the row 0 at its pivot. The worked rows are in groups of four, and as long as a row of the table
-// with its carried number; row t begins at t times that length.
+// with its carried numbers; row t begins at t times that length.
 ghost use Prim.Native.Nat.{_≤_};
-ghost use Rattle.matrix_echelon.specs.Group.{RowReadable, RowRead, PivotReadable, IsMultiplier, PivotRoom, IsPivotRow, GroupRoom, GroupTaken, Clearable, PivotsCleared};
+ghost use Rattle.matrix_echelon.specs.Group.{NumbersReadable, NumbersRead, CarriedReadable, CarriedRead, RowReadable, RowRead};
+ghost use Rattle.matrix_echelon.specs.Group.{PivotReadable, IsMultiplier, PivotRoom, IsPivotRow, GroupRoom, GroupTaken, Clearable, PivotsCleared};
 ghost use Rattle.matrix_echelon.specs.Group.{Pivots, NoPivotBefore};
 ghost use Rattle.words.specs.Lengths.{longestRow};
 use super::Grid;
@@ -12,10 +13,10 @@ use matrix_mul::rows::Four;
 use matrix_mul::rows::Row;
 use words::WIDE;
 
-// Row i of the table with its carried number behind it, as sums of low limbs.
-pub fn row_limbs(grid: Grid, i: usize, a: &[u32], w: &[u32], step: usize) -> [u64; WIDE]
-    requires { ⌜ RowReadable grid i (now a) (now w) step ⌝ }
-    ensures { λ r. ⌜ RowRead grid i (now (a .entry)) (now (w .entry)) step r ⌝ }
+// Row i of the table, as sums of low limbs.
+fn table_limbs(grid: Grid, i: usize, a: &[u32]) -> [u64; WIDE]
+    requires { ⌜ NumbersReadable grid i (now a) ⌝ }
+    ensures { λ r. ⌜ NumbersRead grid i (now (a .entry)) r ⌝ }
 {
     let mut lo = rows::no_rows();
     let n = grid.columns;
@@ -25,7 +26,36 @@ pub fn row_limbs(grid: Grid, i: usize, a: &[u32], w: &[u32], step: usize) -> [u6
         lo[j] = a[from + j * grid.along] as u64;
         j += 1;
     }
-    lo[n] = w[i * step] as u64;
+    lo
+}
+
+// Writes the numbers that row i carries behind its n numbers.
+fn carried_limbs(n: usize, i: usize, w: &[u32], step: usize, carried: usize, lo: &mut [u64; WIDE])
+    requires { ⌜ CarriedReadable n i (now w) step carried (now lo) ⌝ }
+    ensures { λ _. ⌜ CarriedRead n i (now (w .entry)) step carried (now (lo .entry)) (now (lo .exit)) ⌝ }
+{
+    let mut u = 0;
+    while u < carried {
+        lo[n + u] = w[i * step + u] as u64;
+        u += 1;
+    }
+}
+
+// Row i of the table with its carried numbers behind it, as sums of low limbs: w[i × step], w[i × step + 1], .. .
+pub fn row_limbs(
+    grid: Grid,
+    i: usize,
+    a: &[u32],
+    w: &[u32],
+    step: usize,
+    carried: usize,
+) -> [u64; WIDE]
+    requires { ⌜ RowReadable grid i (now a) (now w) step carried ⌝ }
+    ensures { λ r. ⌜ RowRead grid i (now (a .entry)) (now (w .entry)) step carried r ⌝ }
+{
+    let n = grid.columns;
+    let mut lo = table_limbs(grid, i, a);
+    carried_limbs(n, i, w, step, carried, &mut lo);
     lo
 }
 
@@ -122,17 +152,16 @@ fn least_pivot(width: usize, rank: usize, g: usize, pivots: &[u32]) -> usize
 // Adds the combination of the worked rows that makes the sums 0 at all pivots.
 pub fn clear_pivots(
     p: u32,
-    n: usize,
+    width: usize,
     rank: usize,
     e: &[u32],
     pivots: &[u32],
     lo: &mut [u64; WIDE],
     hi: &mut [u64; WIDE],
 )
-    requires { ⌜ Clearable p n rank (now e) (now pivots) (now lo) (now hi) ⌝ }
-    ensures { λ _. ⌜ PivotsCleared p n rank (now (e .entry)) (now (pivots .entry)) (now (lo .entry)) (now (hi .entry)) (now (lo .exit)) (now (hi .exit)) ⌝ }
+    requires { ⌜ Clearable p width rank (now e) (now pivots) (now lo) (now hi) ⌝ }
+    ensures { λ _. ⌜ PivotsCleared p width rank (now (e .entry)) (now (pivots .entry)) (now (lo .entry)) (now (hi .entry)) (now (lo .exit)) (now (hi .exit)) ⌝ }
 {
-    let width = n + 1;
     let once = BASE % (p as u64);
     let twice = once * once % (p as u64);
     let mut g = 0;

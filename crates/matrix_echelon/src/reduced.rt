@@ -83,22 +83,23 @@ fn reduce_row(
     write_unit(pivots[t] as usize, from, e, at);
 }
 
-// The reduced form of the table with its carried column: worked row t is 1 at its pivot and 0 at the others. Answers the rank.
+// The reduced form of the table with its carried columns: worked row t is 1 at its pivot and 0 at the others. Answers the rank.
 pub fn reduced(
     p: u32,
     grid: Grid,
     a: &[u32],
     w: &[u32],
     step: usize,
+    carried: usize,
     e: &mut [u32],
     pivots: &mut [u32],
 ) -> usize
-    requires { ⌜ Readable p grid (now a) (now w) step × Room p (now e) (now pivots) ⌝ }
-    ensures { λ r. ⌜ ReducedForm p grid (now (a .entry)) (now (w .entry)) step r (now (e .exit)) (now (pivots .exit)) ⌝ }
+    requires { ⌜ Readable p grid (now a) (now w) step carried × Room p (now e) (now pivots) ⌝ }
+    ensures { λ r. ⌜ ReducedForm p grid (now (a .entry)) (now (w .entry)) step carried r (now (e .exit)) (now (pivots .exit)) ⌝ }
 {
-    let rank = forward(p, grid, a, w, step, e, pivots);
+    let rank = forward(p, grid, a, w, step, carried, e, pivots);
     let n = grid.columns;
-    let width = n + 1;
+    let width = n + carried;
     let at = rows_by_pivot(rank, pivots);
     let from = first_free(&at[..n]);
     let next = rows::each_row();
@@ -127,12 +128,12 @@ pub fn rows_by_pivot(rank: usize, pivots: &[u32]) -> [u32; ROW]
 // The solution z = D w of the system of the table with the right side w, where it has one, by substituting back: from the last
 // worked row on, the number at its pivot is what its carried number leaves. Answers the rank.
 pub fn solution(p: u32, grid: Grid, a: &[u32], w: &[u32], step: usize, z: &mut [u32]) -> usize
-    requires { ⌜ Readable p grid (now a) (now w) step × (length (now z) ≡ grid .columns) ⌝ }
+    requires { ⌜ Readable p grid (now a) (now w) step 1 × (length (now z) ≡ grid .columns) ⌝ }
     ensures { λ r. ⌜ SolutionFound p grid (now (a .entry)) (now (w .entry)) step r (now (z .exit)) ⌝ }
 {
     let mut e = words::wide_table();
     let mut pivots = words::row_room();
-    let rank = forward(p, grid, a, w, step, &mut e, &mut pivots);
+    let rank = forward(p, grid, a, w, step, 1, &mut e, &mut pivots);
     words::clear(z);
     let n = grid.columns;
     let mut t = rank;

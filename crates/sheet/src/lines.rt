@@ -1,7 +1,7 @@
 // The lines that sheet_text and sheet_heat make, written to standard output.
 ghost use Prim.Native.Nat.{_≤_};
 ghost use lib.ListN.{length};
-ghost use Rattle.ledger.specs.Board.{IsBoard};
+ghost use Rattle.sheet_heat.specs.Calls.{SheetBoard};
 use super::lent;
 use checks::Refusal;
 use libc::STDOUT_FILENO;
@@ -15,8 +15,8 @@ fn write(buffer: &[u8], size: usize)
 
 // Takes a frame and writes its line.
 pub fn frame(board: &mut [u32], frame: &[u8], mix: &mut [u32])
-    requires { ⌜ IsBoard (now board) ⌝ }
-    ensures { λ _. ⌜ IsBoard (now (board .exit)) ⌝ }
+    requires { ⌜ SheetBoard (now board) ⌝ }
+    ensures { λ _. ⌜ SheetBoard (now (board .exit)) ⌝ }
 {
     let mut line = lent::line();
     let size = sheet_heat::frame_line(board, frame, mix, &mut line);
@@ -32,7 +32,7 @@ pub fn refused(kind: Refusal) {
 
 // The records and the missing line.
 pub fn ending(board: &[u32])
-    requires { ⌜ IsBoard (now board) ⌝ }
+    requires { ⌜ SheetBoard (now board) ⌝ }
 {
     let mut text = lent::text();
     let size = sheet_heat::ending(board, &mut text);

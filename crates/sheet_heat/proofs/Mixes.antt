@@ -14,6 +14,7 @@ use Rattle.ledger.specs.Decide.{inSpan?}
 use Rattle.ledger.specs.Steps.{takeAccepted, ledgerTake}
 use Rattle.ledger.proofs.LedgerSteps.{takeFound, take-found, took}
 use Rattle.ledger.proofs.Shown.{took-long}
+use Rattle.sheet_heat.specs.Sheet.{sheetWords}
 
 -- what is made of either choice alike is made of the pick
 pick-by-alike : {P A B : Type 0} (g : A → B) (d : Dec P) (f : P → A) (a b : A) → g a ≡ g b → g (pickBy d f a) ≡ g (pickBy d f b)
@@ -23,23 +24,23 @@ pick-by-alike g (no h) f a b e = e
 
 module _ (p : ℕ) (ok : IsModulus p) (n : ℕ) (l : Ledger) (frame : List ℕ) where
   -- past the length of the mix
-  found : (mix : List ℕ) → length mix ≡ n → ledgerTake p ok n l frame mix ≡ takeFound p ok n l (readFrame p n frame) mix
-  found mix h = take-found p ok n l frame mix ∙ in-order-done _ _ _ (h and-then none-left) (λ _. refl)
+  found : (mix : List ℕ) → length mix ≡ n → ledgerTake p ok n sheetWords l frame mix ≡ takeFound p ok n sheetWords l (readFrame p n sheetWords frame) mix
+  found mix h = take-found p ok n sheetWords l frame mix ∙ in-order-done _ _ _ (h and-then none-left) (λ _. refl)
 
   -- what is made of an outcome without its mix
   module _ {B : Type 0} (g : Told → Ledger → B) where
     abbrev made : Outcome (Ledger × List ℕ) → B
     made r = g (r .told) (r .lent .0)
 
-    made-found : (f : Found) (mix ks : List ℕ) → made (takeFound p ok n l f mix) ≡ made (takeFound p ok n l f ks)
+    made-found : (f : Found) (mix ks : List ℕ) → made (takeFound p ok n sheetWords l f mix) ≡ made (takeFound p ok n sheetWords l f ks)
     unfolding takeFound takeAccepted
-    made-found (accepted xs v) mix ks = pick-by-alike made (inSpan? p ok n (l .entries) xs) _ _ _ refl
+    made-found (accepted xs vs) mix ks = pick-by-alike made (inSpan? p ok n (l .entries) xs) _ _ _ refl
     made-found (rejected k) mix ks = refl
 
     pub take-same : (mix ks : List ℕ) → length mix ≡ n → length ks ≡ n
-        → made (ledgerTake p ok n l frame mix) ≡ made (ledgerTake p ok n l frame ks)
-    take-same mix ks h e = ap made (found mix h) ∙ made-found (readFrame p n frame) mix ks ∙ sym (ap made (found ks e))
+        → made (ledgerTake p ok n sheetWords l frame mix) ≡ made (ledgerTake p ok n sheetWords l frame ks)
+    take-same mix ks h e = ap made (found mix h) ∙ made-found (readFrame p n sheetWords frame) mix ks ∙ sym (ap made (found ks e))
 
   -- the mix keeps its length
-  pub take-long : length (l .entries) ≤ n → (mix : List ℕ) → length mix ≡ n → length (ledgerTake p ok n l frame mix .lent .1) ≡ n
-  take-long fits mix h = took-long p ok n l frame mix (took p ok n l frame mix) fits h
+  pub take-long : length (l .entries) ≤ n → (mix : List ℕ) → length mix ≡ n → length (ledgerTake p ok n sheetWords l frame mix .lent .1) ≡ n
+  take-long fits mix h = took-long p ok n sheetWords l frame mix (took p ok n sheetWords l frame mix) fits h

@@ -17,7 +17,7 @@ use Rattle.checks.specs.Refusal.{refusalNumber}
 use Rattle.checks.specs.InOrder.{FirstFailing}
 use Rattle.checks.specs.Outcome.{Outcome}
 use Rattle.checks.specs.Prime.{IsModulus}
-use Rattle.checks.specs.Largest.{largest, FrameSize}
+use Rattle.checks.specs.Largest.{largest, FrameSize, WordCount}
 use Rattle.checks.specs.Sizes.{frameSizes}
 use Rattle.checks.proofs.Refusals.{refusal-number}
 use Rattle.checks.proofs.InOrder.{in-order-elim}
@@ -37,7 +37,7 @@ use Rattle.board_calls.proofs.CallOpen.{open-no-sizes}
 use Rattle.sheet_text.specs.Lines.{frameLine, refusedLine}
 use Rattle.sheet_text.specs.Input.{headerCall, frameStart, frameBody}
 use Rattle.sheet_text.proofs.Input.{body-cut, body-whole}
-use Rattle.sheet_heat.specs.Sheet.{cutLine, endingFrom, ledgerEnding, cutEnding, ledgerTakes, ledgerLine, linesWithin, heatOf, sheetOf}
+use Rattle.sheet_heat.specs.Sheet.{sheetWords, cutLine, endingFrom, ledgerEnding, cutEnding, ledgerTakes, ledgerLine, linesWithin, heatOf, sheetOf}
 use Rattle.sheet_heat.specs.Calls.{takenLine, endingOf, byInput, framesByCalls, sheetByCalls}
 use Rattle.sheet_heat.proofs.Mixes.{take-same, take-long}
 use Rattle.sheet_heat.proofs.SheetLaws.{within-end, within-cut-length, within-cut-frame, within-frame}
@@ -85,20 +85,25 @@ module _ (k : ℕ) (ws mix : List ℕ) where
 
 -- ---- the frames
 
+-- a record has one word
+one-word : WordCount sheetWords
+one-word = omega arith
+
 module _ (p n : ℕ) (ok : IsModulus p) (small : FrameSize n) where
-  ending-by-calls : (l : Ledger) → Proper p n (l .entries) → endingOf (boardOf p n l) ≡ ledgerEnding p ok n l
+  ending-by-calls : (l : Ledger) → Proper p n sheetWords (l .entries) → endingOf (boardOf p n sheetWords l) ≡ ledgerEnding p ok n l
   unfolding endingOf ledgerEnding
   ending-by-calls l P =
-      let ws = boardOf p n l in
-      ap₂ (λ q m. endingFrom m (showCall ws (balancedLow q) (replicate m 0) (replicate m (pos 0)))) (layout-modulus p n (l .entries)) (layout-size p n (l .entries))
-      ∙ ap (endingFrom n) (show-at-layout p n (l .entries) ok small P (balancedLow p) (replicate n 0) (replicate n (pos 0)))
+      let ws = boardOf p n sheetWords l in
+      ap₂ (λ q m. endingFrom m (showCall ws (balancedLow q) (replicate m 0) (replicate m (pos 0)))) (layout-modulus p n sheetWords (l .entries))
+      (layout-size p n sheetWords (l .entries))
+      ∙ ap (endingFrom n) (show-at-layout p n sheetWords (l .entries) ok small one-word P (balancedLow p) (replicate n 0) (replicate n (pos 0)))
 
-  cut-by-calls : (l : Ledger) → Proper p n (l .entries) → cutLine ++ endingOf (boardOf p n l) ≡ cutEnding p ok n l
+  cut-by-calls : (l : Ledger) → Proper p n sheetWords (l .entries) → cutLine ++ endingOf (boardOf p n sheetWords l) ≡ cutEnding p ok n l
   unfolding cutEnding
   cut-by-calls l P = ap (λ x. cutLine ++ x) (ending-by-calls l P)
 
   -- a frame whose length came, from what is written behind it
-  module _ (k m : ℕ) (l : Ledger) (P : Proper p n (l .entries)) (mix : List ℕ) (long : length mix ≡ n) (high low : ℕ) (rest : List ℕ) where
+  module _ (k m : ℕ) (l : Ledger) (P : Proper p n sheetWords (l .entries)) (mix : List ℕ) (long : length mix ≡ n) (high low : ℕ) (rest : List ℕ) where
     abbrev frame : List ℕ
     frame = take (numberFrom 0 (high ∷ low ∷ [])) rest
 
@@ -106,34 +111,34 @@ module _ (p n : ℕ) (ok : IsModulus p) (small : FrameSize n) where
     behind = drop (numberFrom 0 (high ∷ low ∷ [])) rest
 
     abbrev after : Outcome (Ledger × List ℕ)
-    after = ledgerTake p ok n l frame mix
+    after = ledgerTake p ok n sheetWords l frame mix
 
     whole-by-calls : numberFrom 0 (high ∷ low ∷ []) ≤ length rest
-        → framesByCalls k (boardOf p n (after .lent .0)) (after .lent .1) behind ≡ linesWithin p ok n m (after .lent .0) behind
-        → framesByCalls (suc k) (boardOf p n l) mix (high ∷ low ∷ rest) ≡ linesWithin p ok n (suc m) l (high ∷ low ∷ rest)
+        → framesByCalls k (boardOf p n sheetWords (after .lent .0)) (after .lent .1) behind ≡ linesWithin p ok n m (after .lent .0) behind
+        → framesByCalls (suc k) (boardOf p n sheetWords l) mix (high ∷ low ∷ rest) ≡ linesWithin p ok n (suc m) l (high ∷ low ∷ rest)
     unfolding takenLine ledgerTakes ledgerLine
     whole-by-calls h e =
-        frames-frame k (boardOf p n l) mix high low rest h
+        frames-frame k (boardOf p n sheetWords l) mix high low rest h
         ∙ ap
         (λ (r : Outcome (List ℕ × List ℕ)). frameLine (r .told) (countWord (r .lent .0)) ++ framesByCalls k (r .lent .0) (r .lent .1) behind)
-        (take-at-layout p n (l .entries) ok small P frame mix)
-        ∙ ap₂ (λ c x. frameLine (after .told) c ++ x) (layout-count p n (after .lent .0 .entries)) e
+        (take-at-layout p n sheetWords (l .entries) ok small one-word P frame mix)
+        ∙ ap₂ (λ c x. frameLine (after .told) c ++ x) (layout-count p n sheetWords (after .lent .0 .entries)) e
         ∙ take-same p ok n l frame (λ t x. frameLine t (length (x .entries)) ++ linesWithin p ok n m x behind) mix (replicate n 0) long
         (length-replicate n 0)
         ∙ sym (within-frame p ok n m l high low rest h)
 
     frame-by-calls : Dec (numberFrom 0 (high ∷ low ∷ []) ≤ length rest)
-        → framesByCalls k (boardOf p n (after .lent .0)) (after .lent .1) behind ≡ linesWithin p ok n m (after .lent .0) behind
-        → framesByCalls (suc k) (boardOf p n l) mix (high ∷ low ∷ rest) ≡ linesWithin p ok n (suc m) l (high ∷ low ∷ rest)
+        → framesByCalls k (boardOf p n sheetWords (after .lent .0)) (after .lent .1) behind ≡ linesWithin p ok n m (after .lent .0) behind
+        → framesByCalls (suc k) (boardOf p n sheetWords l) mix (high ∷ low ∷ rest) ≡ linesWithin p ok n (suc m) l (high ∷ low ∷ rest)
     frame-by-calls (yes h) e = whole-by-calls h e
     frame-by-calls (no f) e =
-        frames-cut-frame k (boardOf p n l) mix high low rest (omega arith)
+        frames-cut-frame k (boardOf p n sheetWords l) mix high low rest (omega arith)
         ∙ cut-by-calls l P
         ∙ sym (within-cut-frame p ok n m l high low rest (omega arith))
 
-  frames-by-calls : (k m : ℕ) (l : Ledger) → Proper p n (l .entries) → (mix : List ℕ) → length mix ≡ n
+  frames-by-calls : (k m : ℕ) (l : Ledger) → Proper p n sheetWords (l .entries) → (mix : List ℕ) → length mix ≡ n
       → (bytes : List ℕ) → length bytes ≤ k → length bytes ≤ m
-      → framesByCalls k (boardOf p n l) mix bytes ≡ linesWithin p ok n m l bytes
+      → framesByCalls k (boardOf p n sheetWords l) mix bytes ≡ linesWithin p ok n m l bytes
   unfolding ledgerStep
   frames-by-calls zero m l P mix long [] h g = frames-end zero _ mix ∙ ending-by-calls l P ∙ sym (within-end p ok n m l)
   frames-by-calls zero m l P mix long (b ∷ bytes) h g = absurd (omega arith)
@@ -144,33 +149,33 @@ module _ (p n : ℕ) (ok : IsModulus p) (small : FrameSize n) where
   frames-by-calls (suc k) (suc m) l P mix long (high ∷ low ∷ rest) h g =
       let size = numberFrom 0 (high ∷ low ∷ []) in
       let frame = take size rest in
-      let r = ledgerTake p ok n l frame mix in
+      let r = ledgerTake p ok n sheetWords l frame mix in
       frame-by-calls k m l P mix long high low rest (decLe size (length rest))
-      (frames-by-calls k m (r .lent .0) (step-proper p n (l .entries) P ok (Call.take frame mix)) (r .lent .1)
+      (frames-by-calls k m (r .lent .0) (step-proper p n sheetWords (l .entries) P ok (Call.take frame mix)) (r .lent .1)
       (take-long p ok n l frame (P .fits) mix long) (drop size rest)
       (omega (arith, length-drop size rest)) (omega (arith, length-drop size rest)))
 
 -- ---- the whole input
 
 -- the memory lent for n records: the words of a board and a mix, of any contents
-module _ (board mix : ℕ → List ℕ) (board-long : (n : ℕ) → n ≤ largest → length (board n) ≡ boardLength n)
+module _ (board mix : ℕ → List ℕ) (board-long : (n : ℕ) → n ≤ largest → length (board n) ≡ boardLength n sheetWords)
     (mix-long : (n : ℕ) → n ≤ largest → length (mix n) ≡ n) where
   -- what is written behind the header
   abbrev opened : (budget p n : ℕ) → List ℕ → List ℕ
   opened budget p n bytes =
-      let o = openCall p n (board n) in
+      let o = openCall p n sheetWords (board n) in
       choose (eqb (o .told .number) 0) (framesByCalls budget (o .lent) (mix n) bytes) (refusedLine (o .told .number))
 
-  opened-refused : (budget p n : ℕ) (bytes : List ℕ) (k : Refusal) → FirstFailing (frameSizes p n) k
+  opened-refused : (budget p n : ℕ) (bytes : List ℕ) (k : Refusal) → FirstFailing (frameSizes p n sheetWords) k
       → opened budget p n bytes ≡ refusedLine (refusalNumber k)
   opened-refused budget p n bytes k f =
-      rw (← open-no-sizes p n (board n) f, ne-eqb (refusalNumber k) 0 (λ z. omega (arith, refusal-number k)))
+      rw (← open-no-sizes p n sheetWords (board n) f, ne-eqb (refusalNumber k) 0 (λ z. omega (arith, refusal-number k)))
 
   opened-done : (budget p n : ℕ) (bytes : List ℕ) (ok : IsModulus p) → FrameSize n → length bytes ≤ budget
       → opened budget p n bytes ≡ linesWithin p ok n (length bytes) (ledger []) bytes
   opened-done budget p n bytes ok small h =
-      rw (open-done p n (board n) ok small (board-long n (small .1)))
-      (frames-by-calls p n ok small budget (length bytes) (ledger []) (empty-proper p n) (mix n) (mix-long n (small .1)) bytes h (omega arith))
+      rw (open-done p n sheetWords (board n) ok small one-word (board-long n (small .1)))
+      (frames-by-calls p n ok small budget (length bytes) (ledger []) (empty-proper p n sheetWords) (mix n) (mix-long n (small .1)) bytes h (omega arith))
 
   heat-by-calls : (budget p n : ℕ) (bytes : List ℕ) → length bytes ≤ budget → opened budget p n bytes ≡ heatOf p n bytes
   unfolding heatOf

@@ -19,7 +19,7 @@ use Rattle.checks.proofs.InOrder.{none-left, in-order-done, in-order-refused, _
 use Rattle.codec.specs.BigEndian.{numberFrom, numberAt}
 use Rattle.ledger.specs.Ledger.{Ledger, ledger}
 use Rattle.sheet_text.specs.Lines.{refusedLine}
-use Rattle.sheet_heat.specs.Sheet.{cutLine, ledgerEnding, cutEnding, ledgerAfter, ledgerLine, linesWithin, linesFrom, heatOf, sheetOf}
+use Rattle.sheet_heat.specs.Sheet.{sheetWords, cutLine, ledgerEnding, cutEnding, ledgerAfter, ledgerLine, linesWithin, linesFrom, heatOf, sheetOf}
 
 module _ (p : ℕ) (ok : IsModulus p) (n : ℕ) where
   -- the clause of a frame whose length came
@@ -116,7 +116,7 @@ module _ (input : List ℕ) (whole : 5 ≤ length input) where
   unfolding sheetOf
   sheet-heat = rw (le-ltb (length input) 5 whole)
 
-  pub sheet-refused : {k : Refusal} → FirstFailing (frameSizes modulus records) k → sheetOf input ≡ refusedLine (refusalNumber k)
+  pub sheet-refused : {k : Refusal} → FirstFailing (frameSizes modulus records sheetWords) k → sheetOf input ≡ refusedLine (refusalNumber k)
   unfolding heatOf
   sheet-refused f = sheet-heat ∙ in-order-refused _ _ f
 
@@ -124,5 +124,5 @@ module _ (input : List ℕ) (whole : 5 ≤ length input) where
   unfolding heatOf
   sheet-opened ok small =
       sheet-heat
-      ∙ in-order-done _ _ _ (ok and-then small and-then none-left)
+      ∙ in-order-done _ _ _ (ok and-then small and-then (omega arith) and-then none-left)
       (λ given. ap (λ m. linesFrom modulus m records (ledger []) (drop 5 input)) (modulus-prop modulus (given .0) ok))

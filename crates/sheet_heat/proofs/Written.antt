@@ -14,13 +14,13 @@ use Rattle.checks.proofs.Refusals.{refusal-number}
 use Rattle.codec.specs.Placed.{Put}
 use Rattle.codec.proofs.Placed.{placed-none, put-then}
 use Rattle.signed.specs.Balanced.{balancedLow}
-use Rattle.ledger.specs.Board.{IsBoard, modulusWord, sizeWord, countWord}
+use Rattle.ledger.specs.Board.{modulusWord, sizeWord, countWord}
 use Rattle.ledger.specs.Calls.{takeCall, showCall}
 use Rattle.sheet_text.specs.Lines.{frameLine, recordLine, recordLines, missingLine}
 use Rattle.sheet_text.specs.Written.{Printed}
 use Rattle.sheet_text.proofs.Written.{put-line}
 use Rattle.sheet_heat.specs.Sheet.{endingFrom}
-use Rattle.sheet_heat.specs.Calls.{takenLine, FrameWritten, endingOf}
+use Rattle.sheet_heat.specs.Calls.{takenLine, FrameWritten, endingOf, SheetBoard}
 use Rattle.sheet_heat.proofs.Boards.{take-keeps-board, show-board, show-same, board-low}
 
 -- ---- a frame
@@ -37,8 +37,8 @@ frame-written {out = out} {out′ = out′} {answer = answer} e p =
 
 -- and the board stays one
 pub frame-keeps-board : {ws frame mix out ws′ mix′ out′ : List ℕ} {answer : ℕ} → FrameWritten ws frame mix out ws′ mix′ out′ answer
-    → IsBoard ws → IsBoard ws′
-frame-keeps-board {ws} {frame} {mix} w b = subst IsBoard (sym (w .board-left)) (take-keeps-board ws frame mix b)
+    → SheetBoard ws → SheetBoard ws′
+frame-keeps-board {ws} {frame} {mix} w b = subst SheetBoard (sym (w .board-left)) (take-keeps-board ws frame mix b)
 
 -- ---- the ending
 
@@ -55,7 +55,7 @@ unfolding recordLines
 record-lines-more k marks zs p q = rw add-one (put-then (omega arith) p q)
 
 -- the memory as it is lent makes no difference
-pub ending-lent : (ws : List ℕ) → IsBoard ws → (marks : List ℕ) (zs : List ℤ) → length marks ≡ sizeWord ws → length zs ≡ sizeWord ws
+pub ending-lent : (ws : List ℕ) → SheetBoard ws → (marks : List ℕ) (zs : List ℤ) → length marks ≡ sizeWord ws → length zs ≡ sizeWord ws
     → endingOf ws ≡ endingFrom (sizeWord ws) (showCall ws (balancedLow (modulusWord ws)) marks zs)
 unfolding endingOf
 ending-lent ws b marks zs h l =
@@ -64,7 +64,7 @@ ending-lent ws b marks zs h l =
     (show-same ws b (balancedLow (modulusWord ws)) (replicate n 0) marks (replicate n (pos 0)) zs (board-low b) (length-replicate n 0) (length-replicate n (pos 0)) h l)
 
 -- what show told and left is the ending
-pub ending-shown : (ws : List ℕ) → IsBoard ws → (marks ks : List ℕ) (zs ys : List ℤ) (missing : ℕ)
+pub ending-shown : (ws : List ℕ) → SheetBoard ws → (marks ks : List ℕ) (zs ys : List ℤ) (missing : ℕ)
     → length marks ≡ sizeWord ws → length zs ≡ sizeWord ws
     → outcome (results missing) (ks, ys) ≡ showCall ws (balancedLow (modulusWord ws)) marks zs
     → endingOf ws ≡ recordLines (sizeWord ws) ks ys ++ missingLine missing
@@ -72,7 +72,7 @@ unfolding endingFrom
 ending-shown ws b marks ks zs ys missing h l e = ending-lent ws b marks zs h l ∙ ap (endingFrom (sizeWord ws)) (sym e)
 
 -- so the lines written are it
-pub ending-written : {ws : List ℕ} → IsBoard ws → (marks : List ℕ) (zs : List ℤ) {ks : List ℕ} {ys : List ℤ} {missing : ℕ}
+pub ending-written : {ws : List ℕ} → SheetBoard ws → (marks : List ℕ) (zs : List ℤ) {ks : List ℕ} {ys : List ℤ} {missing : ℕ}
     → length marks ≡ sizeWord ws → length zs ≡ sizeWord ws → length ks ≡ sizeWord ws
     → outcome (results missing) (ks, ys) ≡ showCall ws (balancedLow (modulusWord ws)) marks zs
     → {out mid out′ : List ℕ} {at answer : ℕ} → Put 0 (recordLines (length ks) ks ys) out mid at → Put at (missingLine missing) mid out′ answer
@@ -81,7 +81,7 @@ ending-written {ws} b marks zs {ks} {ys} {missing} h l g e p q =
     rw (ending-shown ws b marks ks zs ys missing h l e, ← g) (put-line (put-then (omega arith) p q))
 
 -- and it told no refusal
-pub show-not-refused : (ws : List ℕ) → IsBoard ws → (marks ks : List ℕ) (zs ys : List ℤ) (k : Refusal)
+pub show-not-refused : (ws : List ℕ) → SheetBoard ws → (marks ks : List ℕ) (zs ys : List ℤ) (k : Refusal)
     → length marks ≡ sizeWord ws → length zs ≡ sizeWord ws
     → outcome (refused k) (ks, ys) ≡ showCall ws (balancedLow (modulusWord ws)) marks zs → ⊥
 show-not-refused ws b marks ks zs ys k h l e =

@@ -9,12 +9,12 @@ use lib.ListN.{length, take, drop, replicate}
 use Rattle.algebra.specs.Choice.{choose}
 use Rattle.checks.specs.Told.{Told}
 use Rattle.signed.specs.Balanced.{balancedLow}
-use Rattle.ledger.specs.Board.{modulusWord, sizeWord, countWord}
+use Rattle.ledger.specs.Board.{modulusWord, sizeWord, countWord, valuesWord, IsBoard}
 use Rattle.ledger.specs.Calls.{openCall, takeCall, showCall}
 use Rattle.sheet_text.specs.Lines.{frameLine, refusedLine}
 use Rattle.sheet_text.specs.Written.{Printed}
 use Rattle.sheet_text.specs.Input.{headerCall, frameStart, frameBody}
-use Rattle.sheet_heat.specs.Sheet.{cutLine, carried, endingFrom}
+use Rattle.sheet_heat.specs.Sheet.{sheetWords, cutLine, carried, endingFrom}
 
 -- the line of a frame: what take tells, and the count that it leaves
 unfoldable pub takenLine : (ws frame mix : List ℕ) → List ℕ
@@ -30,6 +30,10 @@ pub record FrameWritten (ws frame mix out ws′ mix′ out′ : List ℕ) (answe
 unfoldable pub endingOf : List ℕ → List ℕ
 endingOf ws =
     let n = sizeWord ws in endingFrom n (showCall ws (balancedLow (modulusWord ws)) (replicate n 0) (replicate n (pos 0)))
+
+-- the board of a sheet: one word a record
+abbrev pub SheetBoard : List ℕ → Type 0
+SheetBoard ws = IsBoard ws × (valuesWord ws ≡ sheetWords)
 
 -- ---- a program that reads, calls and writes
 
@@ -61,7 +65,7 @@ unfoldable pub sheetByCalls : (board mix : ℕ → List ℕ) (budget : ℕ) → 
 sheetByCalls board mix budget input =
     let header = headerCall (take 5 input) in
     let n = carried 1 header in
-    let opened = openCall (carried 0 header) n (board n) in
+    let opened = openCall (carried 0 header) n sheetWords (board n) in
     choose (eqb (header .number) 0)
     (choose (eqb (opened .told .number) 0)
     (framesByCalls budget (opened .lent) (mix n) (drop 5 input))

@@ -19,6 +19,10 @@ use Rattle.ledger.specs.Ledger.{Ledger, ledger}
 use Rattle.ledger.specs.Steps.{ledgerTake, ledgerShow}
 use Rattle.sheet_text.specs.Lines.{frameLine, refusedLine, recordLines, missingLine}
 
+-- "The sheet program and 01's cases have s = 1." (02, #103)
+abbrev pub sheetWords : ℕ
+sheetWords = 1
+
 -- the line of a cut header, and of a cut frame
 abbrev pub cutLine : List ℕ
 cutLine = refusedLine 6
@@ -35,7 +39,7 @@ module _ (p : ℕ) (ok : IsModulus p) (n : ℕ) where
   -- the records and the missing line of a ledger; what is lent to show is any n marks and n numbers. 02, #106: "The sheet program passes
   -- the old L", with which records are read as 01 says (signed/specs/Balanced.antt).
   unfoldable pub ledgerEnding : Ledger → List ℕ
-  ledgerEnding l = endingFrom n (ledgerShow p ok n l (balancedLow p) (replicate n 0) (replicate n (pos 0)))
+  ledgerEnding l = endingFrom n (ledgerShow p ok n sheetWords l (balancedLow p) (replicate n 0) (replicate n (pos 0)))
 
   -- "a last frame cut in its length or its bytes is one `refused 6` line, then the records and the missing line"
   unfoldable pub cutEnding : Ledger → List ℕ
@@ -43,7 +47,7 @@ module _ (p : ℕ) (ok : IsModulus p) (n : ℕ) where
 
   -- a frame that the ledger takes, with any mix of n words
   unfoldable pub ledgerTakes : Ledger → List ℕ → Outcome (Ledger × List ℕ)
-  ledgerTakes l frame = ledgerTake p ok n l frame (replicate n 0)
+  ledgerTakes l frame = ledgerTake p ok n sheetWords l frame (replicate n 0)
 
   abbrev pub ledgerAfter : Ledger → List ℕ → Ledger
   ledgerAfter l frame = ledgerTakes l frame .lent .0
@@ -69,9 +73,9 @@ module _ (p : ℕ) (ok : IsModulus p) (n : ℕ) where
   abbrev pub linesFrom : Ledger → List ℕ → List ℕ
   linesFrom l bytes = linesWithin (length bytes) l bytes
 
--- "a refused open the line `refused N` alone": the board lent has the right length, so that open's checks are 1 and 2
+-- "a refused open the line `refused N` alone": the board lent has the right length and s is 1, so that open's checks are 1 and 2
 unfoldable pub heatOf : (p n : ℕ) → List ℕ → List ℕ
-heatOf p n bytes = inOrder (frameSizes p n) (λ given. linesFrom p (given .0) n (ledger []) bytes) (λ kind. refusedLine (refusalNumber kind))
+heatOf p n bytes = inOrder (frameSizes p n sheetWords) (λ given. linesFrom p (given .0) n (ledger []) bytes) (λ kind. refusedLine (refusalNumber kind))
 
 -- "A cut header prints the line `refused 6` alone"
 unfoldable pub sheetOf : List ℕ → List ℕ

@@ -5,10 +5,10 @@ ghost use lib.ListN.{length};
 ghost use Rattle.checks.specs.Largest.{largest};
 ghost use Rattle.words.specs.Lengths.{longestRow};
 ghost use Rattle.codec.specs.Placed.{Put};
-ghost use Rattle.ledger.specs.Board.{headerLength, sizeWord, IsBoard};
+ghost use Rattle.ledger.specs.Board.{headerLength, sizeWord};
 ghost use Rattle.sheet_text.specs.Lines.{recordLines};
 ghost use Rattle.sheet_text.specs.Written.{Printed};
-ghost use Rattle.sheet_heat.specs.Calls.{FrameWritten, endingOf};
+ghost use Rattle.sheet_heat.specs.Calls.{FrameWritten, endingOf, SheetBoard};
 use board_calls::CountAnswer;
 use board_words::layout;
 use words::ROW;
@@ -44,10 +44,10 @@ fn record_lines(marks: &[u32], numbers: &[i32], out: &mut [u8]) -> usize
     at
 }
 
-// Shows the board with the old low end and the marks and numbers lent. On a board, with as many of them as it has records, show is not
-// refused.
+// Shows the board with the old low end and the marks and numbers lent. On a board of one word a record, with as many of them as it has
+// records, show is not refused.
 fn show_lines(board: &[u32], marks: &mut [u32], numbers: &mut [i32], out: &mut [u8]) -> usize
-    requires { ⌜ IsBoard (now board) × (length (now marks) ≡ sizeWord (now board)) × (length (now numbers) ≡ sizeWord (now board)) × (1024 ≤ length (now out)) ⌝ }
+    requires { ⌜ SheetBoard (now board) × (length (now marks) ≡ sizeWord (now board)) × (length (now numbers) ≡ sizeWord (now board)) × (1024 ≤ length (now out)) ⌝ }
     ensures { λ r. ⌜ Printed (endingOf (now (board .entry))) (now (out .entry)) (now (out .exit)) r ⌝ }
 {
     let low = signed::balanced_low(board[layout::MODULUS]);
@@ -62,7 +62,7 @@ fn show_lines(board: &[u32], marks: &mut [u32], numbers: &mut [i32], out: &mut [
 
 // The end of the sheet at the front of the buffer: each record's line, and the missing line.
 pub fn ending(board: &[u32], out: &mut [u8]) -> usize
-    requires { ⌜ IsBoard (now board) × (1024 ≤ length (now out)) ⌝ }
+    requires { ⌜ SheetBoard (now board) × (1024 ≤ length (now out)) ⌝ }
     ensures { λ r. ⌜ Printed (endingOf (now (board .entry))) (now (out .entry)) (now (out .exit)) r ⌝ }
 {
     let n = board[layout::SIZE] as usize;

@@ -4,7 +4,7 @@
 use mathlib.Core.Path.{_≡_, refl, sym, ap, ap₂, _∙_, subst}
 use mathlib.Core.Bool.{Bool, true, not}
 use mathlib.Core.List.{List, [], _∷_, _++_, append-nil, append-assoc, List·Memᴰ, List·Memᴰ·head, Memᴰ·of-map}
-use Prim.Native.Nat.{ℕ, _+_, _-_}
+use Prim.Native.Nat.{ℕ, _+_, _-_, _*_}
 use native.Mathlib.Omega.{arith}
 use borrow.Author.Tests.{eqb-true, not-true}
 use lib.Dec.{eqb, ltb}
@@ -28,19 +28,19 @@ use Rattle.signed.specs.Reading.{reading}
 use Rattle.signed.specs.Balanced.{balancedLow}
 use Rattle.matrix.proofs.Checker.{_and_, every, everyBelow, both, every-member}
 use Rattle.matrix.proofs.CheckedTables.{areBelow, areSame, all-same, isPrime, same}
-use Rattle.ledger.specs.Ledger.{Entry, Ledger, ledger, multiplierRows, valueColumn}
+use Rattle.ledger.specs.Ledger.{Entry, Ledger, ledger, multiplierRows, valueTable}
 use Rattle.ledger.specs.Steps.{mixWords}
 use Rattle.ledger.specs.History.{Call, ledgerStep}
 use Rattle.ledger.specs.Proper.{Proper}
 use Rattle.ledger.proofs.Proper.{empty-proper, step-proper}
 use Rattle.sheet_text.specs.Lines.{newWord, repeatWord, conflictWord, refusedWord, missingWord, unknownWord, space, lineFeed, wordLine, frameLine}
 use Rattle.sheet_text.specs.Lines.{recordText, recordLine, recordLines, missingLine}
-use Rattle.sheet_heat.specs.Sheet.{cutLine, endingFrom, ledgerEnding, ledgerTakes, ledgerAfter, ledgerLine, linesFrom, heatOf, sheetOf}
+use Rattle.sheet_heat.specs.Sheet.{sheetWords, cutLine, endingFrom, ledgerEnding, ledgerTakes, ledgerAfter, ledgerLine, linesFrom, heatOf, sheetOf}
 use Rattle.sheet_heat.proofs.SheetLaws.{lines-end, lines-frame}
 use Rattle.starred.specs.Heat.{HeatFrame, HeatExample, firstFrames, sheetHeat, unsettledHeat, told, entryOf, kept, keptEntries}
 use Rattle.starred.specs.Sheet.{framesStream, streamOf, SheetExample, nineLines, unknownLines, sheetExamples, Prints}
 use Rattle.starred.proofs.Sizes.{areSizes, sizes-checked}
-use Rattle.starred.proofs.HeatChecker.{sameℤ, sendToZero, isCombination, isMix, isAnswer, isShown}
+use Rattle.starred.proofs.HeatChecker.{sameℤ, sendToZero, isCombination, givesValues, isMix, isAnswer, isShown}
 use Rattle.starred.proofs.Heat.{isWritten, isTaken, areTaken, areShown, Witnesses, passes, sheetWitnesses, unsettledWitnesses, frame-taken}
 use Rattle.starred.proofs.Heat.{frames-proper, records-shown}
 
@@ -70,8 +70,9 @@ isStream h =
     and areSame (drop 5 (streamOf h)) (framesStream (h .frames))
     and areShort (h .frames)
 
+-- a heat of one word a record that passes, and its text is what is printed
 unfoldable prints : SheetExample → Witnesses → Bool
-prints e w = passes (e .heat) w and isStream (e .heat) and areSame (textOf (e .heat)) (e .printed)
+prints e w = eqb (e .heat .words) sheetWords and passes (e .heat) w and isStream (e .heat) and areSame (textOf (e .heat)) (e .printed)
 
 -- ---- what is printed
 
@@ -90,8 +91,8 @@ module _ (p n : ℕ) (ok : IsModulus p) where
       (ap (λ k. drop k whole) e ∙ drop-append-seam frame rest)
 
   -- frames that are taken so print the lines of their answers
-  frames-print : (xs : List (List ℕ)) (es : List Entry) → Proper p n es → (fs : List HeatFrame)
-      → areTaken p n xs es fs ≡ true → areShort fs ≡ true
+  frames-print : (xs : List (List ℕ)) (es : List Entry) → Proper p n sheetWords es → (fs : List HeatFrame)
+      → areTaken p n sheetWords xs es fs ≡ true → areShort fs ≡ true
       → linesFrom p ok n (ledger es) (framesStream fs) ≡ framesText es fs ++ ledgerEnding p ok n (ledger (es ++ keptEntries fs))
   unfolding areTaken areShort framesStream framesText keptEntries ledgerTakes ledgerLine ledgerStep
   frames-print xs es proper [] t s = lines-end p ok n (ledger es) ∙ ap (λ ds. ledgerEnding p ok n (ledger ds)) (sym (append-nil es))
@@ -100,9 +101,10 @@ module _ (p n : ℕ) (ok : IsModulus p) where
       let (short, rest) = both _ _ s in
       let after = es ++ kept (f .answer) (entryOf f) in
       let mix : List ℕ = replicate n 0 in
-      let taken = frame-taken p n ok xs es proper f first mix (length-replicate n 0) in
-      let stays : Proper p n after =
-      subst (λ (r : Outcome (Ledger × List ℕ)). Proper p n (r .lent .0 .entries)) taken (step-proper p n es proper ok (Call.take (f .bytes) mix)) in
+      let taken = frame-taken p n sheetWords ok xs es proper f first mix (length-replicate n 0) in
+      let stays : Proper p n sheetWords after =
+      subst (λ (r : Outcome (Ledger × List ℕ)). Proper p n sheetWords (r .lent .0 .entries)) taken
+      (step-proper p n sheetWords es proper ok (Call.take (f .bytes) mix)) in
       lines-first (ledger es) (f .bytes) (framesStream fs) (eqb-true _ _ short)
       ∙ ap
       (λ (r : Outcome (Ledger × List ℕ)).
@@ -112,12 +114,15 @@ module _ (p n : ℕ) (ok : IsModulus p) where
       ∙ ap (λ ds. framesText es (f ∷ fs) ++ ledgerEnding p ok n (ledger ds)) (append-assoc es (kept (f .answer) (entryOf f)) (keptEntries fs))
 
   -- and the ending is that of what show gives
-  ending-prints : (w : Witnesses) (es : List Entry) → Proper p n es → (ms : List ℕ) (zs : List ℤ) (missing : ℕ)
-      → areShown p n (w .settling) es ms zs ≡ true → n - length es ≡ missing
+  ending-prints : (w : Witnesses) (es : List Entry) → Proper p n sheetWords es → (ms : List ℕ) (zs : List ℤ) (missing : ℕ)
+      → areShown p n sheetWords (w .settling) es ms zs ≡ true → n - length es ≡ missing
       → ledgerEnding p ok n (ledger es) ≡ recordLines n ms zs ++ missingLine missing
   unfolding ledgerEnding endingFrom
   ending-prints w es proper ms zs missing t many =
-      ap (endingFrom n) (records-shown p n ok (w .settling) es proper ms zs t (replicate n 0) (replicate n (pos 0)) (length-replicate n 0) (length-replicate n (pos 0)))
+      let long : length (replicate n (pos 0)) ≡ n * sheetWords = omega (arith, length-replicate n (pos 0)) in
+      ap (endingFrom n)
+      (records-shown p n sheetWords ok (omega arith, omega arith) (w .settling) es proper ms zs t
+      (replicate n 0) (replicate n (pos 0)) (length-replicate n 0) long)
       ∙ ap (λ k. recordLines n ms zs ++ missingLine k) many
 
 -- an example that passes is printed so
@@ -130,6 +135,7 @@ passed-prints e w t =
     let input = streamOf h in
     let (t, text) = both _ _ t in
     let (t, stream) = both _ _ t in
+    let (one-word, t) = both _ _ t in
     let (t, many) = both _ _ t in
     let (t, shown) = both _ _ t in
     let (sizes, taken) = both _ _ t in
@@ -137,16 +143,17 @@ passed-prints e w t =
     let (stream, frames) = both _ _ stream in
     let (stream, n-read) = both _ _ stream in
     let (long, p-read) = both _ _ stream in
-    let (ok, size) = sizes-checked p n sizes in
+    let single : h .words ≡ sheetWords = eqb-true _ _ one-word in
+    let (ok, size, words) = sizes-checked p n sheetWords (rw single at sizes) in
     ap (λ b. choose b cutLine (heatOf (numberAt 4 input 0) (getD input 4 0) (drop 5 input))) (not-true (ltb (length input) 5) long)
     ∙ ap (λ q. heatOf q (getD input 4 0) (drop 5 input)) (eqb-true _ _ p-read)
     ∙ ap₂ (heatOf p) (eqb-true _ _ n-read) (all-same _ _ frames)
-    ∙ in-order-done _ _ _ (sizes-hold p n ok size)
+    ∙ in-order-done _ _ _ (sizes-hold p n sheetWords ok size words)
     (λ given. ap (λ q. linesFrom p q n (ledger []) (framesStream (h .frames))) (modulus-prop p (given .0) ok))
-    ∙ frames-print p n ok (w .separating) [] (empty-proper p n) (h .frames) taken short
+    ∙ frames-print p n ok (w .separating) [] (empty-proper p n sheetWords) (h .frames) (rw single at taken) short
     ∙ ap (λ x. framesText [] (h .frames) ++ x)
-    (ending-prints p n ok w (keptEntries (h .frames)) (frames-proper p n ok (w .separating) (h .frames) taken) (h .marks) (h .numbers) (h .missing)
-    shown (eqb-true _ _ many))
+    (ending-prints p n ok w (keptEntries (h .frames)) (frames-proper p n sheetWords ok (w .separating) (h .frames) (rw single at taken))
+    (h .marks) (h .numbers) (h .missing) (rw single at shown) (eqb-true _ _ many))
     ∙ all-same _ _ text
 
 unfoldable witnessed : List (SheetExample × Witnesses)
@@ -155,8 +162,8 @@ witnessed = (nineLines, sheetWitnesses) ∷ (unknownLines, unsettledWitnesses) �
 -- each passes, computed
 all-pass : every (λ (q : SheetExample × Witnesses). prints (q .0) (q .1)) witnessed ≡ true
 unfolding every witnessed nineLines unknownLines sheetHeat sheetWitnesses unsettledHeat unsettledWitnesses firstFrames keptEntries
-    prints passes areSizes isPrime areTaken isTaken isWritten isAnswer isMix areShown isShown sendToZero isCombination areBelow areSame
-    everyBelow _and_ same sameℤ multiplierRows valueColumn mixWords sum unit apply mixed tabulate reduce _⊕_ _⊗_ reading balancedLow
+    prints passes areSizes isPrime areTaken isTaken isWritten isAnswer isMix givesValues areShown isShown sendToZero isCombination areBelow areSame
+    everyBelow _and_ same sameℤ multiplierRows valueTable mixWords sum unit apply mixed tabulate reduce _⊕_ _⊗_ reading balancedLow
     frameIn mapBytes mapByte mapLength stands packed valueBytes bytesOf width
     isStream areShort streamOf framesStream numberFrom numberAt textOf framesText frameLine wordLine recordLines recordLine recordText
     newWord repeatWord conflictWord refusedWord missingWord unknownWord space lineFeed decimal digitsWithin minus signedDecimal

@@ -1,5 +1,6 @@
 -- 01, "The sheet program and the C side": the example of the sheet, from the bytes that come in to the bytes that are printed. "With
--- p = 7, n = 3 and the frames (1 2 0) 5, (0 1 3) 4, (1 3 3) 2, (1 3 3) 3, (0 0 1) 6 it prints all of" nine lines.
+-- p = 7, n = 3 and the frames (1 2 0) 5, (0 1 3) 4, (1 3 3) 2, (1 3 3) 3, (0 0 1) 6 it prints all of" nine lines. A stream has no number of
+-- words: "The sheet program and 01's cases have s = 1." (02, #103)
 use mathlib.Core.Path.{_≡_}
 use mathlib.Core.List.{List, [], _∷_, _++_}
 use Prim.Native.Nat.{ℕ}
@@ -17,7 +18,7 @@ framesStream (f ∷ fs) = bytesOf 2 (length (f .bytes)) ++ (f .bytes ++ framesSt
 unfoldable pub streamOf : HeatExample → List ℕ
 streamOf h = bytesOf 4 (h .modulus) ++ (h .size ∷ framesStream (h .frames))
 
--- a heat, and what is printed of it
+-- a heat of one word a record, and what is printed of it
 pub record SheetExample : Type 0 where
   pub heat : HeatExample
   pub printed : List ℕ

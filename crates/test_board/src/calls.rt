@@ -1,8 +1,8 @@
 // The stored lists of calls. Each call finds the board as the last one left it and is lent what the file gives, and its
 // answer, the lent memory and the board are compared with what the file says.
-ghost use Prim.Native.Nat.{_≤_};
 use super::memory;
 use super::report;
+use board_words::layout::LARGEST_BOARD;
 use test_support::counts;
 use test_support::input;
 use test_support::lent;
@@ -34,7 +34,7 @@ fn take_frame(board: &mut [u32], frame: &[u8], tally: &mut [u32; 16]) {
 
 // A take, with the frame from the file.
 fn take(board: &mut [u32], tally: &mut [u32; 16]) {
-    let length = input::length(272);
+    let length = input::length(332);
     let mut bytes = lent::bytes(0);
     let frame = lent::front_bytes(&mut bytes, length);
     input::read_wide_bytes(frame);
@@ -49,7 +49,7 @@ fn withdraw(board: &mut [u32], tally: &mut [u32; 16]) {
 
 // A show with the low end and the marks, and with the numbers from the file.
 fn show_marks(board: &[u32], low: u32, marks: &mut [u32], tally: &mut [u32; 16]) {
-    let room = input::length(66);
+    let room = input::length(1026);
     let mut signed = lent::numbers(memory::NUMBER);
     let numbers = lent::front_numbers(&mut signed, room);
     input::read_numbers(numbers);
@@ -112,29 +112,32 @@ fn play_calls(board: &mut [u32], tally: &mut [u32; 16]) {
     }
 }
 
-// A history from its open on, with memory for its board.
-fn play(p: u32, n: u32, tally: &mut [u32; 16])
-    requires { ⌜ n ≤ 64 ⌝ }
-{
-    let length = memory::board_length(n);
+// Counts an open by its answer, which the file says next.
+fn expect_open(answer: Told, tally: &mut [u32; 16]) {
+    let number = input::word();
+    counts::count_if(tally, report::open_place(number), answer.number == number);
+}
+
+// A history behind open's p, n and s, with so many words for its board as the file says. Calls follow a refused open as well.
+fn play(p: u32, n: u32, s: u32, tally: &mut [u32; 16]) {
+    let length = input::length(LARGEST_BOARD);
     let mut words = memory::board();
     let board = lent::front(&mut words, length);
-    let answer = report::open_told(board_calls::open(p, n, board));
-    counts::count_if(tally, report::HISTORIES, answer.number == 0);
+    let answer = report::open_told(board_calls::open(p, n, s, board));
+    expect_open(answer, tally);
+    counts::expect_words(tally, board);
     play_calls(board, tally);
 }
 
-// The next history, and whether there was one. More than 64 records are none of the script's.
+// The next history, and whether there was one.
 fn next_history(tally: &mut [u32; 16]) -> bool {
     let p = input::word();
-    let n = input::word();
     if p == 0 {
         return false;
     }
-    if 64 < n {
-        return counts::stop(tally);
-    }
-    play(p, n, tally);
+    let n = input::word();
+    let s = input::word();
+    play(p, n, s, tally);
     true
 }
 

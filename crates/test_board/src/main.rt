@@ -5,8 +5,8 @@
 //
 // The file `stdout` has what that script's ledger counts, and for the examples what the document gives, worked out from them
 // and not from a run:
-// - `histories N`; `takes N`, and of these `new N`, `repeat N`, `conflict N` (9) and `refused N` (otherwise);
-//   `withdrawals N`, `shows N`; `tampered N`, how often a word was written into a board.
+// - `histories N`, and `unopened N` where open was refused; `takes N`, and of these `new N`, `repeat N`, `conflict N` (9) and
+//   `refused N` (otherwise); `withdrawals N`, `shows N`; `tampered N`, how often a word was written into a board.
 // - `example NAME ANSWER COUNT` for each example, and the mix, or the marks and numbers, as the call left them. Open has no
 //   count, and that of a show is what is missing. Lent words begin as 9 and lent numbers as -9. An open that is refused and
 //   changed them would add `touched`.

@@ -26,6 +26,9 @@ pub const SHOWS: usize = 7;
 
 pub const TAMPERED: usize = 8;
 
+// Histories whose open was refused.
+pub const UNOPENED: usize = 9;
+
 pub fn open_told(answer: OpenAnswer) -> Told {
     match answer {
         OpenAnswer::Opened => Told {
@@ -57,6 +60,11 @@ pub fn count_told(answer: CountAnswer) -> Told {
     }
 }
 
+// The place of an open by the number of its answer.
+pub fn open_place(number: u32) -> usize {
+    if number == 0 { HISTORIES } else { UNOPENED }
+}
+
 // The place of a take by the number of its answer.
 pub fn take_place(number: u32) -> usize {
     if number == 0 {
@@ -77,16 +85,6 @@ fn print_signed(z: i32) {
     let end = codec::put_signed(&mut text, 0, z);
     output::print_text(b" ");
     output::print_text(&text[..end]);
-}
-
-// The name and the words behind it.
-pub fn print_words(name: &[u8], words: &[u32]) {
-    output::print_text(name);
-    let mut i = 0;
-    while i < words.len() {
-        output::print_number(words[i]);
-        i += 1;
-    }
 }
 
 // The name and the signed numbers behind it.
@@ -111,6 +109,7 @@ fn print_takes(tally: &[u32; 16]) {
 // The lines of the stored calls.
 pub fn print_calls(tally: &[u32; 16]) {
     output::print_count(b"histories", tally, HISTORIES);
+    output::print_count(b"unopened", tally, UNOPENED);
     print_takes(tally);
     output::print_count(b"withdrawals", tally, WITHDRAWALS);
     output::print_count(b"shows", tally, SHOWS);

@@ -1,50 +1,89 @@
-// Document 01's examples of frames that are not starred, examples of padding and of the width of numbers as document 02's #101 and
-// #111 have it, and the order of the checks: where a function here names an order, what one check refuses the later ones would refuse
-// too. The starred example is a theorem, in frame/proofs/Examples.antt.
+// Document 01's examples of frames that are not starred, examples of padding, of several words a record and of the width of numbers as
+// document 02's #101, #103 and #111 have it, and the order of the checks: where a function here names an order, what one check refuses
+// the later ones would refuse too. Where a name tells no number of words, a record has one. The starred example is a theorem, in
+// frame/proofs/Examples.antt.
 ghost use Prim.Native.Nat.{_≤_};
 use super::memory;
 use super::report;
 use test_support::lent;
 use test_support::output;
 use test_support::told;
-use test_support::told::Told;
 
-// The start of the example's line, with the value where the call is not refused.
-fn print_told(call: &[u8], name: &[u8], answer: Told) {
-    output::print_example(call, name, answer.number);
-    if !told::is_refused(answer.number) {
-        output::print_number(answer.value);
+// The values behind the number of an answer; a refusal leaves them as they were.
+fn print_values(number: u32, values: &[u32]) {
+    if told::is_refused(number) {
+        output::print_touched_words(number, values, memory::WORD);
+    } else {
+        output::print_words(b"", values);
     }
 }
 
-// Reads a frame with so many words lent; a refusal leaves them as they were.
-fn read(name: &[u8], p: u32, n: u32, bytes: &[u8], room: usize)
-    requires { ⌜ room ≤ 66 ⌝ }
+// Reads a frame of s words a record with so many words lent for the multipliers; a refusal leaves them as they were.
+fn read_words(name: &[u8], p: u32, n: u32, s: u32, bytes: &[u8], room: usize)
+    requires { ⌜ (s ≤ 66) × (room ≤ 66) ⌝ }
 {
-    let mut space = lent::words(memory::WORD);
-    let words = lent::front(&mut space, room);
-    let answer = report::read_told(frame_calls::read(p, n, bytes, words));
-    print_told(b"read-", name, answer);
-    output::print_touched_words(answer.number, words, memory::WORD);
+    let size = s as usize;
+    let mut words = lent::words(memory::WORD);
+    let multipliers = lent::front(&mut words, room);
+    let mut more_words = lent::words(memory::WORD);
+    let values = lent::front(&mut more_words, size);
+    let answer = report::read_told(frame_calls::read(p, n, s, bytes, multipliers, values));
+    output::print_example(b"read-", name, answer.number);
+    output::print_touched_words(answer.number, multipliers, memory::WORD);
+    print_values(answer.number, values);
     output::print_end();
 }
 
-// Writes a frame to so many lent bytes; a refusal leaves them as they were.
-fn write(name: &[u8], p: u32, n: u32, multipliers: &[u32], value: u32, room: usize)
-    requires { ⌜ room ≤ 272 ⌝ }
+fn read(name: &[u8], p: u32, n: u32, bytes: &[u8], room: usize)
+    requires { ⌜ room ≤ 66 ⌝ }
+{
+    read_words(name, p, n, 1, bytes, room);
+}
+
+// Writes a frame of s values to so many lent bytes; a refusal leaves them as they were.
+fn write_words(
+    name: &[u8],
+    p: u32,
+    n: u32,
+    s: u32,
+    multipliers: &[u32],
+    values: &[u32],
+    room: usize,
+)
+    requires { ⌜ room ≤ 332 ⌝ }
 {
     let mut space = lent::bytes(memory::BYTE);
     let bytes = lent::front_bytes(&mut space, room);
-    let answer = report::write_told(frame_calls::write(p, n, multipliers, value, bytes));
-    print_told(b"write-", name, answer);
+    let answer = report::write_told(frame_calls::write(p, n, s, multipliers, values, bytes));
+    output::print_example(b"write-", name, answer.number);
+    if !told::is_refused(answer.number) {
+        output::print_number(answer.value);
+    }
     output::print_touched(answer.number, memory::is_only_front(b"", bytes));
     output::print_end();
 }
 
-fn seal(name: &[u8], p: u32, n: u32, low: u32, records: &[i32], multipliers: &[u32]) {
-    let answer = report::seal_told(frame_calls::seal(p, n, low, records, multipliers));
-    print_told(b"seal-", name, answer);
+fn write(name: &[u8], p: u32, n: u32, multipliers: &[u32], value: u32, room: usize)
+    requires { ⌜ room ≤ 332 ⌝ }
+{
+    write_words(name, p, n, 1, multipliers, &[value], room);
+}
+
+// Seals records of s words.
+fn seal_words(name: &[u8], p: u32, n: u32, s: u32, low: u32, records: &[i32], multipliers: &[u32])
+    requires { ⌜ s ≤ 66 ⌝ }
+{
+    let size = s as usize;
+    let mut words = lent::words(memory::WORD);
+    let values = lent::front(&mut words, size);
+    let answer = report::seal_told(frame_calls::seal(p, n, s, low, records, multipliers, values));
+    output::print_example(b"seal-", name, answer.number);
+    print_values(answer.number, values);
     output::print_end();
+}
+
+fn seal(name: &[u8], p: u32, n: u32, low: u32, records: &[i32], multipliers: &[u32]) {
+    seal_words(name, p, n, 1, low, records, multipliers);
 }
 
 // A frame of three records.
@@ -134,6 +173,40 @@ fn reads() {
     read_empty(b"empty", 7, 3, 3);
 }
 
+// Two records of two words modulo 7 with the multipliers 2 and 4, in a frame of the values 0 and 6. With 0 or 17 words 12 comes before
+// 3, which one lent multiplier gets.
+fn several_reads() {
+    read_words(b"two-words", 7, 2, 2, b"\x03\x02\x04\0\x06", 2);
+    read_words(b"two-words-one-value", 7, 2, 2, b"\x03\x02\x04\0", 2);
+    read_words(b"two-words-last-p", 7, 2, 2, b"\x03\x02\x04\0\x07", 2);
+    read_words(b"one-word-two-values", 7, 2, 1, b"\x03\x02\x04\0\x06", 2);
+    read_words(b"no-words", 7, 2, 0, b"", 1);
+    read_words(b"17-words", 7, 2, 17, b"", 1);
+}
+
+// The same frame, for which 264 + 4 × 2 bytes are lent.
+fn write_several(name: &[u8], s: u32, room: usize)
+    requires { ⌜ room ≤ 332 ⌝ }
+{
+    write_words(name, 7, 2, s, &[2, 4], &[0, 6], room);
+}
+
+fn several_writes() {
+    write_several(b"two-words", 2, 272);
+    write_several(b"two-words-room", 2, 268);
+    write_several(b"no-words", 0, 268);
+    write_several(b"17-words", 17, 268);
+}
+
+// Its records stand one after the other: the first words 1 and 3 give 1 × 2 + 3 × 4 = 14, which is 0 modulo 7, and the second words -1
+// and 2 give 6. For two records of two words two numbers are too few.
+fn several_seals() {
+    seal_words(b"two-words", 7, 2, 2, 3, &[1, -1, 3, 2], &[2, 4]);
+    seal_words(b"two-words-two-numbers", 7, 2, 2, 3, &[1, -1], &[2, 4]);
+    seal_words(b"no-words", 7, 2, 0, 3, &[1, -1], &[2, 4]);
+    seal_words(b"17-words", 7, 2, 17, 3, &[1, -1], &[2, 4]);
+}
+
 // Multipliers, a value and room that the checks of lengths and numbers refuse.
 fn write_wrong(name: &[u8], p: u32, n: u32) {
     write(name, p, n, &[7, 2], 7, 267);
@@ -141,7 +214,7 @@ fn write_wrong(name: &[u8], p: u32, n: u32) {
 
 // Three multipliers, of which the first may be refused.
 fn write_three(name: &[u8], first: u32, value: u32, room: usize)
-    requires { ⌜ room ≤ 272 ⌝ }
+    requires { ⌜ room ≤ 332 ⌝ }
 {
     write(name, 7, 3, &[first, 2, 0], value, room);
 }
@@ -236,4 +309,7 @@ pub fn run() {
     seal_order();
     seal_numbers();
     seal_lows();
+    several_reads();
+    several_writes();
+    several_seals();
 }

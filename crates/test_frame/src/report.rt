@@ -7,16 +7,16 @@ use test_support::output;
 use test_support::told;
 use test_support::told::Told;
 
-// The places of the counts: that of the accepted frames, those of the refusals by their numbers, 1 to 11, and two more.
-pub const ACCEPTED: usize = 0;
+// The places of the counts: that of the calls that are done, those of the refusals by their numbers, 1 to 12, and two more.
+pub const DONE: usize = 0;
 
-pub const FRAMES: usize = 12;
+pub const FRAMES: usize = 13;
 
-pub const REWRITTEN: usize = 13;
+pub const REWRITTEN: usize = 14;
 
 pub fn read_told(answer: ReadAnswer) -> Told {
     match answer {
-        ReadAnswer::Value(value) => Told { number: 0, value },
+        ReadAnswer::Words(s) => told::done(s),
         ReadAnswer::Refused(kind) => told::refused(kind),
     }
 }
@@ -30,8 +30,17 @@ pub fn write_told(answer: WriteAnswer) -> Told {
 
 pub fn seal_told(answer: SealAnswer) -> Told {
     match answer {
-        SealAnswer::Value(value) => Told { number: 0, value },
+        SealAnswer::Words(s) => told::done(s),
         SealAnswer::Refused(kind) => told::refused(kind),
+    }
+}
+
+// The place of an answer by its number.
+pub fn place(number: u32) -> usize {
+    if told::is_refused(number) {
+        number as usize
+    } else {
+        DONE
     }
 }
 
@@ -47,15 +56,15 @@ fn print_refused(number: u32, n: u32) {
 
 fn print_refusals(tally: &[u32; 16]) {
     let mut number: usize = 1;
-    while number < 12 {
+    while number < 13 {
         print_refused(number as u32, tally[number]);
         number += 1;
     }
 }
 
-// The lines of the stored cases of sealing.
-pub fn print_seals(tally: &[u32; 16]) {
-    output::print_count(b"sealed", tally, ACCEPTED);
+// The lines of the stored cases of sealing or writing, with the name of those that are done.
+pub fn print_calls(done: &[u8], tally: &[u32; 16]) {
+    output::print_count(done, tally, DONE);
     print_refusals(tally);
     output::print_count(b"mismatches", tally, counts::MISMATCHES);
 }
@@ -63,7 +72,7 @@ pub fn print_seals(tally: &[u32; 16]) {
 // The lines of the stored cases of reading.
 pub fn print_cases(tally: &[u32; 16]) {
     output::print_count(b"frames", tally, FRAMES);
-    output::print_count(b"accepted", tally, ACCEPTED);
+    output::print_count(b"accepted", tally, DONE);
     print_refusals(tally);
     output::print_count(b"rewritten", tally, REWRITTEN);
 }

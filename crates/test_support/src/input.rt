@@ -23,20 +23,6 @@ fn signed_of(word: u32) -> i32 {
     }
 }
 
-// The next byte.
-pub fn byte() -> u32 {
-    let mut bytes = [0u8; 1];
-    io::read_full(STDIN_FILENO, &mut bytes);
-    number_of(&bytes)
-}
-
-// The number in the next two bytes.
-pub fn half() -> u32 {
-    let mut bytes = [0u8; 2];
-    io::read_full(STDIN_FILENO, &mut bytes);
-    number_of(&bytes)
-}
-
 // The number in the next four bytes.
 pub fn word() -> u32 {
     let mut bytes = [0u8; 4];

@@ -11,18 +11,18 @@ pub fn words(word: u32) -> [u32; 66]
     [word; 66]
 }
 
-// The same of signed numbers.
-pub fn numbers(number: i32) -> [i32; 66]
-    ensures { λ r. ⌜ 66 ≡ length r ⌝ }
+// Room for the numbers of 64 records of 16 words, and two more.
+pub fn numbers(number: i32) -> [i32; 1026]
+    ensures { λ r. ⌜ 1026 ≡ length r ⌝ }
 {
-    [number; 66]
+    [number; 1026]
 }
 
-// Room for the longest frame, 268 bytes, and four more.
-pub fn bytes(byte: u8) -> [u8; 272]
-    ensures { λ r. ⌜ 272 ≡ length r ⌝ }
+// Room for the longest frame, 328 bytes, and four more.
+pub fn bytes(byte: u8) -> [u8; 332]
+    ensures { λ r. ⌜ 332 ≡ length r ⌝ }
 {
-    [byte; 272]
+    [byte; 332]
 }
 
 // The first n words, to lend.

@@ -14,6 +14,16 @@ pub fn print_number(n: u32) {
     io::print_decimal(STDOUT_FILENO, n as u64);
 }
 
+// The name and the words behind it.
+pub fn print_words(name: &[u8], words: &[u32]) {
+    print_text(name);
+    let mut i = 0;
+    while i < words.len() {
+        print_number(words[i]);
+        i += 1;
+    }
+}
+
 // The line's end.
 pub fn print_end() {
     print_text(b"\n");

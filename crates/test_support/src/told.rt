@@ -7,7 +7,7 @@ pub struct Told {
     pub value: u32,
 }
 
-// The number of a result: 200 plus it. Results are at most 268, so that nothing wraps.
+// The number of a result: 200 plus it. Results are at most 328, so that nothing wraps.
 pub fn number_of(result: u32) -> u32 {
     std::num::wrapping_add_u32(200, result)
 }

@@ -10,11 +10,11 @@ ghost use Rattle.words.specs.Words.{Below, Blank, Zeros, Copied, PutAt, 
 // The most numbers of a row or a column.
 pub const ROW: usize = 64;
 
-// The numbers of a row with one number carried behind it.
-pub const WIDE: usize = 65;
+// The numbers of a row with up to 16 numbers carried behind it.
+pub const WIDE: usize = 80;
 
-// The numbers of the largest table with one number carried behind each row.
-pub const WIDE_TABLE: usize = 4160;
+// The numbers of the largest table with as many carried behind each row.
+pub const WIDE_TABLE: usize = 5120;
 
 // Zeros: room for the longest row or column.
 pub fn row_room() -> [u32; ROW]
@@ -23,14 +23,14 @@ pub fn row_room() -> [u32; ROW]
     [0u32; ROW]
 }
 
-// Room for a row with one number carried behind it.
+// Room for a row with the numbers carried behind it.
 pub fn wide_room() -> [u32; WIDE]
     ensures { λ r. ⌜ Zeros widestRow r ⌝ }
 {
     [0u32; WIDE]
 }
 
-// Room for a table with a number carried behind each row.
+// Room for a table with the numbers carried behind each row.
 pub fn wide_table() -> [u32; WIDE_TABLE]
     ensures { λ r. ⌜ Zeros widestTable r ⌝ }
 {
@@ -108,18 +108,19 @@ pub fn same(xs: &[u32], ys: &[u32]) -> bool
     xs.len() <= first_difference(xs, ys)
 }
 
-// Whether every number is below p.
+// Whether every number is below p. All are looked at, so that several can be compared at once.
 pub fn all_below(p: u32, numbers: &[u32]) -> bool
     ensures { λ r. ⌜ Tells r (Below p (now (numbers .entry))) ⌝ }
 {
+    let mut all = true;
     let mut i = 0;
     while i < numbers.len() {
         if p <= numbers[i] {
-            return false;
+            all = false;
         }
         i += 1;
     }
-    true
+    all
 }
 
 // Whether every number is 0.

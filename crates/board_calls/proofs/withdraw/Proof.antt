@@ -27,7 +27,7 @@ returns : tie.Need-returns
 returns c = sym (withdraw-off-board _ (guard-taken (c .before .is-board .ensures) (c .if1 .taken)) _)
 
 slice-read-k : tie.Need-slice-read-k
-slice-read-k c = omega (arith, board (c .before) .three)
+slice-read-k c = omega (arith, board (c .before) .four)
 
 same-length-2 : tie.Need-same-length-2
 same-length-2 c = search needs
@@ -36,16 +36,22 @@ returns-2 : tie.Need-returns-2
 returns-2 c = withdraw-too-many _ (board (c .before .before)) _ (c .if2 .taken)
 
 slice-read-n : tie.Need-slice-read-n
-slice-read-n c = omega (arith, board (c .before .before .before) .three)
+slice-read-n c = omega (arith, board (c .before .before .before) .four)
 
 cast-n : tie.Need-cast-n
 cast-n c = omega (arith, board (c .before .before .before) .size .1)
 
+slice-read-s : tie.Need-slice-read-s
+slice-read-s c = omega (arith, board (c .before .before .before .before) .four)
+
+cast-s : tie.Need-cast-s
+cast-s c = omega (arith, board (c .before .before .before .before) .words .1)
+
 drop-rows-requires : tie.Need-drop-rows-requires
 drop-rows-requires c κs =
-    let b = board (c .before .before .before .before) in
+    let b = board (c .before .before .before .before .before) in
     let h = board-header b in
-    (b .size .1, count-most _ h, sub-le _ _, rows-inside _ h)
+    (b .size .1, b .words .1, count-most _ h, sub-le _ _, rows-inside _ h)
 
 same-length-3 : tie.Need-same-length-3
 same-length-3 c = search needs
@@ -53,11 +59,11 @@ same-length-3 c = search needs
 returns-3 : tie.Need-returns-3
 returns-3 c =
     let w = c .before .before in
-    let e = w .before .before .before in
+    let e = w .before .before .before .before in
     withdraw-done _ (board (e .before .before)) _ (e .if2 .left) _ (w .drop-rows .ensures)
 
 pub withdraw-spec : {M : Type 1} → statement M
 withdraw-spec =
     tie.close
-    (tie.spec is-board-requires same-length returns slice-read-k same-length-2 returns-2 slice-read-n cast-n drop-rows-requires
+    (tie.spec is-board-requires same-length returns slice-read-k same-length-2 returns-2 slice-read-n cast-n slice-read-s cast-s drop-rows-requires
     same-length-3 returns-3)

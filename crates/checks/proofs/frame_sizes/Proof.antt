@@ -23,8 +23,21 @@ returns-3 c =
 
 returns-4 : tie.Need-returns-4
 returns-4 c =
-    let e = c .before .before in
-    holds-and (guard-left (e .before .is-modulus .ensures) (e .if1 .left)) (λ _. holds-and (omega arith) (λ _. none-left))
+    let e = c .before .before .before in
+    fails-later (guard-left (e .before .is-modulus .ensures) (e .if1 .left))
+    (λ _. fails-later (omega arith) (λ _. fails-here (λ s. omega arith)))
+
+returns-5 : tie.Need-returns-5
+returns-5 c =
+    let e = c .before .before .before .before in
+    fails-later (guard-left (e .before .is-modulus .ensures) (e .if1 .left))
+    (λ _. fails-later (omega arith) (λ _. fails-here (λ s. omega arith)))
+
+returns-6 : tie.Need-returns-6
+returns-6 c =
+    let e = c .before .before .before .before in
+    holds-and (guard-left (e .before .is-modulus .ensures) (e .if1 .left))
+    (λ _. holds-and (omega arith) (λ _. holds-and (omega arith) (λ _. none-left)))
 
 pub frame-sizes-spec : {M : Type 1} → statement M
-frame-sizes-spec = tie.close (tie.spec is-modulus-requires returns returns-2 returns-3 returns-4)
+frame-sizes-spec = tie.close (tie.spec is-modulus-requires returns returns-2 returns-3 returns-4 returns-5 returns-6)

@@ -10,7 +10,7 @@ write-requires : tie.Need-write-requires
 write-requires c κs = search needs
 
 write-number-requires : tie.Need-write-number-requires
-write-number-requires c κs = small-write _ _ _ _ _ _ (c .before .before .write .ensures)
+write-number-requires c κs = small-write _ _ _ _ _ _ _ (c .before .before .write .ensures)
 
 same-length : tie.Need-same-length
 same-length c = search needs

@@ -24,7 +24,7 @@ array-borrow-prefix-marks c = search needs
 slice-aggregate-show-lines : tie.Need-slice-aggregate-show-lines
 slice-aggregate-show-lines c =
     let room = c .before .before in
-    sym (length-take-le _ _ (omega (arith, room .row-room .ensures .0, room .before .before .before .before .pre .0 .size)))
+    sym (length-take-le _ _ (omega (arith, room .row-room .ensures .0, room .before .before .before .before .pre .0 .0 .size)))
 
 array-borrow-prefix-numbers : tie.Need-array-borrow-prefix-numbers
 array-borrow-prefix-numbers c = search needs
@@ -32,7 +32,7 @@ array-borrow-prefix-numbers c = search needs
 slice-aggregate-show-lines-2 : tie.Need-slice-aggregate-show-lines-2
 slice-aggregate-show-lines-2 c =
     let room = c .before .before in
-    sym (length-take-le _ _ (omega (arith, room .numbers-room .ensures, room .before .before .before .before .before .pre .0 .size)))
+    sym (length-take-le _ _ (omega (arith, room .numbers-room .ensures, room .before .before .before .before .before .pre .0 .0 .size)))
 
 show-lines-requires : tie.Need-show-lines-requires
 show-lines-requires c κs =
@@ -40,8 +40,8 @@ show-lines-requires c κs =
     let marks = numbers .before in
     let pre = marks .before .before .before .before .pre in (
       pre .0,
-      length-take-le _ _ (omega (arith, marks .row-room .ensures .0, pre .0 .size)),
-      length-take-le _ _ (omega (arith, numbers .numbers-room .ensures, pre .0 .size)),
+      length-take-le _ _ (omega (arith, marks .row-room .ensures .0, pre .0 .0 .size)),
+      length-take-le _ _ (omega (arith, numbers .numbers-room .ensures, pre .0 .0 .size)),
       pre .1,
     )
 

@@ -8,13 +8,19 @@ use Rattle.board_solve.proofs.combination.candidate.Tie as tie
 
 -- the entry, from the place where the turned rows are described
 abbrev start-of : tie.After-turned-grid → tie.Start
-start-of c = c .before .before .before .before .before .before
+start-of c = c .before .before .before .before .before .before .before
 
 shared-slice-read-n : tie.Need-shared-slice-read-n
 shared-slice-read-n c = search needs
 
 cast-n : tie.Need-cast-n
 cast-n c = search needs
+
+shared-slice-read-s : tie.Need-shared-slice-read-s
+shared-slice-read-s c = search needs
+
+cast-s : tie.Need-cast-s
+cast-s c = search needs
 
 shared-slice-read-k : tie.Need-shared-slice-read-k
 shared-slice-read-k c = search needs
@@ -55,5 +61,5 @@ returns c =
 pub candidate-spec : {M : Type 1} → statement M
 candidate-spec =
     tie.close
-    (tie.spec shared-slice-read-n cast-n shared-slice-read-k cast-k turned-grid-requires shared-slice-read-solution
+    (tie.spec shared-slice-read-n cast-n shared-slice-read-s cast-s shared-slice-read-k cast-k turned-grid-requires shared-slice-read-solution
     slice-relend-prefix-solution slice-aggregate-solution solution-requires same-length returns)

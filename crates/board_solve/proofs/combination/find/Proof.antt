@@ -13,7 +13,7 @@ use Rattle.board_solve.proofs.combination.find.Tie as tie
 
 -- the entry, from the place where the room for g is made
 abbrev start-of : tie.After-row-room → tie.Start
-start-of c = c .before .before .before .before .before .before .before .before
+start-of c = c .before .before .before .before .before .before .before .before .before
 
 -- the words of a call are a board
 board : (s : tie.Start) → IsBoard (s .args .board .now)
@@ -27,6 +27,12 @@ shared-slice-read-n c = search needs
 
 cast-n : tie.Need-cast-n
 cast-n c = search needs
+
+shared-slice-read-s : tie.Need-shared-slice-read-s
+shared-slice-read-s c = search needs
+
+cast-s : tie.Need-cast-s
+cast-s c = search needs
 
 shared-slice-read-k : tie.Need-shared-slice-read-k
 shared-slice-read-k c = search needs
@@ -119,6 +125,6 @@ returns c =
 pub find-spec : {M : Type 1} → statement M
 find-spec =
     tie.close
-    (tie.spec shared-slice-read-p shared-slice-read-n cast-n shared-slice-read-k cast-k row-length-requires row-room-requires
+    (tie.spec shared-slice-read-p shared-slice-read-n cast-n shared-slice-read-s cast-s shared-slice-read-k cast-k row-length-requires row-room-requires
     slice-aggregate-combine sub-combine part-combine-start part-combine-end array-borrow-prefix-g
     slice-aggregate-combine-2 combine-requires array-share-prefix-g slice-aggregate-same same-requires returns)

@@ -9,13 +9,19 @@ use Rattle.board_solve.proofs.records.reduce_board.Tie as tie
 
 -- the entry, from the place where the rows are described
 abbrev start-of : tie.After-rows-grid → tie.Start
-start-of c = c .before .before .before .before .before .before
+start-of c = c .before .before .before .before .before .before .before
 
 shared-slice-read-n : tie.Need-shared-slice-read-n
 shared-slice-read-n c = search needs
 
 cast-n : tie.Need-cast-n
 cast-n c = search needs
+
+shared-slice-read-s : tie.Need-shared-slice-read-s
+shared-slice-read-s c = search needs
+
+cast-s : tie.Need-cast-s
+cast-s c = search needs
 
 shared-slice-read-k : tie.Need-shared-slice-read-k
 shared-slice-read-k c = search needs
@@ -40,7 +46,7 @@ mul-reduced c =
     let v = c .before .before in
     let s = start-of (v .before) in
     omega
-    (arith, v .value-start .ensures, first-value _ _ _ (s .pre), s .pre .laid .header .long, board-most _ (s .pre .laid .header .size .1))
+    (arith, v .value-start .ensures, first-value _ _ _ (s .pre), s .pre .laid .header .long, board-most _ _ (s .pre .laid .header .size .1) (s .pre .laid .header .words .1))
 
 sub-reduced : tie.Need-sub-reduced
 sub-reduced c = let v = c .before .before in omega (arith, v .value-start .ensures, first-value _ _ _ (start-of (v .before) .pre))
@@ -79,6 +85,6 @@ returns c =
 pub reduce-board-spec : {M : Type 1} → statement M
 reduce-board-spec =
     tie.close
-    (tie.spec shared-slice-read-n cast-n shared-slice-read-k cast-k rows-grid-requires value-start-requires row-length-requires
+    (tie.spec shared-slice-read-n cast-n shared-slice-read-s cast-s shared-slice-read-k cast-k rows-grid-requires value-start-requires row-length-requires
     shared-slice-read-p mul-reduced sub-reduced part-reduced-start part-reduced-end reduced-requires same-length
     same-length-2 returns)

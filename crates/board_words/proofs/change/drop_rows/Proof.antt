@@ -15,9 +15,9 @@ part c =
     let s = c .before .before .before in
     let a = s .args in
     let from = c .before .row-start .ensures in (
-      omega (arith, c .row-start2 .ensures, row-later (a .n) (a .m) (a .k) (s .pre .2)),
-      omega (arith, row-behind (a .n) (a .m)),
-      omega (arith, row-most (a .n) (s .pre .0) (a .m) (omega arith)),
+      omega (arith, c .row-start2 .ensures, row-later (a .n) (a .s) (a .m) (a .k) (s .pre .3)),
+      omega (arith, row-behind (a .n) (a .s) (a .m)),
+      omega (arith, row-most (a .n) (a .s) (s .pre .0) (s .pre .1) (a .m) (omega arith)),
     )
 
 row-start-requires : tie.Need-row-start-requires
@@ -44,7 +44,7 @@ clear-requires c κs = search needs
 slice-write-board : tie.Need-slice-write-board
 slice-write-board c =
     let s = c .before .before .before .before .before .before .before in
-    omega (arith, row-behind (s .args .n) (s .args .k), s .pre .3)
+    omega (arith, row-behind (s .args .n) (s .args .s) (s .args .k), s .pre .4)
 
 same-length : tie.Need-same-length
 same-length c = search needs
@@ -59,7 +59,7 @@ returns c =
     let from = e1 .row-start .ensures in
     let end = e2 .row-start2 .ensures in
     rw (from, end)
-    (rows-dropped (a .n) (a .k) (a .m) (a .board .now) (cleared .clear .last .0) (s .pre .2) (s .pre .3)
+    (rows-dropped (a .n) (a .s) (a .k) (a .m) (a .board .now) (cleared .clear .last .0) (s .pre .3) (s .pre .4)
     (rw (from, end) at (cleared .clear .ensures .0)) (cleared .clear .ensures .1))
 
 pub drop-rows-spec : {M : Type 1} → statement M

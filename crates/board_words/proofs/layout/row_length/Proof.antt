@@ -8,7 +8,7 @@ add-result : tie.Need-add-result
 add-result c = omega arith
 
 returns : tie.Need-returns
-returns c = omega (arith, row-words (c .args .n))
+returns c = omega (arith, row-words (c .args .n) (c .args .s))
 
 pub row-length-spec : {M : Type 1} → statement M
 row-length-spec = tie.close (tie.spec add-result returns)

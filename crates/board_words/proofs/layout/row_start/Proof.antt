@@ -8,20 +8,24 @@ use Rattle.board_words.proofs.layout.row_start.Statement.{statement}
 use Rattle.board_words.proofs.layout.row_start.Tie as tie
 
 row-length-requires : tie.Need-row-length-requires
-row-length-requires c κs = c .pre .0
+row-length-requires c κs = (c .pre .0, c .pre .1)
 
 -- what the rows before row i take
-before : (c : tie.After-row-length) → c .before .args .i * c .row-length .result ≡ c .before .args .i * rowLength (c .before .args .n)
+before : (c : tie.After-row-length) → c .before .args .i * c .row-length .result ≡ c .before .args .i * rowLength (c .before .args .n) (c .before .args .s)
 before c = ap (λ w. c .before .args .i * w) (c .row-length .ensures)
 
 mul-result : tie.Need-mul-result
-mul-result c = let a = c .before .args in omega (arith, before c, row-step (a .n) (a .i), row-most (a .n) (c .before .pre .0) (a .i) (c .before .pre .1))
+mul-result c =
+    let a = c .before .args in
+    omega (arith, before c, row-step (a .n) (a .s) (a .i), row-most (a .n) (a .s) (c .before .pre .0) (c .before .pre .1) (a .i) (c .before .pre .2))
 
 add-result : tie.Need-add-result
-add-result c = let a = c .before .args in omega (arith, before c, row-step (a .n) (a .i), row-most (a .n) (c .before .pre .0) (a .i) (c .before .pre .1))
+add-result c =
+    let a = c .before .args in
+    omega (arith, before c, row-step (a .n) (a .s) (a .i), row-most (a .n) (a .s) (c .before .pre .0) (c .before .pre .1) (a .i) (c .before .pre .2))
 
 returns : tie.Need-returns
-returns c = let a = c .before .args in omega (arith, before c, row-step (a .n) (a .i))
+returns c = let a = c .before .args in omega (arith, before c, row-step (a .n) (a .s) (a .i))
 
 pub row-start-spec : {M : Type 1} → statement M
 row-start-spec = tie.close (tie.spec row-length-requires mul-result add-result returns)

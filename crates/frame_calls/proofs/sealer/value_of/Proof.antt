@@ -1,7 +1,6 @@
--- `frame_calls::sealer::value_of` meets its contract: the residues stand in front of the local numbers, and the sum over them is the
--- frame's value.
+-- `frame_calls::sealer::value_of` meets its contract: the residues of the word stand in front of the local numbers, and the sum over them
+-- is the frame's value for it.
 use mathlib.Core.Path.{sym}
-use Prim.Native.Nat.{_≤_}
 use native.Mathlib.Omega.{arith}
 use borrow.Author.Needs.{needs}
 use lib.ListN.{length}
@@ -9,10 +8,6 @@ use lib.Seq.{length-take-le}
 use Rattle.frame.proofs.SealSums.{seal-sum}
 use Rattle.frame_calls.proofs.sealer.value_of.Statement.{statement}
 use Rattle.frame_calls.proofs.sealer.value_of.Tie as tie
-
--- the records' residues are within the local numbers
-long : (c : tie.After-put-residues) → length (c .before .before .before .before .args .records .now) ≤ length (c .put-residues .last .1 .1 .1 .0)
-long c = omega (arith, c .put-residues .kept .1 .1 .1 .0, c .before .before .row-room .ensures .0)
 
 row-room-requires : tie.Need-row-room-requires
 row-room-requires c κs = search needs
@@ -27,19 +22,18 @@ array-share-prefix-residues : tie.Need-array-share-prefix-residues
 array-share-prefix-residues c = search needs
 
 slice-aggregate-dot : tie.Need-slice-aggregate-dot
-slice-aggregate-dot c = sym (length-take-le _ _ (long (c .before .before)))
+slice-aggregate-dot c = sym (length-take-le _ _ (c .before .before .put-residues .ensures .0))
 
 dot-requires : tie.Need-dot-requires
-dot-requires c κs =
-    let s = c .before .before .before .before .before .before in
-    rw (length-take-le _ _ (long (c .before .before))) (omega arith, λ t h. omega arith)
+dot-requires c κs = rw (length-take-le _ _ (c .before .before .put-residues .ensures .0)) (omega arith, λ t h. omega arith)
 
 returns : tie.Need-returns
 returns c =
     let r = c .before .before .before in
     let a = r .before .before .before .before .args in
     rw (c .dot .ensures)
-    (seal-sum (a .p) (length (a .records .now)) (a .records .now) (a .multipliers .now) (r .put-residues .last .1 .1 .1 .0) (long r) (r .put-residues .ensures))
+    (seal-sum (a .p) (length (a .multipliers .now)) (a .s) (a .records .now) (a .multipliers .now) _ (a .u)
+    (r .put-residues .ensures .0) (r .put-residues .ensures .1))
 
 pub value-of-spec : {M : Type 1} → statement M
 value-of-spec =

@@ -16,7 +16,7 @@ begun c = start (c .before)
 
 -- the place of the row's number at c lies in e
 inside : (c : tie.Else1)
-    → (getD (begun c .args .at .now) (begun c .args .j) 0 - 1) * (begun c .args .n + 1) + begun c .args .c < length (begun c .args .e .now)
+    → (getD (begun c .args .at .now) (begun c .args .j) 0 - 1) * begun c .args .n + begun c .args .c < length (begun c .args .e .now)
 inside c = place-inside (begun c .pre .0) (begun c .args .c) (begun c .args .j) (c .if1 .left) (begun c .pre .1 .0)
 
 mul-row : tie.Need-mul-row
@@ -37,14 +37,11 @@ returns-2 c h = other-number h _ _ (c .before .if1 .taken) (c .if2 .left)
 sub-minus : tie.Need-sub-minus
 sub-minus c = omega arith
 
-add-minus : tie.Need-add-minus
-add-minus c = omega (arith, begun c .pre .0 .n-most)
-
 mul-minus : tie.Need-mul-minus
 mul-minus c = omega (arith, inside c, begun c .pre .0 .e-long)
 
-add-minus-2 : tie.Need-add-minus-2
-add-minus-2 c = omega (arith, inside c, begun c .pre .0 .e-long)
+add-minus : tie.Need-add-minus
+add-minus c = omega (arith, inside c, begun c .pre .0 .e-long)
 
 mul-minus-2 : tie.Need-mul-minus-2
 mul-minus-2 c = omega (arith, inside c, begun c .pre .0 .e-long)
@@ -65,5 +62,5 @@ returns-3 c h =
 pub kernel-entry-spec : {M : Type 1} → statement M
 kernel-entry-spec =
     tie.close
-    (tie.spec mul-row shared-slice-read-row cast-row returns returns-2 sub-minus add-minus mul-minus add-minus-2 mul-minus-2
+    (tie.spec mul-row shared-slice-read-row cast-row returns returns-2 sub-minus mul-minus add-minus mul-minus-2
     shared-slice-read-minus minus-requires returns-3)

@@ -1,41 +1,32 @@
 -- `matrix_calls::work::kernel_of` meets its contract: the vectors that the reduced form gives are the basis.
 use mathlib.Core.Path.{sym}
-use native.Mathlib.Omega.{arith}
-use Rattle.matrix_echelon.proofs.Grids.{room-fresh}
+use Rattle.matrix_echelon.proofs.Grids.{readable-none, room-fresh}
 use Rattle.matrix_echelon.proofs.ReducedRows.{reduced-pivoting}
-use Rattle.matrix.proofs.Grids.{plain-readable, reduced-rows, basis-reduced}
+use Rattle.matrix.proofs.Grids.{plain-table, reduced-rows, basis-reduced}
 use Rattle.matrix_calls.proofs.work.kernel_of.Statement.{statement}
 use Rattle.matrix_calls.proofs.work.kernel_of.Tie as tie
 
 -- the entry, from where the room is lent
 abbrev start : tie.After-pivots → tie.Start
-start c = c .before .before .before .before .before .before .before .before
-
-row-room-requires : tie.Need-row-room-requires
-row-room-requires c κs = tt
+start c = c .before .before .before .before .before .before
 
 wide-table-requires : tie.Need-wide-table-requires
 wide-table-requires c κs = tt
 
-row-room-requires-2 : tie.Need-row-room-requires-2
-row-room-requires-2 c κs = tt
+row-room-requires : tie.Need-row-room-requires
+row-room-requires c κs = tt
 
 slice-aggregate-reduced : tie.Need-slice-aggregate-reduced
-slice-aggregate-reduced c = sym (c .before .before .before .row-room .ensures .0)
+slice-aggregate-reduced c = sym (c .before .before .wide-table .ensures .0)
 
 slice-aggregate-reduced-2 : tie.Need-slice-aggregate-reduced-2
-slice-aggregate-reduced-2 c = sym (c .before .before .before .wide-table .ensures .0)
-
-slice-aggregate-reduced-3 : tie.Need-slice-aggregate-reduced-3
-slice-aggregate-reduced-3 c = sym (c .before .before .before .row-room2 .ensures .0)
+slice-aggregate-reduced-2 c = sym (c .before .before .row-room .ensures .0)
 
 reduced-requires : tie.Need-reduced-requires
 reduced-requires c κs =
-    let r = c .before .before .before in
-    let k = start c .pre .0 in (
-      plain-readable k (omega (arith, r .before .before .row-room .ensures .0, k .m-most)),
-      room-fresh _ _ (k .is-modulus) (r .before .wide-table .ensures) (r .row-room2 .ensures),
-    )
+    let r = c .before .before in
+    let k = start c .pre .0 in
+    (readable-none _ 0 (plain-table k), room-fresh _ _ (k .is-modulus) (r .before .wide-table .ensures) (r .row-room .ensures))
 
 slice-aggregate-rows-by-pivot : tie.Need-slice-aggregate-rows-by-pivot
 slice-aggregate-rows-by-pivot c = sym (c .before .before .before .reduced .ensures .pivots-long)
@@ -76,6 +67,5 @@ returns c ok =
 pub kernel-of-spec : {M : Type 1} → statement M
 kernel-of-spec =
     tie.close
-    (tie.spec row-room-requires wide-table-requires row-room-requires-2 slice-aggregate-reduced slice-aggregate-reduced-2
-    slice-aggregate-reduced-3 reduced-requires slice-aggregate-rows-by-pivot rows-by-pivot-requires
+    (tie.spec wide-table-requires row-room-requires slice-aggregate-reduced slice-aggregate-reduced-2 reduced-requires slice-aggregate-rows-by-pivot rows-by-pivot-requires
     slice-aggregate-kernel-vectors slice-aggregate-kernel-vectors-2 kernel-vectors-requires same-length returns)

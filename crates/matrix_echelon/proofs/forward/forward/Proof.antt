@@ -11,10 +11,10 @@ use Rattle.matrix_echelon.proofs.forward.forward.Statement.{statement}
 use Rattle.matrix_echelon.proofs.forward.forward.Tie as tie
 
 abbrev Inv-loop : tie.InvT-loop
-Inv-loop p grid a w step e₀ pivots₀ rank₀ i₀ e pivots rank i = (i ≤ grid .rows) × Held p grid i a w step rank e pivots
+Inv-loop p grid a w step carried e₀ pivots₀ rank₀ i₀ e pivots rank i = (i ≤ grid .rows) × Held p grid i a w step carried rank e pivots
 
 abbrev μ-loop : tie.MeasureT-loop
-μ-loop p grid a w step e₀ pivots₀ rank₀ i₀ e pivots rank i = grid .rows - i
+μ-loop p grid a w step carried e₀ pivots₀ rank₀ i₀ e pivots rank i = grid .rows - i
 
 loop-holds : tie.Need-loop-holds Inv-loop μ-loop
 loop-holds c =

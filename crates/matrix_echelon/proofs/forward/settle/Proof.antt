@@ -10,19 +10,19 @@ use Rattle.matrix_echelon.proofs.forward.settle.Tie as tie
 fold-into-requires : tie.Need-fold-into-requires
 fold-into-requires c κs =
     let s = c .before .before .before .before in
-    (omega (arith, s .pre .is-modulus .prime .two-or-more), s .pre .is-modulus .in-range, rw (s .pre .x-long) (s .pre .ready))
+    (omega (arith, s .pre .is-modulus .prime .two-or-more), s .pre .is-modulus .in-range, s .pre .ready)
 
 slice-reshare-prefix-least-nonzero : tie.Need-slice-reshare-prefix-least-nonzero
 slice-reshare-prefix-least-nonzero c =
     let f = c .before .before in
     let s = f .before .before .before .before .before in
-    omega (arith, f .fold-into .ensures .long, s .pre .x-long)
+    omega (arith, f .fold-into .ensures .long, s .pre .narrow)
 
 slice-aggregate-least-nonzero : tie.Need-slice-aggregate-least-nonzero
 slice-aggregate-least-nonzero c =
     let f = c .before .before .before in
     let s = f .before .before .before .before .before in
-    sym (length-take-le (s .args .n) _ (omega (arith, f .fold-into .ensures .long, s .pre .x-long)))
+    sym (length-take-le (s .args .n) _ (omega (arith, f .fold-into .ensures .long, s .pre .narrow)))
 
 least-nonzero-requires : tie.Need-least-nonzero-requires
 least-nonzero-requires c κs = tt

@@ -7,8 +7,14 @@ use Rattle.matrix_echelon.proofs.WorkRow.{row-readable, clearable, sett
 use Rattle.matrix_echelon.proofs.forward.work_row.Statement.{statement}
 use Rattle.matrix_echelon.proofs.forward.work_row.Tie as tie
 
+-- the width fits the widest row
+add-width : tie.Need-add-width
+add-width c =
+    let s = c .before .before .before .before in
+    omega (arith, s .pre .readable .table .columns-most, s .pre .readable .carried-most)
+
 row-limbs-requires : tie.Need-row-limbs-requires
-row-limbs-requires c κs = row-readable _ _ _ _ _ _ _ _ _ (c .before .before .before .before .pre)
+row-limbs-requires c κs = row-readable _ _ _ _ _ _ _ _ _ _ (c .before .before .before .before .pre)
 
 no-rows-requires : tie.Need-no-rows-requires
 no-rows-requires c κs = tt
@@ -18,27 +24,21 @@ clear-pivots-requires c κs =
     let z = c .before .before .before .before in
     let l = z .before in
     let s = l .before .before .before .before .before in
-    clearable _ _ _ _ _ _ _ _ _ (s .pre) _ _ (l .row-limbs .ensures) (z .no-rows .ensures)
+    clearable _ _ _ _ _ _ _ _ _ _ (s .pre) _ _ (l .row-limbs .ensures) (z .no-rows .ensures)
 
 wide-room-requires : tie.Need-wide-room-requires
 wide-room-requires c κs = tt
 
--- the width fits the widest row
-add-width : tie.Need-add-width
-add-width c =
-    let s = c .before .before .before .before .before .before .before .before .before .before .before .before in
-    omega (arith, s .pre .readable .table .columns-most)
-
 array-borrow-prefix-x : tie.Need-array-borrow-prefix-x
 array-borrow-prefix-x c =
     let s = c .before .before .before .before .before .before .before .before .before .before .before .before .before .before in
-    omega (arith, s .pre .readable .table .columns-most)
+    omega (arith, s .pre .readable .table .columns-most, s .pre .readable .carried-most)
 
 slice-aggregate-settle : tie.Need-slice-aggregate-settle
 slice-aggregate-settle c =
     let x = c .before .before .before in
     let s = x .before .before .before .before .before .before .before .before .before .before .before .before in
-    sym (length-take-le _ _ (omega (arith, x .wide-room .ensures .0, s .pre .readable .table .columns-most)))
+    sym (length-take-le _ _ (omega (arith, x .wide-room .ensures .0, s .pre .readable .table .columns-most, s .pre .readable .carried-most)))
 
 settle-requires : tie.Need-settle-requires
 settle-requires c κs =
@@ -47,7 +47,7 @@ settle-requires c κs =
     let z = p .before .before .before .before .before in
     let l = z .before in
     let s = l .before .before .before .before .before in
-    settleable _ _ _ _ _ _ _ _ _ (s .pre) _ _ (l .row-limbs .ensures) (z .no-rows .ensures) _ _ (p .clear-pivots .ensures) _ (x .wide-room .ensures)
+    settleable _ _ _ _ _ _ _ _ _ _ (s .pre) _ _ (l .row-limbs .ensures) (z .no-rows .ensures) _ _ (p .clear-pivots .ensures) _ (x .wide-room .ensures)
 
 same-length : tie.Need-same-length
 same-length c = search needs
@@ -63,10 +63,11 @@ returns c =
     let z = p .before .before .before .before .before in
     let l = z .before in
     let s = l .before .before .before .before .before in
-    row-worked _ _ _ _ _ _ _ _ _ (s .pre) _ _ (l .row-limbs .ensures) (z .no-rows .ensures) _ _ (p .clear-pivots .ensures) (t .settle .ensures)
+    row-worked _ _ _ _ _ _ _ _ _ _ (s .pre) _ _ (l .row-limbs .ensures) (z .no-rows .ensures) _ _ (p .clear-pivots .ensures) _ (x .wide-room .ensures)
+    (t .settle .ensures)
 
 pub work-row-spec : {M : Type 1} → statement M
 work-row-spec =
     tie.close
-    (tie.spec row-limbs-requires no-rows-requires clear-pivots-requires wide-room-requires add-width array-borrow-prefix-x
+    (tie.spec add-width row-limbs-requires no-rows-requires clear-pivots-requires wide-room-requires array-borrow-prefix-x
     slice-aggregate-settle settle-requires same-length same-length-2 returns)

@@ -17,12 +17,12 @@ use Rattle.matrix_echelon.proofs.group.clear_pivots.Statement.{statemen
 use Rattle.matrix_echelon.proofs.group.clear_pivots.Tie as tie
 
 abbrev Inv-loop : tie.InvT-loop
-Inv-loop p n rank e pivots lo₀ hi₀ width once twice g₀ lo hi g =
-    (g ≡ 4 * (g / 4)) × (g ≤ rank + 3) × Limbs (g / 4 + 1) n lo hi
-    × ClearedTo (residues p) (4 * (g / 4)) 0 n (λ i. rowIn p lo₀ hi₀) rank (workedRows p e (n + 1)) (pivotsOf pivots) (rowIn p lo hi)
+Inv-loop p width rank e pivots lo₀ hi₀ once twice g₀ lo hi g =
+    (g ≡ 4 * (g / 4)) × (g ≤ rank + 3) × Limbs (g / 4 + 1) width lo hi
+    × ClearedTo (residues p) (4 * (g / 4)) 0 width (λ i. rowIn p lo₀ hi₀) rank (workedRows p e width) (pivotsOf pivots) (rowIn p lo hi)
 
 abbrev μ-loop : tie.MeasureT-loop
-μ-loop p n rank e pivots lo₀ hi₀ width once twice g₀ lo hi g = rank + 3 - g
+μ-loop p width rank e pivots lo₀ hi₀ once twice g₀ lo hi g = rank + 3 - g
 
 -- 2^32 and 2^64 modulo p
 powers :
@@ -36,9 +36,6 @@ powers c =
       once = refl;
       twice = refl;
     }
-
-add-width : tie.Need-add-width Inv-loop μ-loop
-add-width c = omega (arith, c .before .before .pre .pivots-in .narrow)
 
 rem-once : tie.Need-rem-once Inv-loop μ-loop
 rem-once c = omega (arith, c .before .before .pre .proper)
@@ -91,9 +88,9 @@ add-rows-requires c κs =
     let s = entry i in
     let positive : 0 < s .args .p = omega (arith, s .pre .proper) in (
       limbs-ready (omega (arith, i .loop-test .taken, s .pre .pivots-in .few)) (s .pre .pivots-in .narrow) (i .before .loop .inv .2),
-      four-inside (s .args .p) (s .args .n) (s .args .rank) (s .args .e .now) (s .args .pivots .now) positive (s .pre .in-range) (s .pre .room)
+      four-inside (s .args .p) (s .args .width) (s .args .rank) (s .args .e .now) (s .args .pivots .now) positive (s .pre .in-range) (s .pre .room)
           (s .pre .pivots-in) (f .group-rows .ensures),
-      nothing-before (s .args .p) (s .args .n) (s .args .rank) (s .args .e .now) (s .args .pivots .now) positive (s .pre .in-range) (s .pre .room)
+      nothing-before (s .args .p) (s .args .width) (s .args .rank) (s .args .e .now) (s .args .pivots .now) positive (s .pre .in-range) (s .pre .room)
           (s .pre .pivots-in) (f .group-rows .ensures) (v .least-pivot .ensures) (s .pre .leading),
     )
 
@@ -114,9 +111,9 @@ loop-again c =
     rw more (
       omega (arith, l .inv .0),
       omega (arith, i .loop-test .taken),
-      limbs-more (s .args .p) (s .args .n) (s .args .rank) (s .args .e .now) (s .args .pivots .now) positive (s .pre .in-range) (s .pre .room)
+      limbs-more (s .args .p) (s .args .width) (s .args .rank) (s .args .e .now) (s .args .pivots .now) positive (s .pre .in-range) (s .pre .room)
           (s .pre .pivots-in) (f .group-rows .ensures) (l .inv .2) (c .add-rows .ensures),
-      group-cleared (s .args .p) (s .args .n) (s .args .rank) (s .args .e .now) (s .args .pivots .now) positive (s .pre .in-range) (s .pre .room)
+      group-cleared (s .args .p) (s .args .width) (s .args .rank) (s .args .e .now) (s .args .pivots .now) positive (s .pre .in-range) (s .pre .room)
           (s .pre .pivots-in) (f .group-rows .ensures) (s .pre .proper) (l .g / 4) (l .inv .0) (s .pre .cleared) (l .inv .3)
           (c .add-rows .ensures),
     )
@@ -135,6 +132,6 @@ returns c =
 pub clear-pivots-spec : {M : Type 1} → statement M
 clear-pivots-spec =
     tie.close
-    (tie.spec Inv-loop μ-loop add-width rem-once mul-twice rem-twice loop-holds group-rows-requires least-pivot-requires
+    (tie.spec Inv-loop μ-loop rem-once mul-twice rem-twice loop-holds group-rows-requires least-pivot-requires
     add-rows-requires add-g
     loop-less loop-again returns)

@@ -12,10 +12,10 @@ use Rattle.matrix_echelon.proofs.reduced.reduced.Statement.{statement}
 use Rattle.matrix_echelon.proofs.reduced.reduced.Tie as tie
 
 abbrev Inv-loop : tie.InvT-loop
-Inv-loop p a w step e₀ pivots rank n width from next t₀ e t = (t ≤ rank) × RowsReduced p width rank t pivots e₀ e
+Inv-loop p a w step carried e₀ pivots rank n width from next t₀ e t = (t ≤ rank) × RowsReduced p width rank t pivots e₀ e
 
 abbrev μ-loop : tie.MeasureT-loop
-μ-loop p a w step e₀ pivots rank n width from next t₀ e t = t
+μ-loop p a w step carried e₀ pivots rank n width from next t₀ e t = t
 
 -- what stood when the rows were worked off, and at entry
 abbrev forwarded : tie.After-each-row Inv-loop μ-loop → tie.After-forward Inv-loop μ-loop
@@ -29,7 +29,7 @@ proper c = modulus-proper (entry c .pre .0 .table .is-modulus)
 
 -- every column in front of the first free one has a pivot
 taken : (c : tie.After-each-row Inv-loop μ-loop)
-    → TakenBefore (c .before .first-free .result) (forwarded c .forward .result) (forwarded c .forward .last .1 .1 .1 .1 .1 .1 .0)
+    → TakenBefore (c .before .first-free .result) (forwarded c .forward .result) (forwarded c .forward .last .1 .1 .1 .1 .1 .1 .1 .0)
 taken c = taken-before (entry c .pre .0 .table .columns-most) (c .before .before .before .rows-by-pivot .ensures) (c .before .first-free .ensures)
 
 -- the marks of the columns are as many as these
@@ -41,7 +41,9 @@ forward-requires : tie.Need-forward-requires Inv-loop μ-loop
 forward-requires c κs = c .before .before .before .before .before .before .pre
 
 add-width : tie.Need-add-width Inv-loop μ-loop
-add-width c = omega (arith, c .before .before .before .before .before .before .before .before .before .before .before .pre .0 .table .columns-most)
+add-width c =
+    let s = c .before .before .before .before .before .before .before .before .before .before .before in
+    omega (arith, s .pre .0 .table .columns-most, s .pre .0 .carried-most)
 
 rows-by-pivot-requires : tie.Need-rows-by-pivot-requires Inv-loop μ-loop
 rows-by-pivot-requires c κs =

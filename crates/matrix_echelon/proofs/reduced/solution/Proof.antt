@@ -48,11 +48,11 @@ abbrev row : tie.In-loop Inv-loop μ-loop → List ℕ
 row c =
     let n = entry (c .before .before) .args .grid .columns in
     let at = (c .before .loop .t - 1) * (n + 1) in
-    take (at + n - at) (drop at (forwarded (c .before .before) .forward .last .1 .1 .1 .1 .1 .0))
+    take (at + n - at) (drop at (forwarded (c .before .before) .forward .last .1 .1 .1 .1 .1 .1 .0))
 
 is-row : (c : tie.In-loop Inv-loop μ-loop) →
     let n = entry (c .before .before) .args .grid .columns in
-    IsPart (forwarded (c .before .before) .forward .last .1 .1 .1 .1 .1 .0) ((c .before .loop .t - 1) * (n + 1)) n (row c)
+    IsPart (forwarded (c .before .before) .forward .last .1 .1 .1 .1 .1 .1 .0) ((c .before .loop .t - 1) * (n + 1)) n (row c)
 is-row c = is-part (omega (arith, in-room c, forwarded (c .before .before) .forward .ensures .room .rows-in .long))
 
 wide-table-requires : tie.Need-wide-table-requires Inv-loop μ-loop
@@ -132,7 +132,7 @@ minus-requires c κs =
 -- the pivot of the worked row of this turn lies in z
 pivot-in : (c : tie.In-loop Inv-loop μ-loop) →
     let b = c .before .before in
-    getD (forwarded b .forward .last .1 .1 .1 .1 .1 .1 .0) (c .before .loop .t - 1) 0 < entry b .args .grid .columns
+    getD (forwarded b .forward .last .1 .1 .1 .1 .1 .1 .1 .0) (c .before .loop .t - 1) 0 < entry b .args .grid .columns
 pivot-in c =
     let b = c .before .before in
     pivot-in-columns (entry b .pre .0) (forwarded b .forward .ensures) (c .before .loop .t - 1) (omega (arith, c .before .loop .inv .0))
@@ -175,7 +175,7 @@ loop-again c =
       omega (arith, l .loop .inv .0),
       solved-more (proper (l .before)) (omega (arith, l .loop .inv .0)) (pivot-in i)
           (subst
-          (λ q. SolvedFrom (s .args .p) (s .args .grid .columns) (f .result) q (f .last .1 .1 .1 .1 .1 .0) (f .last .1 .1 .1 .1 .1 .1 .0) (l .loop .z))
+          (λ q. SolvedFrom (s .args .p) (s .args .grid .columns) (f .result) q (f .last .1 .1 .1 .1 .1 .1 .0) (f .last .1 .1 .1 .1 .1 .1 .1 .0) (l .loop .z))
           next (l .loop .inv .1))
           (is-row i) (c .before .dot .ensures) (c .minus .ensures),
     )

@@ -3,13 +3,13 @@
 use mathlib.Core.Path.{_≡_}
 use native.Mathlib.Omega.{arith}
 use lib.ListN.{length}
-use Rattle.ledger.specs.Board.{IsBoard}
+use Rattle.sheet_heat.specs.Calls.{SheetBoard}
 use Rattle.sheet.proofs.frames.take_each.Statement.{statement}
 use Rattle.sheet.proofs.frames.take_each.Tie as tie
 
 abbrev Inv-loop : tie.InvT-loop
 Inv-loop board₀ bytes₀ mix₀ left₀ board bytes mix left =
-    IsBoard board × (length board ≡ length board₀) × (length bytes ≡ length bytes₀) × (length mix ≡ length mix₀)
+    SheetBoard board × (length board ≡ length board₀) × (length bytes ≡ length bytes₀) × (length mix ≡ length mix₀)
 
 abbrev μ-loop : tie.MeasureT-loop
 μ-loop board₀ bytes₀ mix₀ left₀ board bytes mix left = left

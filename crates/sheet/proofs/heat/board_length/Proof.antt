@@ -8,14 +8,17 @@ use Rattle.sheet.proofs.heat.board_length.Tie as tie
 returns : tie.Need-returns
 returns c = search needs
 
+cast-board-length : tie.Need-cast-board-length
+cast-board-length c = search needs
+
 board-length-requires : tie.Need-board-length-requires
-board-length-requires c κs = c .if1 .left
+board-length-requires c κs = (c .if1 .left, omega arith)
 
 returns-2 : tie.Need-returns-2
 returns-2 c =
     let n = c .before .before .args .n in
     let e = c .board-length .ensures in
-    (omega (arith, header-inside n), omega (arith, board-most n (c .before .if1 .left)), λ _. e)
+    (omega (arith, header-inside n 1), omega (arith, board-most n 1 (c .before .if1 .left) (omega arith)), λ _. e)
 
 pub board-length-spec : {M : Type 1} → statement M
-board-length-spec = tie.close (tie.spec returns board-length-requires returns-2)
+board-length-spec = tie.close (tie.spec returns cast-board-length board-length-requires returns-2)

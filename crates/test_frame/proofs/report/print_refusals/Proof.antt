@@ -1,4 +1,4 @@
--- `test_frame::report::print_refusals` is safe and ends: all numbers below 12 are places of the tally. The measure is how many are
+-- `test_frame::report::print_refusals` is safe and ends: all numbers below 13 are places of the tally. The measure is how many are
 -- left.
 use Prim.Native.Nat.{_≤_, _-_}
 use native.Mathlib.Omega.{arith}
@@ -6,10 +6,10 @@ use Rattle.test_frame.proofs.report.print_refusals.Statement.{statement
 use Rattle.test_frame.proofs.report.print_refusals.Tie as tie
 
 abbrev Inv-loop : tie.InvT-loop
-Inv-loop tally number₀ number = number ≤ 12
+Inv-loop tally number₀ number = number ≤ 13
 
 abbrev μ-loop : tie.MeasureT-loop
-μ-loop tally number₀ number = 12 - number
+μ-loop tally number₀ number = 13 - number
 
 loop-holds : tie.Need-loop-holds Inv-loop μ-loop
 loop-holds c = omega arith
