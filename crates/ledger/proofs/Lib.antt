@@ -25,3 +25,4 @@ pub mod Demand3
 pub mod Honest
 pub mod SumOfFrames
 pub mod LowEnds
+pub mod MarkedWords

@@ -1,4 +1,4 @@
--- Every step of the ledger keeps it proper: a frame that is appended has n multipliers and a value below p, as reading found
+-- Every step of the ledger keeps it proper: a frame that is appended has n multipliers and s values below p, as reading found
 -- them, and its row is no combination of the others, so that the longer rows are independent and at most n; a withdrawal
 -- leaves a front of the rows.
 use mathlib.Core.Path.{_≡_}
