@@ -145,6 +145,13 @@ uint32_t dauneroad_kernel(uint32_t p, uint32_t m, uint32_t n, const uint32_t *a,
 uint32_t dauneroad_solve(uint32_t p, uint32_t m, uint32_t n, const uint32_t *a, size_t a_len, const uint32_t *w, size_t w_len,
                          uint32_t *z, size_t z_len, uint32_t *u, size_t u_len);
 
+/* The nearest fit z (n numbers), whether A z = w has a solution or not, and what it leaves over, rest = w - A z modulo p (m numbers):
+ * 200 + the rank. rest is 0 in every row that quasiinverse marks, and z in every column that it does not mark; no other pair is so and
+ * adds up to w. rest is all 0 exactly if solve finds a solution, and then z is that one. Refuses 1, 2, 3, 4 (A first, then w), never
+ * 5. */
+uint32_t dauneroad_fit(uint32_t p, uint32_t m, uint32_t n, const uint32_t *a, size_t a_len, const uint32_t *w, size_t w_len,
+                       uint32_t *z, size_t z_len, uint32_t *rest, size_t rest_len);
+
 #ifdef __cplusplus
 }
 #endif

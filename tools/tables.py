@@ -5,9 +5,10 @@ An exact solver of its own, by row reduction with pivots chosen column by column
 library, which recurses on halves of the rows. For each case it works out I, J, D, the kernel and a solution as document 01
 describes them, checks ADA = A and DAD = D, and writes all numbers as four bytes, most significant first:
 
-    p m n, A, rank, D, column marks, row marks, kernel count, basis, w, answer, z, u
+    p m n, A, rank, D, column marks, row marks, kernel count, basis, w, answer, z, u, nearest z, remainder
 
-z and u are what solve leaves where z was lent holding 7 and u holding 9 everywhere. A case of p = 0 ends the file.
+z and u are what solve leaves where z was lent holding 7 and u holding 9 everywhere; the nearest z and the remainder are what fit
+leaves. A case of p = 0 ends the file.
 
   tools/tables.py [SEED]      (seed 2026 makes the stored file)
 """
@@ -71,6 +72,11 @@ def solve_case(p, m, n, a, w):
     basis += [0] * (n * n - len(basis))
     z = [sum(d[i][t] * w[t] for t in range(m)) % p for i in range(n)]
     back = [sum(a[i][j] * z[j] for j in range(n)) % p for i in range(m)]
+    # the nearest fit, and that it is one: 0 outside I, the remainder 0 on J, and both together w
+    nearest, rest = z, [(x - b) % p for x, b in zip(w, back)]
+    assert all(nearest[c] == 0 for c in range(n) if c not in columns)
+    assert all(rest[y] == 0 for y in rows)
+    assert [(b + e) % p for b, e in zip(back, rest)] == w
     if back == w:
         answer, u = 200 + r, [0] * m
     else:
@@ -79,7 +85,7 @@ def solve_case(p, m, n, a, w):
         assert all(sum(u[t] * a[t][j] for t in range(m)) % p == 0 for j in range(n))
         assert sum(x * v for x, v in zip(u, w)) % p
         answer, z = 5, [7] * n
-    return r, d, columns, rows, vectors, basis, answer, z, u
+    return r, d, columns, rows, vectors, basis, answer, z, u, nearest, rest
 
 
 def table(rng, p, m, n, rank):
@@ -110,6 +116,16 @@ def table(rng, p, m, n, rank):
     return a
 
 
+def of_rank(rng, p, m, n, rank):
+    """A random table of just that rank."""
+    while True:
+        left = [[rng.randrange(p) for _ in range(rank)] for _ in range(m)]
+        right = [[rng.randrange(p) for _ in range(n)] for _ in range(rank)]
+        a = [[sum(x * right[t][j] for t, x in enumerate(row)) % p for j in range(n)] for row in left]
+        if len(reduced(a, n, p)[1]) == rank:
+            return a
+
+
 def main():
     rng = random.Random(int(sys.argv[1]) if len(sys.argv) > 1 else 2026)
     out = []
@@ -121,6 +137,7 @@ def main():
         cases.append((rng.choice(PRIMES), rng.randrange(17), rng.randrange(17)))
     for k in range(12):
         cases.append((PRIMES[k + 1], rng.choice([64, 64, 63, 33]), rng.choice([64, 64, 31, 50])))
+    tables = []
     for p, m, n in cases:
         a = table(rng, p, m, n, rng.randrange(min(m, n) + 1))
         if rng.random() < 0.6:
@@ -128,10 +145,17 @@ def main():
             w = [sum(r * s for r, s in zip(row, x)) % p for row in a]
         else:
             w = [rng.randrange(p) for _ in range(m)]
-        r, d, columns, rows, vectors, basis, answer, z, u = solve_case(p, m, n, a, w)
+        tables.append((p, m, n, a, w))
+    # every rank, as high as wide, higher and wider, with any right side
+    for m, n in [(8, 8), (9, 5), (5, 9)]:
+        for rank in range(min(m, n) + 1):
+            p = rng.choice(PRIMES)
+            tables.append((p, m, n, of_rank(rng, p, m, n, rank), [rng.randrange(p) for _ in range(m)]))
+    for p, m, n, a, w in tables:
+        r, d, columns, rows, vectors, basis, answer, z, u, nearest, rest = solve_case(p, m, n, a, w)
         words = [p, m, n] + sum(a, []) + [r] + sum(d, [])
         words += [1 if c in columns else 0 for c in range(n)] + [1 if y in rows else 0 for y in range(m)]
-        words += [vectors] + basis + w + [answer] + z + u
+        words += [vectors] + basis + w + [answer] + z + u + nearest + rest
         out += words
     out.append(0)
     sys.stdout.buffer.write(struct.pack('>%dI' % len(out), *out))

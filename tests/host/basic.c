@@ -1,5 +1,5 @@
 /* Document 01's examples, with one word a record, frames with padding as document 02's #101 has them and with numbers as its #111 has
- * them, through the header alone. One line per example group; ends with 0 only if all of them hold. */
+ * them, and the nearest fits of its #102, through the header alone. One line per example group; ends with 0 only if all of them hold. */
 #include "dauneroad.h"
 #include "expect.h"
 
@@ -30,7 +30,7 @@ static void second_table(void)
 static void third_table(void)
 {
     const uint32_t a[] = {1, 2, 2, 4}, good[] = {1, 2}, bad[] = {1, 3};
-    uint32_t d[4], columns[2], rows[2], basis[4], z[2], u[2];
+    uint32_t d[4], columns[2], rows[2], basis[4], z[2], u[2], rest[2];
     EXPECT(dauneroad_quasiinverse(5, 2, 2, a, LEN(a), d, LEN(d), columns, LEN(columns), rows, LEN(rows)) == 201);
     SAME(d, {1, 0, 0, 0});
     SAME(columns, {1, 0});
@@ -44,7 +44,14 @@ static void third_table(void)
     EXPECT(dauneroad_solve(5, 2, 2, a, LEN(a), bad, LEN(bad), z, LEN(z), u, LEN(u)) == DAUNEROAD_INSOLUBLE);
     SAME(z, {77, 77});
     SAME(u, {3, 1});
-    group("p = 5, A = (1 2), (2 4), w = (1 2) and (1 3)");
+    EXPECT(dauneroad_fit(5, 2, 2, a, LEN(a), good, LEN(good), z, LEN(z), rest, LEN(rest)) == 201);
+    SAME(z, {1, 0});
+    SAME(rest, {0, 0});
+    z[0] = z[1] = 77;
+    EXPECT(dauneroad_fit(5, 2, 2, a, LEN(a), bad, LEN(bad), z, LEN(z), rest, LEN(rest)) == 201);
+    SAME(z, {1, 0});
+    SAME(rest, {0, 1});
+    group("p = 5, A = (1 2), (2 4), w = (1 2) and (1 3), solved and fitted");
 }
 
 static void small_tables(void)
@@ -62,6 +69,20 @@ static void small_tables(void)
     EXPECT(dauneroad_kernel(2, 0, 2, none, 0, basis, 4) == 202);
     SAME(basis, {1, 0, 0, 1});
     group("p = 5, A = (0 3); p = 2, A = (0); no rows");
+}
+
+/* A table with no rows fits nothing: z is 0. One with no columns leaves all of w over. */
+static void empty_fits(void)
+{
+    const uint32_t w[] = {4, 0, 2};
+    uint32_t z[2] = {77, 77}, rest[3] = {77, 77, 77}, none[1] = {77};
+    EXPECT(dauneroad_fit(5, 0, 2, none, 0, none, 0, z, LEN(z), none, 0) == 200);
+    SAME(z, {0, 0});
+    EXPECT(dauneroad_fit(5, 3, 0, none, 0, w, LEN(w), none, 0, rest, LEN(rest)) == 200);
+    SAME(rest, {4, 0, 2});
+    EXPECT(dauneroad_fit(5, 0, 0, none, 0, none, 0, none, 0, none, 0) == 200);
+    EXPECT(none[0] == 77);
+    group("nearest fits with no rows, with no columns, with neither");
 }
 
 static void moduli_and_sizes(void)
@@ -356,6 +377,7 @@ int main(void)
     second_table();
     third_table();
     small_tables();
+    empty_fits();
     moduli_and_sizes();
     frames();
     widths();

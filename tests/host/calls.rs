@@ -1,4 +1,5 @@
-//! Each exported call, made on guarded memory and compared with the model: the number, and every word lent, whole.
+//! Each exported call on boards, frames and readings, made on guarded memory and compared with the model: the number, and every word
+//! lent, whole. The calls on tables are in table_calls.rs.
 
 use crate::lent::{Lent, Rng};
 use crate::model::{self, Ledger};
@@ -28,15 +29,6 @@ extern "C" {
     ) -> u32;
     fn dauneroad_signed(p: u32, low: u32, v: u32, record: *mut i32) -> u32;
     fn dauneroad_residue(p: u32, low: u32, record: i32, residue: *mut u32) -> u32;
-    fn dauneroad_quasiinverse(
-        p: u32, m: u32, n: u32, a: *const u32, a_len: usize, d: *mut u32, d_len: usize, column_marks: *mut u32,
-        column_marks_len: usize, row_marks: *mut u32, row_marks_len: usize,
-    ) -> u32;
-    fn dauneroad_kernel(p: u32, m: u32, n: u32, a: *const u32, a_len: usize, basis: *mut u32, basis_len: usize) -> u32;
-    fn dauneroad_solve(
-        p: u32, m: u32, n: u32, a: *const u32, a_len: usize, w: *const u32, w_len: usize, z: *mut u32, z_len: usize,
-        u: *mut u32, u_len: usize,
-    ) -> u32;
 }
 
 /// One group of tests: its random numbers, and what it has counted.
@@ -287,106 +279,6 @@ pub fn residue(g: &mut Group, p: u32, low: u32, record: i32) -> (u32, u32) {
     (got, residue.body()[0])
 }
 
-pub struct Quasi {
-    pub number: u32,
-    pub d: Vec<u32>,
-    pub columns: Vec<u32>,
-    pub rows: Vec<u32>,
-}
-
-/// A table that a call is given, with its sizes as the call is told them.
-#[derive(Clone)]
-pub struct Given {
-    pub p: u32,
-    pub m: u32,
-    pub n: u32,
-    pub a: Vec<u32>,
-}
-
-pub fn quasiinverse(g: &mut Group, t: &Given, d_len: usize, columns_len: usize, rows_len: usize) -> Quasi {
-    let (p, m, n) = (t.p, t.m, t.n);
-    let a = Lent::read_only(&mut g.rng, &t.a);
-    let mut d = Lent::any(&mut g.rng, d_len);
-    let mut columns = Lent::any(&mut g.rng, columns_len);
-    let mut rows = Lent::any(&mut g.rng, rows_len);
-    let (mut want_d, mut want_columns, mut want_rows) = (d.entry().to_vec(), columns.entry().to_vec(), rows.entry().to_vec());
-    let want = model::quasiinverse(p, m, n, &t.a, &mut want_d, &mut want_columns, &mut want_rows);
-    let got = unsafe {
-        let (d, d_len) = (d.mut_ptr(), d.len());
-        let (columns, columns_len, rows, rows_len) = (columns.mut_ptr(), columns.len(), rows.mut_ptr(), rows.len());
-        dauneroad_quasiinverse(p, m, n, a.ptr(), a.len(), d, d_len, columns, columns_len, rows, rows_len)
-    };
-    g.calls += 1;
-    let good = got == want && a.untouched() && d.holds(&want_d) && columns.holds(&want_columns) && rows.holds(&want_rows);
-    g.demand(good, || {
-        format!(
-            "quasiinverse(p {p}, m {m}, n {n}, a {:?}, {d_len} d, {columns_len} columns, {rows_len} rows): library {got} \
-             d {:?} columns {:?} rows {:?} guards {} {} {} {}, document {want} d {want_d:?} columns {want_columns:?} \
-             rows {want_rows:?}",
-            t.a,
-            d.body(),
-            columns.body(),
-            rows.body(),
-            a.untouched(),
-            d.guarded(),
-            columns.guarded(),
-            rows.guarded()
-        )
-    });
-    Quasi { number: got, d: d.body().to_vec(), columns: columns.body().to_vec(), rows: rows.body().to_vec() }
-}
-
-pub fn kernel(g: &mut Group, t: &Given, basis_len: usize) -> (u32, Vec<u32>) {
-    let (p, m, n) = (t.p, t.m, t.n);
-    let a = Lent::read_only(&mut g.rng, &t.a);
-    let mut basis = Lent::any(&mut g.rng, basis_len);
-    let mut want_basis = basis.entry().to_vec();
-    let want = model::kernel(p, m, n, &t.a, &mut want_basis);
-    let got = unsafe { dauneroad_kernel(p, m, n, a.ptr(), a.len(), basis.mut_ptr(), basis.len()) };
-    g.calls += 1;
-    g.demand(got == want && a.untouched() && basis.holds(&want_basis), || {
-        format!(
-            "kernel(p {p}, m {m}, n {n}, a {:?}, {basis_len} basis): library {got} {:?} guards {} {}, document {want} \
-             {want_basis:?}",
-            t.a,
-            basis.body(),
-            a.untouched(),
-            basis.guarded()
-        )
-    });
-    (got, basis.body().to_vec())
-}
-
-pub fn solve(g: &mut Group, t: &Given, w: &[u32], z_len: usize, u_len: usize) -> (u32, Vec<u32>, Vec<u32>) {
-    let (p, m, n) = (t.p, t.m, t.n);
-    let a = Lent::read_only(&mut g.rng, &t.a);
-    let lent_w = Lent::read_only(&mut g.rng, w);
-    let mut z = Lent::any(&mut g.rng, z_len);
-    let mut u = Lent::any(&mut g.rng, u_len);
-    let (mut want_z, mut want_u) = (z.entry().to_vec(), u.entry().to_vec());
-    let want = model::solve(p, m, n, &t.a, w, &mut want_z, &mut want_u);
-    let got = unsafe {
-        let (z, z_len, u, u_len) = (z.mut_ptr(), z.len(), u.mut_ptr(), u.len());
-        dauneroad_solve(p, m, n, a.ptr(), a.len(), lent_w.ptr(), lent_w.len(), z, z_len, u, u_len)
-    };
-    g.calls += 1;
-    let good = got == want && a.untouched() && lent_w.untouched() && z.holds(&want_z) && u.holds(&want_u);
-    g.demand(good, || {
-        format!(
-            "solve(p {p}, m {m}, n {n}, a {:?}, w {w:?}, {z_len} z, {u_len} u): library {got} z {:?} u {:?} guards {} {} {} \
-             {}, document {want} z {want_z:?} u {want_u:?}",
-            t.a,
-            z.body(),
-            u.body(),
-            a.untouched(),
-            lent_w.untouched(),
-            z.guarded(),
-            u.guarded()
-        )
-    });
-    (got, z.body().to_vec(), u.body().to_vec())
-}
-
 /// Calls whose slices are all empty, with nothing behind their pointers.
 pub fn empty_slices(g: &mut Group) {
     let none = std::ptr::NonNull::<u32>::dangling().as_ptr();
@@ -394,9 +286,6 @@ pub fn empty_slices(g: &mut Group) {
     let signed = std::ptr::NonNull::<i32>::dangling().as_ptr();
     let got = unsafe {
         [
-            dauneroad_quasiinverse(7, 0, 0, none, 0, none, 0, none, 0, none, 0),
-            dauneroad_kernel(7, 0, 0, none, 0, none, 0),
-            dauneroad_solve(7, 0, 0, none, 0, none, 0, none, 0, none, 0),
             dauneroad_open(7, 1, 1, none, 0),
             dauneroad_take(none, 0, bytes, 0, none, 0),
             dauneroad_withdraw(none, 0, 0),
@@ -408,7 +297,7 @@ pub fn empty_slices(g: &mut Group) {
             dauneroad_seal(7, 1, 0, 0, signed, 0, none, 0, none, 0),
         ]
     };
-    let want = [200, 200, 200, 3, 11, 11, 11, 3, 3, 3, 12, 12];
+    let want = [3, 11, 11, 11, 3, 3, 3, 12, 12];
     g.calls += want.len() as u64;
     g.demand(got == want, || format!("empty slices: library {got:?}, document {want:?}"));
 }

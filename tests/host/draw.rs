@@ -1,8 +1,8 @@
 //! What the tests draw: moduli, numbers, tables, frames and their damage, lengths.
 
-use crate::calls::Given;
 use crate::lent::Rng;
 use crate::model::{self, Table};
+use crate::table_calls::Given;
 
 /// The primes on both sides of each width's end: the last below and the first above 256, 65,536 and 16,777,216.
 pub const ENDS: [u32; 6] = [251, 257, 65_521, 65_537, 16_777_213, 16_777_259];

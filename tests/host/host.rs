@@ -8,6 +8,7 @@ mod frames;
 mod histories;
 mod lent;
 mod model;
+mod table_calls;
 mod tables;
 
 use boards::*;
@@ -85,7 +86,7 @@ fn required() -> Vec<String> {
     required_of_boards(&mut of);
     required_of_tables(&mut of);
     let calls = ["signed", "residue", "open", "take", "withdraw", "show", "read", "write", "seal"];
-    for call in calls.into_iter().chain(["quasiinverse", "kernel", "solve"]) {
+    for call in calls.into_iter().chain(["quasiinverse", "kernel", "solve", "fit"]) {
         PRIMES.iter().chain(&BAD).for_each(|p| of(call, &format!("p {p}")));
     }
     labels
@@ -172,9 +173,9 @@ fn required_of_boards(of: &mut impl FnMut(&str, &str)) {
     }
 }
 
-/// Of quasiinverse, kernel and solve.
+/// Of quasiinverse, kernel, solve and fit.
 fn required_of_tables(of: &mut impl FnMut(&str, &str)) {
-    for call in ["quasiinverse", "kernel", "solve"] {
+    for call in ["quasiinverse", "kernel", "solve", "fit"] {
         of(
             call,
             "done, 1 alone, 2 alone, 3 alone, 4 alone, 1 before 2, 1 before 3, 1 before 4, 2 before 3, 2 before 4, 3 before 4",
@@ -185,7 +186,11 @@ fn required_of_tables(of: &mut impl FnMut(&str, &str)) {
     }
     of("quasiinverse", "3 d below, 3 d above, 3 columns below, 3 columns above, 3 rows below, 3 rows above");
     of("kernel", "3 basis below, 3 basis above");
-    of("solve", "solved, 5, 3 w below, 3 w above, 3 z below, 3 z above, 3 u below, 3 u above, 4 w, 4 both");
+    for call in ["solve", "fit"] {
+        of(call, "3 w below, 3 w above, 3 z below, 3 z above, 4 w, 4 both");
+    }
+    of("solve", "solved, 5, 3 u below, 3 u above");
+    of("fit", "nothing left over, left over, 3 rest below, 3 rest above");
 }
 
 fn main() {
@@ -202,7 +207,10 @@ fn main() {
         ("tables, small sizes", &|g| tables(g, 6000, 9)),
         ("tables, 64 by 64", &|g| tables_largest(g, 40)),
         ("tables, refusals and their order", &|g| table_refusals(g, 12_000)),
-        ("empty slices", &calls::empty_slices),
+        ("empty slices", &|g| {
+            calls::empty_slices(g);
+            table_calls::empty_slices(g);
+        }),
         ("opens", &opens),
         ("boards, all sizes and counts", &boards),
         ("histories, tiny ones all", &histories_exhaustive),

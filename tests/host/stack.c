@@ -17,7 +17,7 @@
 #include <unistd.h>
 
 #define WORDS DAUNEROAD_BOARD_WORDS(N, s)
-#define BOARD_STACK 49152        /* the most bytes that take, withdraw, show, kernel and solve may take */
+#define BOARD_STACK 49152        /* the most bytes that take, withdraw, show, kernel, solve and fit may take */
 #define QUASIINVERSE_STACK 73728 /* the same for quasiinverse */
 #define OTHER_STACK 8192         /* and for the others */
 #define THREAD 8192              /* what the thread needs itself */
@@ -45,6 +45,7 @@ static uint32_t call_quasiinverse(void)
 }
 static uint32_t call_kernel(void) { return dauneroad_kernel(P, N, N, table, N * N, out, N * N); }
 static uint32_t call_solve(void) { return dauneroad_solve(P, N, N, table, N * N, w, N, z, N, u, N); }
+static uint32_t call_fit(void) { return dauneroad_fit(P, N, N, table, N * N, w, N, z, N, u, N); }
 
 static void ready_open(void) { fill(board, sizeof board); }
 static int after_open(uint32_t answer) { return answer == 0 && board_is(0); }
@@ -205,6 +206,15 @@ static int after_insoluble(uint32_t answer)
     return holds;
 }
 
+/* the two rows that were made to differ are outside J: all of that is left over, and nothing else */
+static int after_left_over(uint32_t answer)
+{
+    int holds = answer == DAUNEROAD_DONE + 32 && all(z + 32, 32, 0);
+    for (int i = 0; i < N; i++)
+        holds = holds && u[i] == (i == 40 || i == 63) && plus(row_times(table + i * N, z, 1), u[i]) == w[i];
+    return holds;
+}
+
 static void ready_zero(void) { memset(table, 0, sizeof table), memset(w, 0, sizeof w); }
 static int after_kernel_zero(uint32_t answer) { return answer == DAUNEROAD_DONE + 64 && memcmp(out, unit, sizeof unit) == 0; }
 
@@ -246,6 +256,9 @@ static const Case cases[] = {
     {"solve-rank-64", ready_full, call_solve, after_solve_full, BOARD_STACK, 1},
     {"solve-rank-32", ready_half, call_solve, after_solve_half, BOARD_STACK, 1},
     {"solve-insoluble", ready_insoluble, call_solve, after_insoluble, BOARD_STACK, 1},
+    {"fit-rank-64", ready_full, call_fit, after_solve_full, BOARD_STACK, 1},
+    {"fit-rank-32", ready_half, call_fit, after_solve_half, BOARD_STACK, 1},
+    {"fit-left-over", ready_insoluble, call_fit, after_left_over, BOARD_STACK, 1},
 };
 
 /* ---- the threads ---- */

@@ -1,12 +1,20 @@
-//! Quasiinverse, kernel and solve.
+//! Quasiinverse, kernel, solve and fit.
 
-use crate::calls::{self, Given, Group};
+use crate::calls::Group;
 use crate::draw::*;
 use crate::model::{self, Table};
+use crate::table_calls::{self as calls, Given};
 
-/// Quasiinverse, kernel and solve of one table, and what must hold of their results whatever the model says. Answers the
-/// marks, the number of kernel vectors, and solve's numbers.
-pub fn whole_table(g: &mut Group, t: &Given, sides: &[Vec<u32>]) -> (Vec<u32>, Vec<u32>, u32, Vec<u32>) {
+/// What the calls say of one table: the marks, the number of kernel vectors, and for each right side solve's number and fit's z.
+pub struct Whole {
+    columns: Vec<u32>,
+    rows: Vec<u32>,
+    vectors: u32,
+    systems: Vec<(u32, Vec<u32>)>,
+}
+
+/// Quasiinverse, kernel, solve and fit of one table, and what must hold of their results whatever the model says.
+pub fn whole_table(g: &mut Group, t: &Given, sides: &[Vec<u32>]) -> Whole {
     let (q, m, n) = (t.p as u64, t.m as usize, t.n as usize);
     let a = model::rows_of(m, n, &t.a);
     let found = calls::quasiinverse(g, t, n * m, n, m);
@@ -28,23 +36,39 @@ pub fn whole_table(g: &mut Group, t: &Given, sides: &[Vec<u32>]) -> (Vec<u32>, V
         g.demand(zero, || format!("the kernel vector {vector:?} of {:?} modulo {q} is not sent to 0", t.a));
     }
 
-    let mut numbers = Vec::new();
-    for w in sides {
-        let (number, z, u) = calls::solve(g, t, w, n, m);
-        let (w, z, u) = (wide(w), wide(&z), wide(&u));
-        numbers.push(number);
-        if number == 5 {
-            let combined = model::product(q, &vec![u.clone()], &a, n);
-            let shows = combined[0].iter().all(|x| *x == 0) && model::dot(q, u.iter().copied(), w.iter().copied()) != 0;
-            g.demand(shows, || format!("the mix {u:?} does not show that {:?} {w:?} modulo {q} has no solution", t.a));
-        } else {
-            let solves = a.iter().zip(&w).all(|(row, w)| model::dot(q, row.iter().copied(), z.iter().copied()) == *w);
-            g.demand(number as usize == 200 + rank && solves && u.iter().all(|x| *x == 0), || {
-                format!("solve answers {number} with {z:?} and {u:?} for {:?} {w:?} modulo {q}", t.a)
-            });
-        }
+    let systems = sides.iter().map(|w| whole_system(g, t, &a, &found, w)).collect();
+    Whole { columns: found.columns, rows: found.rows, vectors: vectors as u32, systems }
+}
+
+/// Solve and fit of one right side of a table, whose quasiinverse is known. Answers solve's number and fit's z.
+fn whole_system(g: &mut Group, t: &Given, a: &Table, found: &calls::Quasi, side: &[u32]) -> (u32, Vec<u32>) {
+    let (q, m, n) = (t.p as u64, t.m as usize, t.n as usize);
+    let w = wide(side);
+    let (number, z, u) = calls::solve(g, t, side, n, m);
+    if number == 5 {
+        let u = wide(&u);
+        let combined = model::product(q, &vec![u.clone()], a, n);
+        let shows = combined[0].iter().all(|x| *x == 0) && model::dot(q, u.iter().copied(), w.iter().copied()) != 0;
+        g.demand(shows, || format!("the mix {u:?} does not show that {:?} {w:?} modulo {q} has no solution", t.a));
+    } else {
+        let solves = number == found.number && image(q, a, &wide(&z)) == w && u.iter().all(|x| *x == 0);
+        g.demand(solves, || format!("solve answers {number} with {z:?} and {u:?} for {:?} {w:?} modulo {q}", t.a));
     }
-    (found.columns, found.rows, vectors as u32, numbers)
+
+    let (answer, nearest, rest) = calls::fit(g, t, side, n, m);
+    let within = (0..n).all(|j| nearest[j] == 0 || found.columns[j] == 1);
+    let spared = (0..m).all(|i| rest[i] == 0 || found.rows[i] == 0);
+    let sums = image(q, a, &wide(&nearest)).iter().zip(&rest).map(|(x, e)| (x + *e as u64) % q).eq(w.iter().copied());
+    let beside = rest.iter().all(|x| *x == 0) == (number != 5) && (number == 5 || nearest == z);
+    g.demand(answer == found.number && within && spared && sums && beside, || {
+        format!("fit answers {answer} with {nearest:?} and {rest:?} for {:?} {w:?} modulo {q}, solve {number}", t.a)
+    });
+    (number, nearest)
+}
+
+/// A x.
+fn image(q: u64, a: &Table, x: &[u64]) -> Vec<u64> {
+    a.iter().map(|row| model::dot(q, row.iter().copied(), x.iter().copied())).collect()
 }
 
 /// By trying all combinations: the members of this list of vectors that are no combination of the ones before them.
@@ -84,25 +108,32 @@ pub fn tiny_table(g: &mut Group, t: &Given, whole: bool) {
     }
     let mut sides = Vec::new();
     each(p, m, |w| sides.push(w.to_vec()));
-    let (columns, rows, vectors, numbers) = whole_table(g, t, &sides);
+    let Whole { columns, rows, vectors, systems } = whole_table(g, t, &sides);
     let a = model::rows_of(m, n, &t.a);
     let tried = (no_combination(p, &model::transposed(m, n, &a)), no_combination(p, &a));
     g.demand((&columns, &rows) == (&tried.0, &tried.1), || {
         format!("{:?} modulo {p}: columns {columns:?}, rows {rows:?}, by trial {tried:?}", t.a)
     });
-    // the vectors sent to each right hand side, counted
-    let mut reached = std::collections::HashMap::new();
+    // the vectors sent to each right hand side, counted; those that are 0 outside I, by what they are sent to on J
+    let on_j = |w: &[u32]| (0..m).filter(|i| rows[*i] == 1).map(|i| w[i]).collect::<Vec<u32>>();
+    let (mut reached, mut fits) = (std::collections::HashMap::new(), std::collections::HashMap::<_, Vec<Vec<u32>>>::new());
     each(p, n, |x| {
-        let x = wide(x);
-        let image = a.iter().map(|row| model::dot(p as u64, row.iter().copied(), x.iter().copied()) as u32);
-        *reached.entry(image.collect::<Vec<u32>>()).or_insert(0u64) += 1;
+        let to: Vec<u32> = image(p as u64, &a, &wide(x)).iter().map(|v| *v as u32).collect();
+        if (0..n).all(|j| x[j] == 0 || columns[j] == 1) {
+            fits.entry(on_j(&to)).or_default().push(x.to_vec());
+        }
+        *reached.entry(to).or_insert(0u64) += 1;
     });
     let zeros = reached[&vec![0; m]];
     g.demand((p as u64).checked_pow(vectors) == Some(zeros), || {
         format!("{:?} modulo {p} sends {zeros} vectors to 0, and its basis has {vectors}", t.a)
     });
-    for (w, number) in sides.iter().zip(numbers) {
+    for (w, (number, z)) in sides.iter().zip(systems) {
         g.demand((number == 5) != reached.contains_key(w), || format!("{:?} {w:?} modulo {p}: by trial not {number}", t.a));
+        let tried = fits.get(&on_j(w));
+        g.demand(tried.is_some_and(|all| all.len() == 1 && all[0] == z), || {
+            format!("{:?} {w:?} modulo {p}: fit gives {z:?}, by trial {tried:?}", t.a)
+        });
     }
 }
 
@@ -187,5 +218,7 @@ pub fn table_refusals(g: &mut Group, rounds: usize) {
         calls::kernel(g, &t, basis_len);
         let (z_len, u_len) = (length(&mut g.rng, n), length(&mut g.rng, m));
         calls::solve(g, &t, &w, z_len, u_len);
+        let (z_len, rest_len) = (length(&mut g.rng, n), length(&mut g.rng, m));
+        calls::fit(g, &t, &w, z_len, rest_len);
     }
 }

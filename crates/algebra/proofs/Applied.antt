@@ -62,6 +62,11 @@ module _ (R : Ring) (L : IsCommutativeRing R) where
   unfolding product mixed apply
   mixed-apply k l u X x = matrices.entry R (matrices.product-assoc R L k l (λ i. u) X (λ t j. x t)) k l
 
+  -- X (x + y)
+  pub apply-plus : (n : ℕ) (X : Matrix R) (x y : Vector R) (i : ℕ) → apply R n X (λ t. x t ⊕ y t) i ≡ apply R n X x i ⊕ apply R n X y i
+  unfolding product apply add
+  apply-plus n X x y i = matrices.entry R (matrices.product-add R L n X (λ t j. x t) (λ t j. y t)) i i
+
   -- X (x - y), (X - Y) x and (u - v) X
   pub apply-difference : (n : ℕ) (X : Matrix R) (x y : Vector R) (i : ℕ)
       → apply R n X (λ t. x t ⊕ minus (y t)) i ≡ apply R n X x i ⊕ minus (apply R n X y i)

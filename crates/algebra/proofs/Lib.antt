@@ -17,6 +17,7 @@ pub mod Chosen
 pub mod Unique
 pub mod Kernel
 pub mod Solve
+pub mod Fit
 pub mod Rank
 pub mod Independent
 pub mod Members

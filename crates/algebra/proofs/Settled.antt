@@ -24,17 +24,9 @@ use Rattle.algebra.proofs.Exists.{PivotInverse, pivot-inverse}
 use Rattle.algebra.proofs.Decide.{cut-sized, cut-inside, mixed-cut}
 
 module _ (R : Ring) (L : IsCommutativeRing R) where
-  open Ring R using (Carrier, zero as 𝟘, plus as _⊕_, times as _⊗_, minus)
+  open Ring R using (Carrier, zero as 𝟘, plus as _⊕_, minus)
 
   infixl 60 _⊕_
-  infixl 70 _⊗_
-  -- A (x + y)
-  apply-plus : (n : ℕ) (X : Matrix R) (x y : Vector R) (i : ℕ) → apply R n X (λ t. x t ⊕ y t) i ≡ apply R n X x i ⊕ apply R n X y i
-  unfolding apply
-  apply-plus n X x y i =
-      sums.sum-same R n (λ t. X i t ⊗ (x t ⊕ y t)) (λ t. X i t ⊗ x t ⊕ X i t ⊗ y t) (λ t l. L .times-plus (X i t) (x t) (y t))
-      ∙ sums.sum-plus R L n (λ t. X i t ⊗ x t) (λ t. X i t ⊗ y t)
-
   module _ {m n : ℕ} {A D : Matrix R} (E : Absorbs R m n A D) (w : Vector R) where
     -- row j of 1 - DA is zero: every solution has (Dw)_j at j
     pub agree-if : (j : ℕ) → j < n → ((c : ℕ) → c < n → kernelVector R m D A c j ≡ 𝟘) → AgreeAt R m n A w j (apply R m D w j)
@@ -61,7 +53,7 @@ module _ (R : Ring) (L : IsCommutativeRing R) where
 
         shifted : Solves R m n A y w
         shifted i b =
-            apply-plus n A z (kernelVector R m D A c) i
+            applied.apply-plus R L n A z (kernelVector R m D A c) i
             ∙ (λ k. s i b k ⊕ kernel-vector-in R L E c l i b k)
             ∙ L .plus-zero (w i)
 

@@ -1,5 +1,5 @@
--- Solving A x = w by a D with A D A = A: if there is a solution then D w is one. If A (D w) misses w at row y then row y of
--- 1 - A D, a mix of A's rows that is zero, is not zero on w.
+-- Solving A x = w by a D with A D A = A: if there is a solution then D w is one. If D w leaves something over at row y then row y of
+-- 1 - A D, a mix of A's rows that is zero, is not zero on w: it is just what is left over.
 use mathlib.Core.Path.{_≡_, sym, ap₂, _∙_}
 use mathlib.Core.Bool.{false}
 use Prim.Native.Nat.{ℕ, _<_}
@@ -7,7 +7,7 @@ use Rattle.algebra.specs.Ring.{Ring, IsCommutativeRing}
 use Rattle.algebra.specs.Matrix.{Vector, Matrix, sum, unit, product, apply, mixed}
 use Rattle.algebra.specs.Span.{Solves}
 use Rattle.algebra.specs.Quasiinverse.{Marks, Absorbs, IsPivotInverse}
-use Rattle.algebra.specs.Solve.{mixOf}
+use Rattle.algebra.specs.Solve.{mixOf, remainder}
 use Rattle.algebra.proofs.Matrices as matrices
 use Rattle.algebra.proofs.Applied as applied
 use Rattle.algebra.proofs.Chosen.{zero-column}
@@ -42,10 +42,10 @@ module _ (R : Ring) (L : IsCommutativeRing R) where
   unfolding mixOf
   mix-own {n = n} {A = A} {D = D} Q y t e = applied.less-zero R L (unit R y t) (product R n A D y t) (zero-column R L Q y t e)
 
-  -- on w it is what A (D w) misses at row y
+  -- on w it is what D w leaves over at row y
   pub mix-shows : (m n : ℕ) (A D : Matrix R) (w : Vector R) (y : ℕ) → y < m
-      → sum R m (λ t. mixOf R n A D y t ⊗ w t) ≡ w y ⊕ minus (apply R n A (apply R m D w) y)
-  unfolding mixOf apply
+      → sum R m (λ t. mixOf R n A D y t ⊗ w t) ≡ remainder R n A (apply R m D w) w y
+  unfolding mixOf apply remainder
   mix-shows m n A D w y l =
       applied.difference-apply R L m (unit R) (product R n A D) w y
       ∙ ap₂ (λ a b. a ⊕ minus b) (applied.unit-apply R L m w y l) (applied.apply-product R L m n A D w y)

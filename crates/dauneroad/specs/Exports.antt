@@ -6,7 +6,7 @@ use lib.IntN.{ℤ, natAbs}
 use Rattle.checks.specs.Told.{Told}
 use Rattle.checks.specs.Outcome.{Outcome}
 use Rattle.signed.specs.Calls.{signedCall, residueCall}
-use Rattle.matrix.specs.Calls.{quasiinverseCall, kernelCall, solveCall}
+use Rattle.matrix.specs.Calls.{quasiinverseCall, kernelCall, solveCall, fitCall}
 use Rattle.frame.specs.Calls.{readCall, writeCall, sealCall}
 use Rattle.ledger.specs.Calls.{openCall, takeCall, withdrawCall, showCall}
 
@@ -79,3 +79,6 @@ kernelAnswer p m n a basis = exported (kernelCall p m n a basis)
 
 abbrev pub solveAnswer : (p m n : ℕ) (a w z u : List ℕ) → Answer (List ℕ × List ℕ)
 solveAnswer p m n a w z u = exported (solveCall p m n a w z u)
+
+abbrev pub fitAnswer : (p m n : ℕ) (a w z rest : List ℕ) → Answer (List ℕ × List ℕ)
+fitAnswer p m n a w z rest = exported (fitCall p m n a w z rest)

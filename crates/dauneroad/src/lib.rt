@@ -7,7 +7,7 @@ ghost use Rattle.board_solve.specs.Told.{takeTold};
 ghost use Rattle.board_calls.specs.Told.{openTold, answerTold};
 ghost use Rattle.dauneroad.specs.Exports.{Small, answer, openAnswer, takeAnswer, withdrawAnswer, showAnswer};
 ghost use Rattle.dauneroad.specs.Exports.{readAnswer, writeAnswer, sealAnswer, signedAnswer, residueAnswer};
-ghost use Rattle.dauneroad.specs.Exports.{quasiinverseAnswer, kernelAnswer, solveAnswer};
+ghost use Rattle.dauneroad.specs.Exports.{quasiinverseAnswer, kernelAnswer, solveAnswer, fitAnswer};
 use board_calls::CountAnswer;
 use board_calls::OpenAnswer;
 use board_calls::TakeAnswer;
@@ -235,4 +235,20 @@ pub extern "C" fn dauneroad_solve(
         ≡ solveAnswer p m n (now (a .entry)) (now (w .entry)) (now (z .entry)) (now (u .entry)) ⌝ }
 {
     table_number(matrix_calls::solve(p, m, n, a, w, z, u))
+}
+
+#[no_mangle]
+pub extern "C" fn dauneroad_fit(
+    p: u32,
+    m: u32,
+    n: u32,
+    a: &[u32],
+    w: &[u32],
+    z: &mut [u32],
+    rest: &mut [u32],
+) -> u32
+    ensures { λ r. ⌜ answer r (now (z .exit), now (rest .exit))
+        ≡ fitAnswer p m n (now (a .entry)) (now (w .entry)) (now (z .entry)) (now (rest .entry)) ⌝ }
+{
+    table_number(matrix_calls::fit(p, m, n, a, w, z, rest))
 }

@@ -1,10 +1,11 @@
--- What quasiinverse, kernel and solve come to: the refusal by the first of their checks that fails, with all lent memory as it
+-- What quasiinverse, kernel, solve and fit come to: the refusal by the first of their checks that fails, with all lent memory as it
 -- was, or, where the table and the memory pass, what the parts left in it.
 use mathlib.Core.Path.{_≡_, sym, subst}
 use mathlib.Core.List.{List}
 use Prim.Native.Nat.{ℕ, _*_}
 use lib.ListN.{length}
 use Rattle.checks.specs.declared.Refusal.{Refusal}
+use Rattle.checks.specs.declared.Refusal.the-variants.{Length, Number}
 use Rattle.checks.specs.Prime.{IsModulus}
 use Rattle.checks.specs.Told.{results}
 use Rattle.checks.specs.Outcome.{Outcome, outcome, untouched}
@@ -12,10 +13,10 @@ use Rattle.checks.specs.declared.Verdict.{Verdict}
 use Rattle.checks.specs.declared.Verdict.the-variants as verdict
 use Rattle.checks.specs.InOrder.{Checks, Given, andThen, AllHold, FirstFailing}
 use Rattle.checks.specs.Sizes.{tableSizes, Judges}
-use Rattle.checks.proofs.InOrder.{none-left, _and-then_, _then_, given, fails-in-front, in-order-done, in-order-refused}
+use Rattle.checks.proofs.InOrder.{none-left, _and-then_, _then_, fails-here, or-later, given, fails-in-front, in-order-done, in-order-refused}
 use Rattle.words.specs.Words.{Below}
-use Rattle.matrix.specs.Calls.{tableRank, quasiinverseChecks, quasiinverseCall, kernelChecks, kernelCall, solution, solveChecks, solveCall}
-use Rattle.matrix.specs.Parts.{Checked, InverseRoom, StoresInverse, StoresBasis, System}
+use Rattle.matrix.specs.Calls.{tableRank, quasiinverseChecks, quasiinverseCall, kernelChecks, kernelCall, solution, systemChecks, solveCall, nearestFit, fitCall}
+use Rattle.matrix.specs.Parts.{Checked, InverseRoom, StoresInverse, StoresBasis, System, StoresFit}
 
 -- 1 and 2 hold, and then the first of the others that fails has the kind k
 pub past-sizes : {p m n : ℕ} {cs : Checks Refusal} {k : Refusal} → Given (tableSizes p m n) → FirstFailing cs k
@@ -94,15 +95,11 @@ module _ (p m n : ℕ) (a basis : List ℕ) where
       (in-order-done _ (untouched basis) _ (kernel-hold k l)
       (λ hs. sym (λ t. outcome (results (h (hs .0) .many t)) (h (hs .0) .filled t))))
 
--- ---- solve
+-- ---- solve and fit
 
 module _ (p m n : ℕ) (a w z u : List ℕ) where
-  pub solve-refused : {k : Refusal} → FirstFailing (solveChecks p m n a w z u) k → untouched (z, u) k ≡ solveCall p m n a w z u
-  unfolding solveCall
-  solve-refused f = sym (in-order-refused _ _ f)
-
-  pub solve-hold : Checked p m n a → System p m n w z u → AllHold (solveChecks p m n a w z u)
-  solve-hold k s =
+  pub system-hold : Checked p m n a → System p m n w z u → AllHold (systemChecks p m n a w z u)
+  system-hold k s =
       k .is-modulus
       and-then (k .m-most, k .n-most)
       and-then k .a-long
@@ -113,7 +110,49 @@ module _ (p m n : ℕ) (a w z u : List ℕ) where
       and-then s .w-below
       and-then none-left
 
-  pub solve-done : (x : Outcome (List ℕ × List ℕ)) → Checked p m n a → System p m n w z u
+  -- 3 and 4, by what fails: a length, whatever the numbers are, then a number of A or of w
+  pub system-length : Given (tableSizes p m n) → (length a ≡ m * n → length w ≡ m → length z ≡ n → length u ≡ m → ⊥)
+      → FirstFailing (systemChecks p m n a w z u) Length
+  system-length s bad = past-sizes s (or-later (λ la. or-later (λ lw. or-later (λ lz. fails-here (bad la lw lz)))))
+
+  pub system-number : Given (tableSizes p m n) → length a ≡ m * n → length w ≡ m → length z ≡ n → length u ≡ m
+      → (Below p a → Below p w → ⊥) → FirstFailing (systemChecks p m n a w z u) Number
+  system-number s la lw lz lu bad = past-sizes s (la then lw then lz then lu then or-later (λ b. fails-here (bad b)))
+
+  -- what the checks gave is a table and a system
+  pub table-given : Given (systemChecks p m n a w z u) → Checked p m n a
+  table-given (modulus, (sizes, (a-long, (w-long, (z-long, (u-long, (a-below, (w-below, _)))))))) =
+      record { is-modulus = modulus; m-most = sizes .0; n-most = sizes .1; a-long = a-long; a-below = a-below }
+
+  pub system-given : Given (systemChecks p m n a w z u) → System p m n w z u
+  system-given (modulus, (sizes, (a-long, (w-long, (z-long, (u-long, (a-below, (w-below, _)))))))) =
+      record { w-long = w-long; w-below = w-below; z-long = z-long; u-long = u-long }
+
+  -- what the function for these checks tells: all hold, or the kind of the first that fails
+  pub system-passed : {v : Verdict} → Judges (systemChecks p m n a w z u) v → v ≡ verdict.Passed → AllHold (systemChecks p m n a w z u)
+  system-passed told e = subst (Judges (systemChecks p m n a w z u)) e told
+
+  pub system-failed : {v : Verdict} {k : Refusal} → Judges (systemChecks p m n a w z u) v → v ≡ verdict.Refused k
+      → FirstFailing (systemChecks p m n a w z u) k
+  system-failed told e = subst (Judges (systemChecks p m n a w z u)) e told
+
+  pub solve-refused : {k : Refusal} → FirstFailing (systemChecks p m n a w z u) k → untouched (z, u) k ≡ solveCall p m n a w z u
+  unfolding solveCall
+  solve-refused f = sym (in-order-refused _ _ f)
+
+  pub solve-done : (x : Outcome (List ℕ × List ℕ)) → AllHold (systemChecks p m n a w z u)
       → ((ok : IsModulus p) → x ≡ solution p ok m n a w z) → x ≡ solveCall p m n a w z u
   unfolding solveCall
-  solve-done x k s h = sym (in-order-done _ (untouched (z, u)) x (solve-hold k s) (λ hs. sym (h (hs .0))))
+  solve-done x all h = sym (in-order-done _ (untouched (z, u)) x all (λ hs. sym (h (hs .0))))
+
+  pub fit-refused : {k : Refusal} → FirstFailing (systemChecks p m n a w z u) k → untouched (z, u) k ≡ fitCall p m n a w z u
+  unfolding fitCall
+  fit-refused f = sym (in-order-refused _ _ f)
+
+  pub fit-done : (r : ℕ) (z′ rest′ : List ℕ) → AllHold (systemChecks p m n a w z u)
+      → ((ok : IsModulus p) → StoresFit p ok m n a w r z′ rest′) → outcome (results r) (z′, rest′) ≡ fitCall p m n a w z u
+  unfolding fitCall nearestFit
+  fit-done r z′ rest′ all h =
+      sym
+      (in-order-done _ (untouched (z, u)) _ all
+      (λ hs. let f = h (hs .0) in sym (λ t. outcome (results (f .is-rank t)) (f .z-written t, f .rest-written t))))

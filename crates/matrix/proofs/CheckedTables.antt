@@ -17,13 +17,12 @@ use Rattle.algebra.proofs.Counts.{true-not-false}
 use Rattle.checks.specs.Prime.{Prime, IsModulus}
 use Rattle.field.specs.Residue.{Residue, residues}
 use Rattle.field.specs.View.{table}
-use Rattle.words.specs.Words.{Below}
+use Rattle.words.specs.Words.{Below, LeastNonzero}
 use Rattle.field.proofs.Field.{residues-ring}
 use Rattle.field.proofs.Residues.{residue-path}
 use Rattle.field.proofs.Views.{table-sized}
 use Rattle.matrix.specs.Calls.{tableOf}
 use Rattle.matrix.specs.Parts.{Checked, StoresInverse, marked}
-use Rattle.words.specs.Words.{FirstDifference}
 use Rattle.matrix.proofs.Memory.{marked-no}
 use Rattle.matrix.proofs.Stored.{inverted}
 use Rattle.matrix.proofs.Checker.{_and_, _implies_, everyBelow, isPivotInverse, by-size, both, implied, every-below, checked}
@@ -58,22 +57,22 @@ marks-checked n xs t =
     let (long, each) = both _ _ t in
     (eqb-true _ _ long, (λ c h. eqb-true _ _ (every-below n _ each c h)))
 
--- r is the first place where they differ, or their length
-unfoldable pub isFirstDifference : List ℕ → List ℕ → ℕ → Bool
-isFirstDifference xs ys r =
+-- r is the least position of a number that is not 0, or the length
+unfoldable pub isLeastNonzero : List ℕ → ℕ → Bool
+isLeastNonzero xs r =
     leb r (length xs)
-    and everyBelow r (λ i. eqb (getD xs i 0) (getD ys i 0))
-    and (ltb r (length xs) implies not (eqb (getD xs r 0) (getD ys r 0)))
+    and everyBelow r (λ i. eqb (getD xs i 0) 0)
+    and (ltb r (length xs) implies not (eqb (getD xs r 0) 0))
 
-pub first-difference : (xs ys : List ℕ) (r : ℕ) → isFirstDifference xs ys r ≡ true → FirstDifference xs ys r
-unfolding isFirstDifference
-first-difference xs ys r t =
-    let (t, differs) = both _ _ t in
+pub least-nonzero : (xs : List ℕ) (r : ℕ) → isLeastNonzero xs r ≡ true → LeastNonzero xs r
+unfolding isLeastNonzero
+least-nonzero xs r t =
+    let (t, not-zero) = both _ _ t in
     let (within, before) = both _ _ t in
     record {
       within = leb-true _ _ within;
       before = λ i h. eqb-true _ _ (every-below r _ before i h);
-      differs = λ h. eqb-false _ _ (not-true _ (implied differs (lt-ltb _ _ h)));
+      not-zero = λ h. eqb-false _ _ (not-true _ (implied not-zero (lt-ltb _ _ h)));
     }
 
 -- ---- the table

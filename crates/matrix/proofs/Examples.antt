@@ -1,4 +1,4 @@
--- 01's starred examples of tables hold of the calls' definitions. No decision is opened: each example passes a test that
+-- 01's starred examples of tables, and what fit leaves of their systems, hold of the calls' definitions. No decision is opened: each example passes a test that
 -- computes (`passes`), and an example that passes holds (`passed-holds`), by the checker and the laws of the calls.
 use mathlib.Core.Path.{_≡_, refl, sym, ap, ap₂, _∙_}
 use mathlib.Core.Bool.{Bool, true, not}
@@ -10,23 +10,24 @@ use borrow.Author.Tests.{eqb-true, ltb-true, leb-true}
 use Rattle.algebra.specs.Matrix.{Matrix, sum, unit, product, apply}
 use Rattle.algebra.specs.Quasiinverse.{count}
 use Rattle.algebra.specs.Kernel.{kernelVector}
-use Rattle.algebra.specs.Solve.{mixOf}
-use Rattle.words.specs.Words.{Below}
+use Rattle.algebra.specs.Solve.{mixOf, remainder}
+use Rattle.words.specs.Words.{Below, LeastNonzero}
 use Rattle.field.specs.Residue.{residues, reduce, _⊕_, _⊗_, negated}
 use Rattle.field.specs.View.{table}
 use Rattle.field.specs.Written.{numbers, tabulate}
 use Rattle.checks.specs.Prime.{IsModulus}
 use Rattle.checks.specs.Told.{results}
 use Rattle.checks.specs.Outcome.{outcome}
-use Rattle.matrix.specs.Calls.{tableOf, tableRank, vectorsFrom, firstFrom, quasiinverseCall, kernelCall, solveCall, solution, vectorOf, candidate}
-use Rattle.matrix.specs.Parts.{Checked, StoresInverse, InverseRoom, KernelVectors, StoresBasis, FirstUnsolved, marked}
+use Rattle.checks.specs.InOrder.{AllHold}
+use Rattle.matrix.specs.Calls.{tableOf, tableRank, vectorsFrom, firstFrom, quasiinverseCall, kernelCall, systemChecks, solveCall, fitCall, solution, vectorOf}
+use Rattle.matrix.specs.Parts.{Checked, StoresInverse, InverseRoom, KernelVectors, StoresBasis, StoresFit, marked}
 use Rattle.matrix.specs.Examples.{Becomes, solvedBy, refusedBy, SystemExample, TableExample, tableExamples, systemOutcome, Holds}
 use Rattle.matrix.proofs.Stored.{rank-is}
-use Rattle.matrix.proofs.Answers.{quasiinverse-done, kernel-done, solve-done}
+use Rattle.matrix.proofs.Answers.{quasiinverse-done, kernel-done, system-hold, solve-done, fit-done}
 use Rattle.matrix.proofs.Basis.{basis-stored}
 use Rattle.matrix.proofs.Systems.{solved-by, refused-by}
 use Rattle.matrix.proofs.Checker.{_and_, every, everyBelow, isPivotInverse, both, every-member}
-use Rattle.matrix.proofs.CheckedTables.{areBelow, all-below, areSame, all-same, areMarks, isFirstDifference, first-difference, isPrime}
+use Rattle.matrix.proofs.CheckedTables.{areBelow, all-below, areSame, all-same, areMarks, isLeastNonzero, least-nonzero, isPrime}
 use Rattle.matrix.proofs.CheckedTables.{isTable, table-checked, same, holdsInverse, quasiinverse-checked, inverse-checked}
 
 -- ---- the test
@@ -42,27 +43,28 @@ module _ (e : TableExample) where
   D = table p d 0 m n m
 
   module _ (w : List ℕ) where
-    -- Dw, A(Dw), and the first row where that and w differ
+    -- Dw, what it leaves over, and the first row where something is left over
     abbrev candidateOf : List ℕ
     candidateOf = numbers n (apply (residues p) m D (vectorOf p w))
 
-    abbrev imageOf : List ℕ
-    imageOf = numbers m (apply (residues p) n A (vectorOf p candidateOf))
+    abbrev restOf : List ℕ
+    restOf = numbers m (remainder (residues p) n A (apply (residues p) m D (vectorOf p w)) (vectorOf p w))
 
     unfoldable differing : ℕ
-    differing = firstFrom (λ i. not (eqb (getD imageOf i 0) (getD w i 0))) 0 m
+    differing = firstFrom (λ i. not (eqb (getD restOf i 0) 0)) 0 m
 
-    -- they differ nowhere and z is Dw, or somewhere and u is the mix of that row
+    -- nothing is left over and z is Dw, or something is and u is the mix of that row
     unfoldable becomesSo : Becomes → Bool
-    becomesSo (solvedBy z) = leb m differing and areSame z candidateOf
+    becomesSo (solvedBy z) = leb m differing and areSame z candidateOf and areSame (replicate m 0) restOf
     becomesSo (refusedBy u) = ltb differing m and areSame u (numbers m (mixOf (residues p) n A D differing))
 
     -- w passes the checks, and that row is the first
     unfoldable isSystem : Bool
-    isSystem = eqb (length w) m and areBelow p w and isFirstDifference imageOf w differing
+    isSystem = eqb (length w) m and areBelow p w and isLeastNonzero restOf differing
 
   unfoldable passesSystem : SystemExample → Bool
-  passesSystem s = isSystem (s .w) and becomesSo (s .w) (s .becomes)
+  passesSystem s =
+      isSystem (s .w) and becomesSo (s .w) (s .becomes) and areSame (s .z) (candidateOf (s .w)) and areSame (s .rest) (restOf (s .w))
 
   -- the table passes the checks, D and the marks are its quasiinverse, and rank, kernel and systems are what D gives
   unfoldable passes : Bool
@@ -108,39 +110,54 @@ module _ (e : TableExample) (checks : Checked (e .p) (e .m) (e .n) (e .a))
         → kernelCall p m n a basis ≡ outcome (results (length vectors)) (flatten vectors ++ replicate (n * rank) 0)
     spans basis lent = sym (kernel-done p m n a basis _ (length vectors) checks lent basis-so)
 
-  -- solve
+  -- solve and fit
   module _ (w : List ℕ) (t : isSystem e w ≡ true) where
     -- w passes the checks
     passes-checks : (length w ≡ m) × Below p w
     unfolding isSystem
     passes-checks = let (long, below) = both _ _ (both _ _ t .0) in (eqb-true _ _ long, all-below p w below)
 
-    first : FirstUnsolved p m n a (candidateOf e w) w (differing e w)
-    unfolding isSystem
-    first = first-difference _ _ _ (both _ _ t .1)
+    all-hold : (z u : List ℕ) → length z ≡ n → length u ≡ m → AllHold (systemChecks p m n a w z u)
+    all-hold z u z-long u-long =
+        system-hold p m n a w z u checks
+        (record { w-long = passes-checks .0; w-below = passes-checks .1; z-long = z-long; u-long = u-long })
 
-    candidate-so : (ok : IsModulus p) → candidateOf e w ≡ numbers n (candidate p ok m n a w)
-    candidate-so ok = ap (λ X. numbers n (apply (residues p) m X (vectorOf p w))) (stored ok .is-D)
+    first : LeastNonzero (restOf e w) (differing e w)
+    unfolding isSystem
+    first = least-nonzero _ _ (both _ _ t .1)
+
+    fit-so : (ok : IsModulus p) → StoresFit p ok m n a w rank (candidateOf e w) (restOf e w)
+    fit-so ok =
+        record {
+          is-rank = rank-so ok;
+          z-written = ap (λ X. numbers n (apply (residues p) m X (vectorOf p w))) (stored ok .is-D);
+          rest-written =
+              ap (λ X. numbers m (remainder (residues p) n (A e) (apply (residues p) m X (vectorOf p w)) (vectorOf p w))) (stored ok .is-D);
+        }
 
     answers : (o : Becomes) → becomesSo e w o ≡ true → (z : List ℕ) (ok : IsModulus p)
         → systemOutcome m rank o z ≡ solution p ok m n a w z
     unfolding becomesSo
     answers (solvedBy x) s z ok =
+        let (s, zeros) = both _ _ s in
         let (nowhere, same) = both _ _ s in
-        solved-by p ok m n a w z _ _ (passes-checks .0) (passes-checks .1) (candidate-so ok) first rank x (replicate m 0) (leb-true _ _ nowhere)
-        (rank-so ok) (all-same _ _ same) refl
+        ap (λ u. outcome (results rank) (x, u)) (all-same _ _ zeros)
+        ∙ solved-by p ok m n a w (fit-so ok) z (differing e w) first x (leb-true _ _ nowhere) (all-same _ _ same)
     answers (refusedBy u) s z ok =
         let (somewhere, same) = both _ _ s in
-        refused-by p ok m n a w z _ _ (passes-checks .0) (passes-checks .1) (candidate-so ok) first u (ltb-true _ _ somewhere)
+        refused-by p ok m n a w (fit-so ok) z (differing e w) first u (ltb-true _ _ somewhere)
         (all-same _ _ same ∙ ap (λ X. numbers m (mixOf (residues p) n (A e) X (differing e w))) (stored ok .is-D))
 
     solves : (o : Becomes) → becomesSo e w o ≡ true → (z u : List ℕ) → length z ≡ n → length u ≡ m
         → solveCall p m n a w z u ≡ systemOutcome m rank o z
-    solves o s z u z-long u-long =
+    solves o s z u z-long u-long = sym (solve-done p m n a w z u _ (all-hold z u z-long u-long) (answers o s z))
+
+    fits : (x e′ : List ℕ) → x ≡ candidateOf e w → e′ ≡ restOf e w → (z rest : List ℕ) → length z ≡ n → length rest ≡ m
+        → fitCall p m n a w z rest ≡ outcome (results rank) (x, e′)
+    fits x e′ so left z rest z-long rest-long =
         sym
-        (solve-done p m n a w z u _ checks
-        (record { w-long = passes-checks .0; w-below = passes-checks .1; z-long = z-long; u-long = u-long })
-        (answers o s z))
+        (ap₂ (λ k l. outcome (results rank) (k, l)) so left
+        ∙ fit-done p m n a w z rest rank _ _ (all-hold z rest z-long rest-long) fit-so)
 
 passed-holds : (e : TableExample) → passes e ≡ true → Holds e
 unfolding passes passesSystem
@@ -156,15 +173,22 @@ passed-holds e t =
       inverts = inverts e k inverse r;
       spans = spans e k inverse r (eqb-true _ _ long) (all-same _ _ filled);
       solves = λ s i.
-          let (system, becomes) = both _ _ (every-member (passesSystem e) (e .systems) systems s i) in
+          let (t, left) = both _ _ (every-member (passesSystem e) (e .systems) systems s i) in
+          let (t, so) = both _ _ t in
+          let (system, becomes) = both _ _ t in
           solves e k inverse r (s .w) system (s .becomes) becomes;
+      fits = λ s i.
+          let (t, left) = both _ _ (every-member (passesSystem e) (e .systems) systems s i) in
+          let (t, so) = both _ _ t in
+          let (system, becomes) = both _ _ t in
+          fits e k inverse r (s .w) system (s .z) (s .rest) (all-same _ _ so) (all-same _ _ left);
     }
 
 -- every starred example passes, computed
 all-pass : every passes tableExamples ≡ true
 unfolding every passes passesSystem isSystem becomesSo differing tableExamples
-    isTable isPrime holdsInverse areBelow areSame areMarks isFirstDifference isPivotInverse everyBelow _and_ same
-    flatten vectorsFrom firstFrom marked vectorOf kernelVector mixOf count sum unit product apply table tabulate reduce _⊕_ _⊗_ negated
+    isTable isPrime holdsInverse areBelow areSame areMarks isLeastNonzero isPivotInverse everyBelow _and_ same
+    flatten vectorsFrom firstFrom marked vectorOf kernelVector mixOf remainder count sum unit product apply table tabulate reduce _⊕_ _⊗_ negated
 all-pass = refl
 
 -- every starred example holds

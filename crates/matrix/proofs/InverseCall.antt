@@ -23,14 +23,14 @@ use Rattle.checks.proofs.Modulus.{modulus-prop}
 use Rattle.checks.proofs.Refusals.{refusal-number}
 use Rattle.field.specs.Residue.{residues, reduce}
 use Rattle.field.specs.Written.{rowsOf, marksOf}
-use Rattle.field.proofs.Residues.{reduce-value, value-below}
+use Rattle.field.proofs.Residues.{reduce-value}
 use Rattle.field.proofs.Views.{table-entry, table-sized}
 use Rattle.field.proofs.Written.{length-tabulate, getD-tabulate}
 use Rattle.matrix.specs.Calls.{tableOf, columnsOf, rowMarksOf, tableRank, inverseOf, quasiinverseCall}
 use Rattle.matrix.specs.Parts.{marked}
 use Rattle.matrix.specs.Promises.{FreeMarks, QuasiinverseDone}
 use Rattle.matrix.proofs.Checker.{by-size, sized-same}
-use Rattle.matrix.proofs.Memory.{marked-yes, marked-no, place-inside}
+use Rattle.matrix.proofs.Memory.{marked-yes, marked-no, place-inside, numbers-below}
 use Rattle.matrix.proofs.Stored.{table-pivots}
 use Rattle.matrix.proofs.Theorems.{quasiinverse-table, inverse-table, inverse-only, rank-columns}
 use Rattle.matrix.proofs.Theorems.{chosen-columns-free, chosen-columns-depend, chosen-rows-free, chosen-rows-depend}
@@ -126,14 +126,13 @@ module _ (p : ℕ) (ok : IsModulus p) (m n : ℕ) (a : List ℕ) where
         told = ap results (sym (ap (count n) I-read ∙ rank-columns p ok m n a));
         equally-many = ap (count n) I-read ∙ Q .equally-many ∙ sym (ap (count m) J-read);
         d-long = length-tabulate (n * m) (λ q. (D (q / m) (q % m)) .value);
-        d-below = λ i h.
-            rw (getD-tabulate (n * m) (λ q. (D (q / m) (q % m)) .value) i (rw (length-tabulate (n * m) (λ q. (D (q / m) (q % m)) .value)) at h))
-            (value-below (omega (arith, ok .prime .two-or-more)) (D (i / m) (i % m)));
+        d-below = numbers-below p (n * m) (λ q. D (q / m) (q % m)) (omega (arith, ok .prime .two-or-more));
         inverse = rw (D-read, I-read, J-read) (inverse-table p ok m n a);
         quasiinverse = rw D-read (quasiinverse-table p ok m n a);
         only = rw (D-read, I-read, J-read) (inverse-only p ok m n a);
         is-D = λ other. D-read ∙ ap (λ q. inverseOf p q m n a) (modulus-prop p ok other);
         is-I = λ other. I-read ∙ ap (λ q. columnsOf p q m n a) (modulus-prop p ok other);
+        is-J = λ other. J-read ∙ ap (λ q. rowMarksOf p q m n a) (modulus-prop p ok other);
         is-r = λ other. ap (count n) I-read ∙ rank-columns p ok m n a ∙ ap (λ q. tableRank p q m n a) (modulus-prop p ok other);
       }
 

@@ -11,6 +11,7 @@ pub mod Grids
 pub mod FreeColumns
 pub mod Mix
 pub mod Systems
+pub mod FitCall
 pub mod Checker
 pub mod CheckedTables
 pub mod InverseCall

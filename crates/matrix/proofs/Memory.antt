@@ -1,30 +1,34 @@
 -- From numbers in memory to vectors, tables and marks: a list that reads as a table is that table written out, a list of
--- marks sums to the number of members, and a table times a vector is sums of products along lines of memory.
-use mathlib.Core.Path.{_≡_, sym, ap, ap₂, _∙_, fun-ext}
+-- marks sums to the number of members, and a table times a vector, or what that leaves over of another, is made of sums of products
+-- along lines of memory.
+use mathlib.Core.Path.{_≡_, refl, sym, ap, ap₂, _∙_, fun-ext}
 use mathlib.Core.Bool.{true, false, not}
 use mathlib.Core.List.{List}
 use Prim.Native.Nat.{ℕ, zero, suc, _+_, _*_, _-_, _/_, _%_, _≤_, _<_}
 use native.Mathlib.Nat.{zero-add, mul-zero, mod-lt, div-lt-iff-lt-mul, div-add-mod', pos-of-ne-zero, le-step, lt-suc-self, mul-le-mul, mul-le-mul-right}
+use native.Mathlib.Decide.{decLt}
 use native.Mathlib.Omega.{arith}
-use lib.ListN.{length, getD, take, drop, replicate, length-take, length-drop, length-replicate, getD-replicate}
+use lib.ListN.{length, getD, take, drop, replicate, length-take, length-drop, length-replicate, getD-replicate, List·getD-eq-default}
 use borrow.Author.Tests.{eq-eqb, ne-eqb}
 use lib.Seq.{getD-take, getD-drop, ext-getD}
 use Rattle.checks.specs.Largest.{largest}
 use Rattle.algebra.specs.Choice.{choose}
 use Rattle.algebra.specs.Matrix.{Vector, Matrix, sum, apply}
 use Rattle.algebra.specs.Quasiinverse.{Marks, count}
+use Rattle.algebra.specs.Solve.{remainder}
 use Rattle.algebra.proofs.Sums as sums
 use Rattle.algebra.proofs.Applied.{apply-same}
-use Rattle.field.specs.Residue.{residues, reduce, _⊗_}
+use Rattle.algebra.proofs.Fit.{remainder-same}
+use Rattle.field.specs.Residue.{residues, reduce, _⊕_, _⊗_, negated}
 use Rattle.field.specs.View.{line, table}
 use Rattle.field.specs.Products.{sumOfProducts}
 use Rattle.words.specs.Words.{Below, Blank}
 use Rattle.field.specs.Written.{tabulate, numbers, rowsOf, marksOf}
-use Rattle.field.proofs.Residues.{reduce-small, reduce-value}
+use Rattle.field.proofs.Residues.{reduce-small, reduce-value, below-of-value}
 use Rattle.field.proofs.Totals.{total, total-zero, total-suc}
 use Rattle.field.proofs.Views.{table-entry}
 use Rattle.words.proofs.Walk.{Walked}
-use Rattle.field.proofs.Written.{getD-tabulate, is-tabulate}
+use Rattle.field.proofs.Written.{length-tabulate, getD-tabulate, is-tabulate}
 use Rattle.matrix.specs.Calls.{vectorOf}
 use Rattle.matrix.specs.Parts.{marked}
 
@@ -120,6 +124,17 @@ apply-number p m k x w i r h inside e =
     ∙ sums.sum-same (residues p) k _ _
     (λ t b. ap₂ _⊗_ (part-line p x s k t b ∙ sym (row-line p x m k i t h b)) (λ q. vector-line p w q t)))
 
+-- and its difference from the number of a right side is what is left over of that
+pub remainder-number : (p m k : ℕ) (x w y : List ℕ) (i image r : ℕ) → i < m → i * k + k ≤ length x
+    → image ≡ (sumOfProducts p (take (i * k + k - i * k) (drop (i * k) x)) w 0 1) .value
+    → r ≡ (reduce p (getD y i 0) ⊕ negated (reduce p image)) .value
+    → r ≡ (remainder (residues p) k (table p x 0 k m k) (vectorOf p w) (vectorOf p y) i) .value
+unfolding remainder vectorOf
+remainder-number p m k x w y i image r h inside e d =
+    d
+    ∙ ap (λ v. (reduce p (getD y i 0) ⊕ negated v) .value)
+    (ap (reduce p) (apply-number p m k x w i image h inside e) ∙ reduce-value (apply (residues p) k (table p x 0 k m k) (vectorOf p w) i))
+
 -- a loop that has written f's values to n places has written the list of them
 pub walked-numbers : (j n : ℕ) (f : ℕ → ℕ) (xs ys : List ℕ) → j ≡ n → length xs ≡ n → Walked j f xs ys → ys ≡ tabulate n f
 walked-numbers j n f xs ys d e w = is-tabulate n f ys (w .long ∙ e) (λ i h. w .passed i (rw d h))
@@ -132,3 +147,28 @@ vector-read p n v t l = ap (reduce p) (getD-tabulate n (λ k. (v k) .value) t l)
 -- so a matrix is applied to it as to the vector
 pub apply-read : (p n : ℕ) (X : Matrix (residues p)) (v : Vector (residues p)) → apply (residues p) n X (vectorOf p (numbers n v)) ≡ apply (residues p) n X v
 apply-read p n X v = fun-ext (apply-same (residues p) n X (vectorOf p (numbers n v)) v (vector-read p n v))
+
+pub remainder-read : (p n : ℕ) (X : Matrix (residues p)) (v w : Vector (residues p))
+    → remainder (residues p) n X (vectorOf p (numbers n v)) w ≡ remainder (residues p) n X v w
+remainder-read p n X v w =
+    fun-ext (λ i. remainder-same (residues p) n X (vectorOf p (numbers n v)) v w w i (vector-read p n v) refl)
+
+-- numbers that are written are below p
+pub numbers-below : (p n : ℕ) (v : Vector (residues p)) → 0 < p → Below p (numbers n v)
+numbers-below p n v h i l =
+    below-of-value h (v i) (getD-tabulate n (λ t. (v t) .value) i (omega (arith, length-tabulate n (λ t. (v t) .value))))
+
+-- a number that is written is 0 exactly if its residue is
+pub zero-written : (p n : ℕ) (v : Vector (residues p)) (i : ℕ) → 0 < p → i < n → v i ≡ residues p .zero → getD (numbers n v) i 0 ≡ 0
+zero-written p n v i h l e = getD-tabulate n (λ t. (v t) .value) i l ∙ ap (λ r. r .value) e ∙ reduce-small p 0 h
+
+pub written-zero : (p n : ℕ) (v : Vector (residues p)) (i : ℕ) → i < n → getD (numbers n v) i 0 ≡ 0 → v i ≡ residues p .zero
+written-zero p n v i l e = sym (reduce-value (v i)) ∙ ap (reduce p) (sym (getD-tabulate n (λ t. (v t) .value) i l) ∙ e)
+
+-- numbers that are 0 up to their end are all 0
+pub zero-to-end : (xs : List ℕ) (k : ℕ) → length xs ≤ k → ((i : ℕ) → i < k → getD xs i 0 ≡ 0) → Blank xs
+zero-to-end xs k l h i = go (decLt i k)
+  where
+    go : Dec (i < k) → getD xs i 0 ≡ 0
+    go (yes b) = h i b
+    go (no b) = List·getD-eq-default xs 0 (omega arith)

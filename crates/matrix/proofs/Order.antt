@@ -1,6 +1,6 @@
--- 01, "Order for all three: 1, 2, 3, 4 (A first, then w)", and "What is handed back on refusal", said of the three calls: 1 or 2
--- refuses whatever the lengths and numbers are, 3 whatever the numbers are, then 4, all with lent memory untouched; all else is
--- accepted. Solve's 5, and what it accepts, is in SolveCall.
+-- 01, "Order for all three: 1, 2, 3, 4 (A first, then w)", and "What is handed back on refusal", said of the three calls and of fit, whose
+-- "checks are solve's without 5" (02, #102): 1 or 2 refuses whatever the lengths and numbers are, 3 whatever the numbers are, then 4,
+-- all with lent memory untouched; all else is accepted. Solve's 5, and what it accepts, is in SolveCall.
 use mathlib.Core.Path.{_≡_, sym}
 use mathlib.Core.List.{List}
 use Prim.Native.Nat.{ℕ, _*_}
@@ -14,9 +14,9 @@ use Rattle.checks.specs.Sizes.{tableSizes}
 use Rattle.checks.specs.Outcome.{Outcome, untouched}
 use Rattle.checks.proofs.InOrder.{fails-here, _then_, or-later, in-order-accepted}
 use Rattle.words.specs.Words.{Below}
-use Rattle.matrix.specs.Calls.{quasiinverseChecks, quasiinverseCall, kernelChecks, kernelCall, solveCall}
+use Rattle.matrix.specs.Calls.{quasiinverseChecks, quasiinverseCall, kernelChecks, kernelCall, systemChecks, solveCall, nearestFit, fitCall}
 use Rattle.matrix.specs.Parts.{InverseRoom}
-use Rattle.matrix.proofs.Answers.{past-sizes, sizes-first, quasiinverse-refused, kernel-refused, solve-refused}
+use Rattle.matrix.proofs.Answers.{past-sizes, sizes-first, system-length, system-number, quasiinverse-refused, kernel-refused, solve-refused, fit-refused}
 
 module _ (p m n : ℕ) (a : List ℕ) where
   -- ---- quasiinverse
@@ -68,7 +68,7 @@ module _ (p m n : ℕ) (a : List ℕ) where
         → kernelCall p m n a basis ≡ untouched basis Number
     kernel-number s la lb bad = sym (kernel-refused p m n a basis (past-sizes s (la then lb then fails-here bad)))
 
-  -- ---- solve
+  -- ---- solve and fit
 
   module _ (w z u : List ℕ) where
     pub solve-sizes : {k : Refusal} → FirstFailing (tableSizes p m n) k → solveCall p m n a w z u ≡ untouched (z, u) k
@@ -76,14 +76,24 @@ module _ (p m n : ℕ) (a : List ℕ) where
 
     pub solve-length : Given (tableSizes p m n) → (length a ≡ m * n → length w ≡ m → length z ≡ n → length u ≡ m → ⊥)
         → solveCall p m n a w z u ≡ untouched (z, u) Length
-    solve-length s bad =
-        sym
-        (solve-refused p m n a w z u
-        (past-sizes s (or-later (λ la. or-later (λ lw. or-later (λ lz. fails-here (bad la lw lz)))))))
+    solve-length s bad = sym (solve-refused p m n a w z u (system-length p m n a w z u s bad))
 
     pub solve-number : Given (tableSizes p m n) → length a ≡ m * n → length w ≡ m → length z ≡ n → length u ≡ m
         → (Below p a → Below p w → ⊥) → solveCall p m n a w z u ≡ untouched (z, u) Number
-    solve-number s la lw lz lu bad =
-        sym
-        (solve-refused p m n a w z u
-        (past-sizes s (la then lw then lz then lu then or-later (λ b. fails-here (bad b)))))
+    solve-number s la lw lz lu bad = sym (solve-refused p m n a w z u (system-number p m n a w z u s la lw lz lu bad))
+
+    pub fit-sizes : {k : Refusal} → FirstFailing (tableSizes p m n) k → fitCall p m n a w z u ≡ untouched (z, u) k
+    fit-sizes f = sym (fit-refused p m n a w z u (sizes-first f))
+
+    pub fit-length : Given (tableSizes p m n) → (length a ≡ m * n → length w ≡ m → length z ≡ n → length u ≡ m → ⊥)
+        → fitCall p m n a w z u ≡ untouched (z, u) Length
+    fit-length s bad = sym (fit-refused p m n a w z u (system-length p m n a w z u s bad))
+
+    pub fit-number : Given (tableSizes p m n) → length a ≡ m * n → length w ≡ m → length z ≡ n → length u ≡ m
+        → (Below p a → Below p w → ⊥) → fitCall p m n a w z u ≡ untouched (z, u) Number
+    fit-number s la lw lz lu bad = sym (fit-refused p m n a w z u (system-number p m n a w z u s la lw lz lu bad))
+
+    -- "for each accepted table": past these checks fit is never refused
+    pub fit-accepted : AllHold (systemChecks p m n a w z u) → IsRefusal (fitCall p m n a w z u .told .number) → ⊥
+    unfolding fitCall nearestFit
+    fit-accepted all = in-order-accepted _ _ (λ (o : Outcome (List ℕ × List ℕ)). IsRefusal (o .told .number) → ⊥) all (λ hs h. omega arith)

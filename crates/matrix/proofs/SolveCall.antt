@@ -25,10 +25,10 @@ use Rattle.field.specs.Residue.{residues, _⊗_}
 use Rattle.field.specs.Written.{numbers}
 use Rattle.field.proofs.Written.{length-tabulate}
 use Rattle.matrix.specs.Decide.{solves?}
-use Rattle.matrix.specs.Calls.{tableOf, tableRank, inverseOf, vectorOf, candidate, firstRow, solution, solveChecks, solveCall}
+use Rattle.matrix.specs.Calls.{tableOf, tableRank, inverseOf, vectorOf, candidate, firstRow, solution, systemChecks, solveCall}
 use Rattle.matrix.specs.Promises.{NoSolution, SystemSolved, SystemRefused}
 use Rattle.matrix.proofs.Memory.{vector-read, apply-read}
-use Rattle.matrix.proofs.Answers.{solve-hold}
+use Rattle.matrix.proofs.Answers.{system-hold, table-given, system-given}
 use Rattle.matrix.proofs.Theorems.{solvable-exactly, first-row-differs, first-row-first, refused-exactly}
 
 -- ---- past the checks
@@ -63,7 +63,7 @@ module _ (p : ℕ) (ok : IsModulus p) (m n : ℕ) (a w z : List ℕ) where
   unfolding solution solved?
   solution-none f = pick-no solved? _ _ f
 
-  solution-elim : (Q : Outcome (List ℕ × List ℕ) → Type 0) → (Solved → Q found) → ((Solved → ⊥) → Q none) → Q (solution p ok m n a w z)
+  pub solution-elim : (Q : Outcome (List ℕ × List ℕ) → Type 0) → (Solved → Q found) → ((Solved → ⊥) → Q none) → Q (solution p ok m n a w z)
   solution-elim Q f g = go solved?
     where
       go : Dec Solved → Q (solution p ok m n a w z)
@@ -105,8 +105,8 @@ module _ (p : ℕ) (ok : IsModulus p) (m n : ℕ) (a w z : List ℕ) where
 -- ---- the call
 
 module _ (p m n : ℕ) (a w z u : List ℕ) where
-  -- its checks do not refuse by 5
-  other-kinds : EveryKind (λ k. refusalNumber k ≡ 5 → ⊥) (solveChecks p m n a w z u)
+  -- the checks do not refuse by 5
+  pub other-kinds : EveryKind (λ k. refusalNumber k ≡ 5 → ⊥) (systemChecks p m n a w z u)
   other-kinds = omega arith
 
   -- not refused, it leaves in z a solution
@@ -141,14 +141,11 @@ module _ (p m n : ℕ) (a w z u : List ℕ) where
       Q : Outcome (List ℕ × List ℕ) → Type 0
       Q o = o .told .number ≡ 5 → IsModulus p × ((ok : IsModulus p) → SystemRefused p ok m n a w z o)
 
-  all-hold : Given (solveChecks p m n a w z u) → AllHold (solveChecks p m n a w z u)
-  all-hold (modulus, (sizes, (a-long, (w-long, (z-long, (u-long, (a-below, (w-below, _)))))))) =
-      solve-hold p m n a w z u
-      (record { is-modulus = modulus; m-most = sizes .0; n-most = sizes .1; a-long = a-long; a-below = a-below })
-      (record { w-long = w-long; w-below = w-below; z-long = z-long; u-long = u-long })
+  all-hold : Given (systemChecks p m n a w z u) → AllHold (systemChecks p m n a w z u)
+  all-hold hs = system-hold p m n a w z u (table-given p m n a w z u hs) (system-given p m n a w z u hs)
 
   -- past the checks it refuses wherever there is no solution
-  refuses : Given (solveChecks p m n a w z u) → NoSolution p m n a w → solveCall p m n a w z u .told ≡ refused Insoluble
+  refuses : Given (systemChecks p m n a w z u) → NoSolution p m n a w → solveCall p m n a w z u .told ≡ refused Insoluble
   unfolding solveCall
   refuses given =
       in-order-elim _ _
@@ -160,7 +157,7 @@ module _ (p m n : ℕ) (a w z u : List ℕ) where
       Q o = NoSolution p m n a w → o .told ≡ refused Insoluble
 
   -- and accepts wherever there is one
-  pub solve-call-accepts : Given (solveChecks p m n a w z u)
+  pub solve-call-accepts : Given (systemChecks p m n a w z u)
       → (x : Vector (residues p)) × Solves (residues p) m n (tableOf p m n a) x (vectorOf p w)
       → IsRefusal (solveCall p m n a w z u .told .number) → ⊥
   unfolding solveCall
@@ -172,7 +169,7 @@ module _ (p m n : ℕ) (a w z u : List ℕ) where
       Q o = IsRefusal (o .told .number) → ⊥
 
   -- so past the checks the answer is 5 exactly if there is no solution
-  pub solve-call-exactly : Given (solveChecks p m n a w z u)
+  pub solve-call-exactly : Given (systemChecks p m n a w z u)
       → ((solveCall p m n a w z u .told ≡ refused Insoluble) ↔ NoSolution p m n a w)
       × ((solveCall p m n a w z u .told .number ≡ 5) ↔ NoSolution p m n a w)
   solve-call-exactly given =

@@ -12,7 +12,6 @@ use Rattle.algebra.specs.Span.{Combines, IsCombination, RowDepends, ColumnDepen
 use Rattle.algebra.specs.Quasiinverse.{Marks, count, IsQuasiinverse, IsInverseOn, IsPivotInverse}
 use Rattle.algebra.specs.Kernel.{kernelVector, combined}
 use Rattle.algebra.specs.Solve.{mixOf}
-use Rattle.algebra.proofs.Rings as rings
 use Rattle.algebra.proofs.Applied as applied
 use Rattle.algebra.proofs.Marks.{is-false}
 use Rattle.algebra.proofs.Chosen.{column-depends, column-free, row-depends, row-free}
@@ -21,6 +20,7 @@ use Rattle.algebra.proofs.Rank.{rows-spanned}
 use Rattle.algebra.proofs.Marked.{same-span-rank}
 use Rattle.algebra.proofs.Kernel.{kernel-vector-in, kernel-vector-own, kernel-spanned, kernel-spanned-once}
 use Rattle.algebra.proofs.Solve.{candidate-solves, mix-kills, mix-shows}
+use Rattle.algebra.proofs.Fit.{zero-remainder}
 use Rattle.checks.specs.Prime.{IsModulus}
 use Rattle.field.specs.Residue.{residues, _⊗_}
 use Rattle.matrix.specs.Decide.{field, combinations, equal?}
@@ -172,7 +172,9 @@ module _ (p : ℕ) (ok : IsModulus p) (m n : ℕ) (a : List ℕ) where
         let (l, differs) = first-row-differs (λ h. none (solvable-exactly .1 h)) in
         let y = firstRow p ok m n a w in (
           mix-kills (residues p) L (Q .absorbs) y l,
-          λ z. differs (sym (rings.difference-zero (residues p) L _ _ (sym (mix-shows (residues p) L m n A D (vectorOf p w) y l) ∙ z))),
+          λ z.
+              differs
+              (zero-remainder (residues p) L n A (candidate p ok m n a w) (vectorOf p w) y (sym (mix-shows (residues p) L m n A D (vectorOf p w) y l) ∙ z)),
         )
 
 -- "The ledger's rank .. in whatever order they came": rows that are combinations of each other's have the same rank

@@ -1,5 +1,5 @@
--- What quasiinverse, kernel and solve answer and leave in lent memory, for every input: 01, "Quasiinverse, kernel, solution"
--- and "What is handed back on refusal".
+-- What quasiinverse, kernel, solve and fit answer and leave in lent memory, for every input: 01, "Quasiinverse, kernel, solution"
+-- and "What is handed back on refusal"; 02, #102.
 use mathlib.Core.Bool.{Bool, true, false}
 use mathlib.Core.List.{List, [], _++_}
 use Prim.Native.Nat.{ℕ, zero, suc, _*_, _-_}
@@ -9,7 +9,7 @@ use Rattle.algebra.specs.Matrix.{Vector, Matrix, apply}
 use Rattle.algebra.specs.Quasiinverse.{Marks}
 use Rattle.algebra.specs.Chosen.{chosenColumns, chosenRows, rank}
 use Rattle.algebra.specs.Kernel.{kernelVector}
-use Rattle.algebra.specs.Solve.{mixOf}
+use Rattle.algebra.specs.Solve.{mixOf, remainder}
 use Rattle.checks.specs.declared.Refusal.{Refusal}
 use Rattle.checks.specs.declared.Refusal.the-variants.{Length, Number, Insoluble}
 use Rattle.checks.specs.Told.{results, refused}
@@ -97,16 +97,29 @@ kernelCall p m n a basis =
     (λ hs. outcome (results (n - tableRank p (hs .0) m n a)) (basisOf p (hs .0) m n a))
     (untouched basis)
 
+-- ---- systems: what solve and fit check
+
+-- 3 for A, w, z and a last slice of m numbers: solve's u, fit's remainder
+abbrev pub systemLengths : (m n : ℕ) (a w z u : List ℕ) → Checks Refusal
+systemLengths m n a w z u =
+    long? a (m * n) else Length ⨾ long? w m else Length ⨾ long? z n else Length ⨾ long? u m else Length ⨾ passed
+
+-- 1, 2; 3; 4 for A and then w
+abbrev pub systemChecks : (p m n : ℕ) (a w z u : List ℕ) → Checks Refusal
+systemChecks p m n a w z u =
+    andThen (tableSizes p m n)
+    (λ _. andThen (systemLengths m n a w z u) (λ _. below? p a else Number ⨾ below? p w else Number ⨾ passed))
+
+-- the numbers of a list as a vector
+unfoldable pub vectorOf : (p : ℕ) → List ℕ → Vector (residues p)
+vectorOf p w i = reduce p (getD w i 0)
+
 -- ---- solve
 
 -- the first of k places, from t on, where the test is true, or t + k
 unfoldable pub firstFrom : (ℕ → Bool) → (t k : ℕ) → ℕ
 firstFrom f t zero = t
 firstFrom f t (suc k) = choose (f t) t (firstFrom f (suc t) k)
-
--- the numbers of a list as a vector
-unfoldable pub vectorOf : (p : ℕ) → List ℕ → Vector (residues p)
-vectorOf p w i = reduce p (getD w i 0)
 
 module _ (p : ℕ) (ok : IsModulus p) (m n : ℕ) (a w : List ℕ) where
   -- Dw
@@ -125,20 +138,22 @@ module _ (p : ℕ) (ok : IsModulus p) (m n : ℕ) (a w : List ℕ) where
       (outcome (results (tableRank p ok m n a)) (numbers n candidate, replicate m 0))
       (outcome (refused Insoluble) (z, numbers m (mixOf (residues p) n (tableOf p m n a) (inverseOf p ok m n a) firstRow)))
 
--- 1, 2; 3 for A, w, z and u; 4 for A and then w
-abbrev pub solveChecks : (p m n : ℕ) (a w z u : List ℕ) → Checks Refusal
-solveChecks p m n a w z u =
-    andThen (tableSizes p m n)
-    (λ _.
-    long? a (m * n) else Length
-    ⨾ long? w m else Length
-    ⨾ long? z n else Length
-    ⨾ long? u m else Length
-    ⨾ below? p a else Number
-    ⨾ below? p w else Number
-    ⨾ passed)
-
 -- the rank, with z and u; or 5, with z as it was and u
 unfoldable pub solveCall : (p m n : ℕ) (a w z u : List ℕ) → Outcome (List ℕ × List ℕ)
 solveCall p m n a w z u =
-    inOrder (solveChecks p m n a w z u) (λ hs. solution p (hs .0) m n a w z) (untouched (z, u))
+    inOrder (systemChecks p m n a w z u) (λ hs. solution p (hs .0) m n a w z) (untouched (z, u))
+
+-- ---- fit
+
+-- 02, #102: "a call that gives z = Dw and the remainder w - Az, for each accepted table. .. The result is r"
+unfoldable pub nearestFit : (p : ℕ) → IsModulus p → (m n : ℕ) (a w : List ℕ) → Outcome (List ℕ × List ℕ)
+nearestFit p ok m n a w =
+    outcome (results (tableRank p ok m n a)) (
+      numbers n (candidate p ok m n a w),
+      numbers m (remainder (residues p) n (tableOf p m n a) (candidate p ok m n a w) (vectorOf p w)),
+    )
+
+-- "the checks are solve's without 5"
+unfoldable pub fitCall : (p m n : ℕ) (a w z rest : List ℕ) → Outcome (List ℕ × List ℕ)
+fitCall p m n a w z rest =
+    inOrder (systemChecks p m n a w z rest) (λ hs. nearestFit p (hs .0) m n a w) (untouched (z, rest))

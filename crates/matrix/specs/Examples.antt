@@ -1,5 +1,5 @@
--- 01, "Examples": the starred examples of tables, in the document's order, and what it is for one to hold of the definitions of
--- the calls.
+-- 01, "Examples": the starred examples of tables, in the document's order, with what fit leaves of their systems (02, #102), and what
+-- it is for one to hold of the definitions of the calls.
 use mathlib.Core.Path.{_≡_}
 use mathlib.Core.List.{List, [], _∷_, _++_, flatten, List·Memᴰ}
 use Prim.Native.Nat.{ℕ, _*_}
@@ -7,7 +7,7 @@ use lib.ListN.{length, replicate}
 use Rattle.checks.specs.declared.Refusal.the-variants.{Insoluble}
 use Rattle.checks.specs.Told.{results, refused}
 use Rattle.checks.specs.Outcome.{Outcome, outcome}
-use Rattle.matrix.specs.Calls.{quasiinverseCall, kernelCall, solveCall}
+use Rattle.matrix.specs.Calls.{quasiinverseCall, kernelCall, solveCall, fitCall}
 use Rattle.matrix.specs.Parts.{InverseRoom}
 
 -- "gives z = ..", or "gives 5, u = .."
@@ -15,10 +15,12 @@ pub data Becomes : Type 0 where
   solvedBy : List ℕ → Becomes
   refusedBy : List ℕ → Becomes
 
--- a right side w, and what becomes of it
+-- a right side w, and what becomes of it; the nearest fit and its remainder
 pub record SystemExample : Type 0 where
   pub w : List ℕ
   pub becomes : Becomes
+  pub z : List ℕ
+  pub rest : List ℕ
 
 -- a table of m rows and n columns modulo p, its D row by row, the marks of I and J, the rank, the kernel's vectors, and systems
 pub record TableExample : Type 0 where
@@ -70,8 +72,8 @@ tableExamples =
       rank = 1;
       vectors = (3 ∷ 1 ∷ []) ∷ [];
       systems =
-          record { w = 1 ∷ 2 ∷ []; becomes = solvedBy (1 ∷ 0 ∷ []) }
-          ∷ record { w = 1 ∷ 3 ∷ []; becomes = refusedBy (3 ∷ 1 ∷ []) }
+          record { w = 1 ∷ 2 ∷ []; becomes = solvedBy (1 ∷ 0 ∷ []); z = 1 ∷ 0 ∷ []; rest = 0 ∷ 0 ∷ [] }
+          ∷ record { w = 1 ∷ 3 ∷ []; becomes = refusedBy (3 ∷ 1 ∷ []); z = 1 ∷ 0 ∷ []; rest = 0 ∷ 1 ∷ [] }
           ∷ [];
     }
     ∷ record {
@@ -115,3 +117,6 @@ pub record Holds (e : TableExample) : Type 0 where
   pub solves : (s : SystemExample) → List·Memᴰ s (e .systems)
       → (z u : List ℕ) → length z ≡ e .n → length u ≡ e .m
       → solveCall (e .p) (e .m) (e .n) (e .a) (s .w) z u ≡ systemOutcome (e .m) (e .rank) (s .becomes) z
+  pub fits : (s : SystemExample) → List·Memᴰ s (e .systems)
+      → (z rest : List ℕ) → length z ≡ e .n → length rest ≡ e .m
+      → fitCall (e .p) (e .m) (e .n) (e .a) (s .w) z rest ≡ outcome (results (e .rank)) (s .z, s .rest)

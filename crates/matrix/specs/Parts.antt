@@ -5,19 +5,20 @@ use mathlib.Core.List.{List, _++_}
 use Prim.Native.Nat.{ℕ, suc, _+_, _*_, _-_, _≤_, _<_}
 use lib.ListN.{length, getD, replicate}
 use lib.Dec.{eqb}
-use Rattle.algebra.specs.Matrix.{Matrix, product, apply}
+use Rattle.algebra.specs.Matrix.{Matrix, product}
 use Rattle.algebra.specs.Quasiinverse.{Marks, count}
+use Rattle.algebra.specs.Solve.{remainder}
 use Rattle.checks.specs.Largest.{largest}
 use Rattle.checks.specs.Prime.{IsModulus}
 use Rattle.checks.specs.Told.{Told}
 use Rattle.checks.specs.Outcome.{outcome}
 use Rattle.words.specs.Lengths.{longestRow, widestTable}
-use Rattle.words.specs.Words.{Below, FirstDifference}
+use Rattle.words.specs.Words.{Below}
 use Rattle.field.specs.Residue.{residues, reduce}
 use Rattle.field.specs.View.{table}
 use Rattle.field.specs.Written.{numbers, rowsOf, marksOf}
 use Rattle.matrix_echelon.specs.declared.Grid.{Grid}
-use Rattle.matrix.specs.Calls.{tableOf, columnsOf, rowMarksOf, tableRank, inverseOf, vectorsFrom, basisOf, vectorOf, solution}
+use Rattle.matrix.specs.Calls.{tableOf, columnsOf, rowMarksOf, tableRank, inverseOf, vectorsFrom, basisOf, vectorOf, candidate, solution}
 
 -- a table of m rows and n columns that has passed the checks
 pub record Checked (p m n : ℕ) (a : List ℕ) : Type 0 where
@@ -79,17 +80,19 @@ pub record StoresBasis (p : ℕ) (ok : IsModulus p) (m n : ℕ) (a basis : List 
   pub filled : basis ≡ basisOf p ok m n a
   pub many : r ≡ n - tableRank p ok m n a
 
--- the right side w of a system, and the memory of z and u
+-- the right side w of a system, and the memory of z and of u, or of the remainder
 pub record System (p m n : ℕ) (w z u : List ℕ) : Type 0 where
   pub w-long : length w ≡ m
   pub w-below : Below p w
   pub z-long : length z ≡ n
   pub u-long : length u ≡ m
 
+-- z and rest hold Dw and what it leaves over of w, and r is the rank
+pub record StoresFit (p : ℕ) (ok : IsModulus p) (m n : ℕ) (a w : List ℕ) (r : ℕ) (z rest : List ℕ) : Type 0 where
+  pub is-rank : r ≡ tableRank p ok m n a
+  pub z-written : z ≡ numbers n (candidate p ok m n a w)
+  pub rest-written : rest ≡ numbers m (remainder (residues p) n (tableOf p m n a) (candidate p ok m n a w) (vectorOf p w))
+
 -- what is told and left in z and u is 01's solution of the system
 abbrev pub IsSolution : (p m n : ℕ) (a w z : List ℕ) → Told → (z′ u′ : List ℕ) → Type 0
 IsSolution p m n a w z told z′ u′ = (ok : IsModulus p) → outcome told (z′, u′) ≡ solution p ok m n a w z
-
--- y is the first row where A x and w differ, or their length
-abbrev pub FirstUnsolved : (p m n : ℕ) (a x w : List ℕ) → ℕ → Type 0
-FirstUnsolved p m n a x w y = FirstDifference (numbers m (apply (residues p) n (tableOf p m n a) (vectorOf p x))) w y

@@ -1,8 +1,9 @@
--- What 01 promises of quasiinverse, kernel and solve, said of the outcome o of a call: of what it tells and of the numbers that it
--- leaves in lent memory. That the calls keep these promises is shown in proofs/InverseCall.antt, KernelCall.antt and SolveCall.antt.
+-- What 01 promises of quasiinverse, kernel and solve, and 02 of fit, said of the outcome o of a call: of what it tells and of the
+-- numbers that it leaves in lent memory. That the calls keep these promises is shown in proofs/InverseCall.antt, KernelCall.antt,
+-- SolveCall.antt and FitCall.antt.
 use mathlib.Core.Path.{_≡_}
 use mathlib.Core.Bool.{false, not}
-use mathlib.Core.Logic.{_⊎_}
+use mathlib.Core.Logic.{_⊎_, _↔_}
 use mathlib.Core.List.{List}
 use Prim.Native.Nat.{ℕ, _+_, _*_, _-_, _<_}
 use lib.ListN.{length, getD, drop, replicate}
@@ -10,8 +11,9 @@ use Rattle.algebra.specs.Matrix.{Vector, Matrix, sum, unit, apply, mixed}
 use Rattle.algebra.specs.Span.{Combines, IsCombination, RowDepends, ColumnDepends, InKernel, Solves}
 use Rattle.algebra.specs.Quasiinverse.{count, IsQuasiinverse, IsInverseOn}
 use Rattle.algebra.specs.Kernel.{kernelVector}
-use Rattle.algebra.specs.Solve.{mixOf}
+use Rattle.algebra.specs.Solve.{mixOf, remainder, IsFit}
 use Rattle.checks.specs.declared.Refusal.the-variants.{Insoluble}
+use Rattle.checks.specs.Refusal.{IsRefusal}
 use Rattle.checks.specs.Told.{results, refused}
 use Rattle.checks.specs.Outcome.{Outcome}
 use Rattle.checks.specs.Prime.{IsModulus}
@@ -19,7 +21,7 @@ use Rattle.field.specs.Residue.{residues, _⊗_}
 use Rattle.field.specs.Written.{numbers}
 use Rattle.words.specs.Words.{Below, Blank}
 use Rattle.matrix.specs.Parts.{marked}
-use Rattle.matrix.specs.Calls.{tableOf, columnsOf, tableRank, inverseOf, vectorOf, candidate}
+use Rattle.matrix.specs.Calls.{tableOf, columnsOf, rowMarksOf, tableRank, inverseOf, vectorOf, candidate}
 
 -- ---- quasiinverse
 
@@ -40,11 +42,12 @@ pub record QuasiinverseDone (p m n : ℕ) (a : List ℕ) (o : Outcome (List ℕ 
   pub d-below : Below p (o .lent .0)
   pub inverse : IsInverseOn (residues p) m n (tableOf p m n a) (tableOf p n m (o .lent .0)) (marked (o .lent .1 .0)) (marked (o .lent .1 .1))
   pub quasiinverse : IsQuasiinverse (residues p) m n (tableOf p m n a) (tableOf p n m (o .lent .0))
-  -- there is no other such D; and D, I and r are those that the promises of kernel and solve name
+  -- there is no other such D; and D, I, J and r are those that the promises of kernel, solve and fit name
   pub only : (X : Matrix (residues p))
       → IsInverseOn (residues p) m n (tableOf p m n a) X (marked (o .lent .1 .0)) (marked (o .lent .1 .1)) → X ≡ tableOf p n m (o .lent .0)
   pub is-D : (ok : IsModulus p) → tableOf p n m (o .lent .0) ≡ inverseOf p ok m n a
   pub is-I : (ok : IsModulus p) → marked (o .lent .1 .0) ≡ columnsOf p ok m n a
+  pub is-J : (ok : IsModulus p) → marked (o .lent .1 .1) ≡ rowMarksOf p ok m n a
   pub is-r : (ok : IsModulus p) → count n (marked (o .lent .1 .0)) ≡ tableRank p ok m n a
 
 -- ---- kernel
@@ -113,3 +116,34 @@ module _ (p : ℕ) (ok : IsModulus p) (m n : ℕ) (a w : List ℕ) where
     pub u-long : length (o .lent .1) ≡ m
     pub u-kills : (j : ℕ) → j < n → mixed (residues p) m (vectorOf p (o .lent .1)) (tableOf p m n a) j ≡ residues p .zero
     pub u-shows : sum (residues p) m (λ t. vectorOf p (o .lent .1) t ⊗ vectorOf p w t) ≡ residues p .zero → ⊥
+
+-- ---- fit
+
+module _ (p : ℕ) (ok : IsModulus p) (m n : ℕ) (a w : List ℕ) where
+  -- 02, #102: "z zero outside I, remainder zero on J and w = Az + remainder", of lists of n and of m numbers below p
+  pub record NearestFit (z rest : List ℕ) : Type 0 where
+    pub z-long : length z ≡ n
+    pub z-below : Below p z
+    pub rest-long : length rest ≡ m
+    pub rest-below : Below p rest
+    pub fits : IsFit (residues p) m n (tableOf p m n a) (columnsOf p ok m n a) (rowMarksOf p ok m n a) (vectorOf p w) (vectorOf p z) (vectorOf p rest)
+
+  -- "z = Dw and the remainder w - Az .. The remainder is 0 on all rows of J, and the pair is the only one with z zero outside I,
+  -- remainder zero on J and w = Az + remainder. .. The result is r"
+  pub record FitDone (o : Outcome (List ℕ × List ℕ)) : Type 0 where
+    pub told : o .told ≡ results (tableRank p ok m n a)
+    pub z-is : o .lent .0 ≡ numbers n (candidate p ok m n a w)
+    pub rest-is : o .lent .1 ≡ numbers m (remainder (residues p) n (tableOf p m n a) (vectorOf p (o .lent .0)) (vectorOf p w))
+    pub nearest : NearestFit (o .lent .0) (o .lent .1)
+    pub only : (z rest : List ℕ) → NearestFit z rest → (z ≡ o .lent .0) × (rest ≡ o .lent .1)
+    -- how a wrong number of w shows: the remainder at y is w times the mix of row y, the unit row of y minus (row y of A) times D
+    pub by-mixes : (y : ℕ) → y < m
+        → vectorOf p (o .lent .1) y ≡ sum (residues p) m (λ t. mixOf (residues p) n (tableOf p m n a) (inverseOf p ok m n a) y t ⊗ vectorOf p w t)
+
+-- "The remainder is all 0 exactly if solve accepts": of what fit leaves, f, and what solve answers for the same table and right
+-- side, s. Then z is solve's z, and the result the same; otherwise solve's answer is 5.
+pub record FitBesideSolve (f s : Outcome (List ℕ × List ℕ)) : Type 0 where
+  pub exactly : Blank (f .lent .1) ↔ (IsRefusal (s .told .number) → ⊥)
+  pub same-z : (IsRefusal (s .told .number) → ⊥) → f .lent .0 ≡ s .lent .0
+  pub same-result : (IsRefusal (s .told .number) → ⊥) → f .told ≡ s .told
+  pub else-insoluble : IsRefusal (s .told .number) → s .told ≡ refused Insoluble

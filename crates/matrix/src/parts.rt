@@ -1,17 +1,16 @@
 // What the calls on tables are made of: the quasiinverse of a table that has passed the checks, the vectors that its reduced form
-// gives, and the mix of a row. The calls of `matrix_calls` meet what each requires.
+// gives, the mix of a row, and what a column leaves over. The calls of `matrix_calls` meet what each requires.
 ghost use mathlib.Core.Path.{_≡_};
 ghost use Prim.Native.Nat.{ℕ, _*_, _≤_, _<_};
 ghost use lib.ListN.{length, getD};
-ghost use Rattle.algebra.specs.Matrix.{apply};
 ghost use Rattle.algebra.specs.Kernel.{kernelVector};
-ghost use Rattle.algebra.specs.Solve.{mixOf};
+ghost use Rattle.algebra.specs.Solve.{mixOf, remainder};
 ghost use Rattle.checks.specs.Largest.{largest};
 ghost use Rattle.checks.specs.Prime.{IsModulus};
 ghost use Rattle.field.specs.Residue.{residues};
-ghost use Rattle.field.specs.View.{table};
 ghost use Rattle.field.specs.Written.{numbers};
 ghost use Rattle.field.proofs.Totals.{total};
+ghost use Rattle.words.specs.Words.{Below};
 ghost use Rattle.matrix.specs.Calls.{tableOf, inverseOf, vectorOf};
 ghost use Rattle.matrix.specs.Parts.{ReducedRows, IsFree, KernelVectors, Checked, InverseRoom, StoresInverse};
 use matrix_echelon::Grid;
@@ -102,16 +101,18 @@ pub fn row_mix(p: u32, m: usize, n: usize, a: &[u32], y: usize, u: &mut [u32])
     u[y] = field::arith::plus(p, u[y], 1);
 }
 
-// X w, where x has `rows` rows of k numbers.
-pub fn times_vector(p: u32, rows: usize, k: usize, x: &[u32], w: &[u32], out: &mut [u32])
-    requires { ⌜ (0 < p) × (length (now x) ≡ rows * k) × (length (now w) ≡ k) × (length (now out) ≡ rows) ⌝ }
-    ensures { λ _. ⌜ now (out .exit) ≡ numbers rows (apply (residues p) k (table p (now (x .entry)) 0 k rows k) (vectorOf p (now (w .entry)))) ⌝ }
+// What x leaves over of w, row after row: w - A x.
+pub fn remainder(p: u32, m: usize, n: usize, a: &[u32], x: &[u32], w: &[u32], rest: &mut [u32])
+    requires { ⌜ Checked p m n (now a) × (length (now x) ≡ n) × (length (now w) ≡ m) × Below p (now w) × (length (now rest) ≡ m) ⌝ }
+    ensures { λ _. ⌜ now (rest .exit)
+        ≡ numbers m (remainder (residues p) n (tableOf p m n (now (a .entry))) (vectorOf p (now (x .entry))) (vectorOf p (now (w .entry)))) ⌝ }
 {
     let mut i = 0;
-    while i < rows {
-        let start = i * k;
-        let end = start + k;
-        out[i] = field::sums::dot(p, &x[start..end], w, 0, 1);
+    while i < m {
+        let start = i * n;
+        let end = start + n;
+        let image = field::sums::dot(p, &a[start..end], x, 0, 1);
+        rest[i] = field::arith::minus(p, w[i], image);
         i += 1;
     }
 }

@@ -1,9 +1,10 @@
-// Tables: quasiinverse, kernel and solution. Each call checks, in this order, 1, p; 2, the sizes; 3, the lengths; 4, the
-// numbers; and leaves all lent memory as it was where it refuses by these.
+// Tables: quasiinverse, kernel, solution and nearest fit. Each call checks, in this order, 1, p; 2, the sizes; 3, the lengths; 4,
+// the numbers; and leaves all lent memory as it was where it refuses by these.
 ghost use mathlib.Core.Path.{_≡_};
 ghost use Rattle.matrix.specs.Told.{tableTold};
-ghost use Rattle.matrix.specs.Calls.{quasiinverseCall, kernelCall, solveCall};
+ghost use Rattle.matrix.specs.Calls.{quasiinverseCall, kernelCall, systemChecks, solveCall, fitCall};
 ghost use Rattle.checks.specs.Outcome.{outcome};
+ghost use Rattle.checks.specs.Sizes.{Judges};
 use checks::Refusal;
 use checks::Verdict;
 pub use matrix::TableAnswer;
@@ -70,6 +71,37 @@ pub fn kernel(p: u32, m: u32, n: u32, a: &[u32], basis: &mut [u32]) -> TableAnsw
     TableAnswer::Done(work::kernel_of(p, height, width, a, basis))
 }
 
+// What solve and fit check: 1 and 2; 3 for a, w, z and the last slice, which is lent as many numbers as w has; 4 for a, then w.
+fn system_checks(p: u32, m: u32, n: u32, a: &[u32], w: &[u32], z: &[u32], u: &[u32]) -> Verdict
+    ensures { λ r.
+        ⌜ Judges (systemChecks p m n (now (a .entry)) (now (w .entry)) (now (z .entry)) (now (u .entry))) r ⌝ }
+{
+    if let Verdict::Refused(kind) = checks::table_sizes(p, m, n) {
+        return Verdict::Refused(kind);
+    }
+    let height = m as usize;
+    let width = n as usize;
+    if a.len() != height * width {
+        return Verdict::Refused(Refusal::Length);
+    }
+    if w.len() != height {
+        return Verdict::Refused(Refusal::Length);
+    }
+    if z.len() != width {
+        return Verdict::Refused(Refusal::Length);
+    }
+    if u.len() != height {
+        return Verdict::Refused(Refusal::Length);
+    }
+    if !all_below(p, a) {
+        return Verdict::Refused(Refusal::Number);
+    }
+    if !all_below(p, w) {
+        return Verdict::Refused(Refusal::Number);
+    }
+    Verdict::Passed
+}
+
 // A solution z of A x = w, with the mix u 0 and the rank; or 5, with z as it was and a mix u that shows that there is none.
 pub fn solve(
     p: u32,
@@ -82,28 +114,26 @@ pub fn solve(
 ) -> TableAnswer
     ensures { λ r. ⌜ outcome (tableTold r) (now (z .exit), now (u .exit)) ≡ solveCall p m n (now (a .entry)) (now (w .entry)) (now (z .entry)) (now (u .entry)) ⌝ }
 {
-    if let Verdict::Refused(kind) = checks::table_sizes(p, m, n) {
+    if let Verdict::Refused(kind) = system_checks(p, m, n, a, w, z, u) {
         return TableAnswer::Refused(kind);
     }
-    let height = m as usize;
-    let width = n as usize;
-    if a.len() != height * width {
-        return TableAnswer::Refused(Refusal::Length);
+    work::solve_of(p, m as usize, n as usize, a, w, z, u)
+}
+
+// The nearest fit z = D w, whether A x = w has a solution or not, with what it leaves over, w - A z, and the rank.
+pub fn fit(
+    p: u32,
+    m: u32,
+    n: u32,
+    a: &[u32],
+    w: &[u32],
+    z: &mut [u32],
+    rest: &mut [u32],
+) -> TableAnswer
+    ensures { λ r. ⌜ outcome (tableTold r) (now (z .exit), now (rest .exit)) ≡ fitCall p m n (now (a .entry)) (now (w .entry)) (now (z .entry)) (now (rest .entry)) ⌝ }
+{
+    if let Verdict::Refused(kind) = system_checks(p, m, n, a, w, z, rest) {
+        return TableAnswer::Refused(kind);
     }
-    if w.len() != height {
-        return TableAnswer::Refused(Refusal::Length);
-    }
-    if z.len() != width {
-        return TableAnswer::Refused(Refusal::Length);
-    }
-    if u.len() != height {
-        return TableAnswer::Refused(Refusal::Length);
-    }
-    if !all_below(p, a) {
-        return TableAnswer::Refused(Refusal::Number);
-    }
-    if !all_below(p, w) {
-        return TableAnswer::Refused(Refusal::Number);
-    }
-    work::solve_of(p, height, width, a, w, z, u)
+    TableAnswer::Done(work::fit_of(p, m as usize, n as usize, a, w, z, rest))
 }

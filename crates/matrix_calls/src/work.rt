@@ -5,9 +5,7 @@ ghost use lib.ListN.{length};
 ghost use Rattle.checks.specs.Prime.{IsModulus};
 ghost use Rattle.matrix.specs.Calls.{tableRank};
 ghost use Rattle.matrix.specs.Told.{tableTold};
-ghost use Rattle.matrix.specs.Parts.{plain, Checked, InverseRoom, StoresInverse, StoresBasis, System, FirstUnsolved, IsSolution};
-ghost use Rattle.matrix_echelon.specs.Reduced.{SolutionFound};
-ghost use Rattle.words.specs.Words.{Below};
+ghost use Rattle.matrix.specs.Parts.{Checked, InverseRoom, StoresInverse, StoresBasis, System, StoresFit, IsSolution};
 use checks::Refusal;
 use matrix::TableAnswer;
 use matrix::parts;
@@ -53,21 +51,38 @@ pub fn kernel_of(p: u32, m: usize, n: usize, a: &[u32], basis: &mut [u32]) -> u3
     parts::kernel_vectors(p, n, &at, &e, basis)
 }
 
-// The first row where A x and w differ, or m, for x = D w. Where the rank is m there is none.
-fn first_unsolved(p: u32, m: usize, n: usize, a: &[u32], w: &[u32], rank: usize, x: &[u32]) -> usize
-    requires { ⌜ Checked p m n (now a) × (length (now w) ≡ m) × Below p (now w) × SolutionFound p (plain m n) (now a) (now w) 1 rank (now x) ⌝ }
-    ensures { λ y. ⌜ FirstUnsolved p m n (now (a .entry)) (now (x .entry)) (now (w .entry)) y ⌝ }
+// The nearest fit: z becomes D w and rest what that leaves over of w. Where the rank is m nothing is left over.
+pub fn fit_of(
+    p: u32,
+    m: usize,
+    n: usize,
+    a: &[u32],
+    w: &[u32],
+    z: &mut [u32],
+    rest: &mut [u32],
+) -> u32
+    requires { ⌜ Checked p m n (now a) × System p m n (now w) (now z) (now rest) ⌝ }
+    ensures { λ r.
+        ⌜ ((ok : IsModulus p) → StoresFit p ok m n (now (a .entry)) (now (w .entry)) r (now (z .exit)) (now (rest .exit))) ⌝ }
 {
+    let plain = Grid {
+        start: 0,
+        down: n,
+        along: 1,
+        rows: m,
+        columns: n,
+    };
+    let rank = reduced::solution(p, plain, a, w, 1, z);
     if rank == m {
-        return m;
+        words::clear(rest);
+        return rank as u32;
     }
-    let mut image = words::row_room();
-    parts::times_vector(p, m, n, a, x, &mut image[..m]);
-    words::first_difference(&image[..m], w)
+    parts::remainder(p, m, n, a, z, w, rest);
+    rank as u32
 }
 
 // The answer to the system of the table: z becomes Dw and u 0, or u becomes the mix that shows that there is no solution. x is room
-// for Dw.
+// for Dw, and u, until it is known, for what that leaves over.
 fn solve_with(
     p: u32,
     m: usize,
@@ -82,22 +97,14 @@ fn solve_with(
     ensures { λ t.
         ⌜ IsSolution p m n (now (a .entry)) (now (w .entry)) (now (z .entry)) (tableTold t) (now (z .exit)) (now (u .exit)) ⌝ }
 {
-    let plain = Grid {
-        start: 0,
-        down: n,
-        along: 1,
-        rows: m,
-        columns: n,
-    };
-    let rank = reduced::solution(p, plain, a, w, 1, x);
-    let y = first_unsolved(p, m, n, a, w, rank, x);
+    let rank = fit_of(p, m, n, a, w, x, u);
+    let y = words::least_nonzero(u);
     if y < m {
         parts::row_mix(p, m, n, a, y, u);
         return TableAnswer::Refused(Refusal::Insoluble);
     }
     words::copy(x, 0, n, z);
-    words::clear(u);
-    TableAnswer::Done(rank as u32)
+    TableAnswer::Done(rank)
 }
 
 // The same, with room for Dw made here.

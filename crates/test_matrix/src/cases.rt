@@ -1,4 +1,4 @@
-// The stored cases: each table's quasiinverse, kernel and system, compared with what its case says.
+// The stored cases: each table's quasiinverse and kernel, and its system solved and fitted, compared with what its case says.
 ghost use Prim.Native.Nat.{_≤_};
 use super::memory;
 use super::report;
@@ -7,8 +7,8 @@ use test_support::input;
 use test_support::lent;
 use test_support::told;
 
-// The quasiinverse, with memory for D and both marks.
-fn invert(p: u32, m: u32, n: u32, a: &[u32], tally: &mut [u32; 16])
+// The quasiinverse, with memory for D and both marks. Answers the rank that the case says.
+fn invert(p: u32, m: u32, n: u32, a: &[u32], tally: &mut [u32; 16]) -> u32
     requires { ⌜ (m ≤ 64) × (n ≤ 64) ⌝ }
 {
     let size = memory::size(n, m);
@@ -19,11 +19,13 @@ fn invert(p: u32, m: u32, n: u32, a: &[u32], tally: &mut [u32; 16])
     let columns = lent::front(&mut column_words, n as usize);
     let rows = lent::front(&mut row_words, m as usize);
     let number = report::number_of(matrix_calls::quasiinverse(p, m, n, a, d, columns, rows));
-    let is_rank = number == told::number_of(input::word());
+    let rank = input::word();
+    let is_rank = number == told::number_of(rank);
     counts::count_if(tally, report::QUASIINVERSES, is_rank);
     counts::expect_words(tally, d);
     counts::expect_words(tally, columns);
     counts::expect_words(tally, rows);
+    rank
 }
 
 // The kernel, with memory for its basis.
@@ -54,17 +56,33 @@ fn solve_side(p: u32, m: u32, n: u32, a: &[u32], w: &[u32], tally: &mut [u32; 16
     counts::expect_words(tally, u);
 }
 
-// The system whose right side comes from the input.
-fn solve(p: u32, m: u32, n: u32, a: &[u32], tally: &mut [u32; 16])
+// The nearest fit of the right side w, with its remainder. The answer is the rank, as the quasiinverse's.
+fn fit_side(p: u32, m: u32, n: u32, a: &[u32], w: &[u32], rank: u32, tally: &mut [u32; 16])
+    requires { ⌜ (m ≤ 64) × (n ≤ 64) ⌝ }
+{
+    let mut z_words = lent::words(memory::WORD);
+    let mut rest_words = lent::words(memory::WORD);
+    let z = lent::front(&mut z_words, n as usize);
+    let rest = lent::front(&mut rest_words, m as usize);
+    let number = report::number_of(matrix_calls::fit(p, m, n, a, w, z, rest));
+    let is_rank = number == told::number_of(rank);
+    counts::count_if(tally, report::FITS, is_rank);
+    counts::expect_words(tally, z);
+    counts::expect_words(tally, rest);
+}
+
+// The system whose right side comes from the input, solved and fitted.
+fn system(p: u32, m: u32, n: u32, a: &[u32], rank: u32, tally: &mut [u32; 16])
     requires { ⌜ (m ≤ 64) × (n ≤ 64) ⌝ }
 {
     let mut words = lent::words(0);
     let w = lent::front(&mut words, m as usize);
     input::read_words(w);
     solve_side(p, m, n, a, w, tally);
+    fit_side(p, m, n, a, w, rank, tally);
 }
 
-// The three calls on a table, which comes from the input.
+// The four calls on a table, which comes from the input.
 fn compare(p: u32, m: u32, n: u32, tally: &mut [u32; 16])
     requires { ⌜ (m ≤ 64) × (n ≤ 64) ⌝ }
 {
@@ -73,9 +91,9 @@ fn compare(p: u32, m: u32, n: u32, tally: &mut [u32; 16])
     let a = lent::front(&mut table, size);
     input::read_words(a);
     counts::count(tally, report::CASES);
-    invert(p, m, n, a, tally);
+    let rank = invert(p, m, n, a, tally);
     kernel(p, m, n, a, tally);
-    solve(p, m, n, a, tally);
+    system(p, m, n, a, rank, tally);
 }
 
 // The next case, and whether there was one. A table of more rows or columns than there is room for is none of the script's.

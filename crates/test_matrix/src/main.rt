@@ -1,14 +1,14 @@
-// Runs the calls on tables on stored cases and on document 01's examples. The cases are those of tools/tables.py, whose own
+// Runs the calls on tables on stored cases and on the documents' examples. The cases are those of tools/tables.py, whose own
 // solver says what each answers and leaves:
 //
 //     python3 tools/tables.py > crates/test_matrix/stdin
 //
 // The file `stdout` has what that script counts, and for the examples what the document gives, worked out from them and not
 // from a run:
-// - `cases N`: the stored tables. `quasiinverses N`, `kernels N`, `solved N`, `insoluble N`: how many of the calls on them
-//   answered as stored, the systems by their answers.
+// - `cases N`: the stored tables. `quasiinverses N`, `kernels N`, `solved N`, `insoluble N`, `fits N`: how many of the calls on
+//   them answered as stored, solve by its answers.
 // - `example CALL-WHAT NUMBER` for each example. A refusal that changed lent memory would add `touched`, and a kernel of no
-//   rows that is not the document's a line.
+//   rows that is not the document's a line. Three nearest fits are given with z and the remainder.
 // - `mismatches N`: how often an answer to a stored case, or the memory that it leaves, was not the one expected.
 mod cases;
 mod examples;

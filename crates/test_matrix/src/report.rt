@@ -14,6 +14,8 @@ pub const SOLVED: usize = 3;
 
 pub const INSOLUBLE: usize = 4;
 
+pub const FITS: usize = 5;
+
 // The number that document 01 gives an answer.
 pub fn number_of(answer: TableAnswer) -> u32 {
     match answer {
@@ -33,4 +35,5 @@ pub fn print_cases(tally: &[u32; 16]) {
     output::print_count(b"kernels", tally, KERNELS);
     output::print_count(b"solved", tally, SOLVED);
     output::print_count(b"insoluble", tally, INSOLUBLE);
+    output::print_count(b"fits", tally, FITS);
 }

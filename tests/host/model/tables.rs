@@ -1,4 +1,4 @@
-//! Tables: quasiinverse, kernel and solve.
+//! Tables: quasiinverse, kernel, solve and fit.
 
 use super::field::{dot, inverse};
 use super::met::{first, lengths, met, no_modulus, note_size};
@@ -160,33 +160,62 @@ pub fn kernel(p: u32, m: u32, n: u32, a: &[u32], basis: &mut [u32]) -> u32 {
     200 + outside.len() as u32
 }
 
-pub fn solve(p: u32, m: u32, n: u32, a: &[u32], w: &[u32], z: &mut [u32], u: &mut [u32]) -> u32 {
-    let slices = [
-        ("a", a.len(), m as u128 * n as u128),
-        ("w", w.len(), m as u128),
-        ("z", z.len(), n as u128),
-        ("u", u.len(), m as u128),
-    ];
-    if let Some(number) = table_refusal("solve", p, m, n, a, w, &slices) {
-        return number;
+/// What solve and fit begin with: the refusal, or A, w as u64, D w and the rank. The last slice is lent as many numbers as w has.
+fn system(call: &str, p: u32, m: u32, n: u32, a: &[u32], w: &[u32], z: usize, last: (&str, usize)) -> Result<System, u32> {
+    let slices =
+        [("a", a.len(), m as u128 * n as u128), ("w", w.len(), m as u128), ("z", z, n as u128), (last.0, last.1, m as u128)];
+    if let Some(number) = table_refusal(call, p, m, n, a, w, &slices) {
+        return Err(number);
     }
     let (q, m, n) = (p as u64, m as usize, n as usize);
     let a = rows_of(m, n, a);
     let found = quasi(q, m, n, &a);
-    note_done("solve", m as u32, n as u32, found.columns.len());
+    note_done(call, m as u32, n as u32, found.columns.len());
     let w: Vec<u64> = w.iter().map(|&x| x as u64).collect();
     let dw: Vec<u64> = found.d.iter().map(|row| dot(q, row.iter().copied(), w.iter().copied())).collect();
-    let differing = (0..m).find(|&y| dot(q, a[y].iter().copied(), dw.iter().copied()) != w[y]);
-    let Some(y) = differing else {
+    let image = a.iter().map(|row| dot(q, row.iter().copied(), dw.iter().copied())).collect();
+    Ok(System { rank: found.columns.len() as u32, a, d: found.d, w, dw, image })
+}
+
+struct System {
+    rank: u32,
+    a: Table,
+    d: Table,
+    w: Vec<u64>,
+    dw: Vec<u64>,
+    image: Vec<u64>,
+}
+
+pub fn solve(p: u32, m: u32, n: u32, a: &[u32], w: &[u32], z: &mut [u32], u: &mut [u32]) -> u32 {
+    let t = match system("solve", p, m, n, a, w, z.len(), ("u", u.len())) {
+        Err(number) => return number,
+        Ok(t) => t,
+    };
+    let Some(y) = (0..m as usize).find(|&y| t.image[y] != t.w[y]) else {
         met("solve", "solved");
-        lay(&[dw], z);
+        lay(&[t.dw], z);
         u.fill(0);
-        return 200 + found.columns.len() as u32;
+        return 200 + t.rank;
     };
     met("solve", "5");
-    let row = product(q, &vec![a[y].clone()], &found.d, m).remove(0);
+    let q = p as u64;
+    let row = product(q, &vec![t.a[y].clone()], &t.d, m as usize).remove(0);
     for (i, place) in u.iter_mut().enumerate() {
         *place = (((i == y) as u64 + q - row[i]) % q) as u32;
     }
     5
+}
+
+/// #102: "z = Dw and the remainder w - Az, for each accepted table .. The result is r; the checks are solve's without 5."
+pub fn fit(p: u32, m: u32, n: u32, a: &[u32], w: &[u32], z: &mut [u32], rest: &mut [u32]) -> u32 {
+    let t = match system("fit", p, m, n, a, w, z.len(), ("rest", rest.len())) {
+        Err(number) => return number,
+        Ok(t) => t,
+    };
+    lay(&[t.dw], z);
+    for (i, place) in rest.iter_mut().enumerate() {
+        *place = ((t.w[i] + p as u64 - t.image[i]) % p as u64) as u32;
+    }
+    met("fit", if t.image == t.w { "nothing left over" } else { "left over" });
+    200 + t.rank
 }

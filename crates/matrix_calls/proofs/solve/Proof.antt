@@ -1,142 +1,67 @@
--- `matrix_calls::solve` meets its contract: each return is the refusal by the first check that fails, or the solution.
-use native.Mathlib.Omega.{arith}
+-- `matrix_calls::solve` meets its contract: the refusal by the first check that fails, or the solution.
 use borrow.Author.Needs.{needs}
-use Rattle.algebra.proofs.Answers.{guard-left, guard-taken}
-use Rattle.checks.specs.InOrder.{Given}
-use Rattle.checks.specs.Sizes.{tableSizes}
-use Rattle.checks.proofs.InOrder.{fails-here, _then_}
-use Rattle.matrix.specs.Parts.{Checked, System}
-use Rattle.matrix.proofs.Answers.{past-sizes, passes-all, sizes-passed, sizes-failed, solve-refused, solve-done}
-use Rattle.matrix.proofs.Memory.{table-most}
+use Rattle.checks.specs.InOrder.{AllHold}
+use Rattle.checks.proofs.InOrder.{given}
+use Rattle.matrix.specs.Calls.{systemChecks}
+use Rattle.matrix.proofs.Answers.{system-passed, system-failed, table-given, system-given, solve-refused, solve-done}
 use Rattle.matrix_calls.proofs.solve.Statement.{statement}
 use Rattle.matrix_calls.proofs.solve.Tie as tie
 
--- past 1 and 2
-abbrev start : tie.After-enum-told → tie.Start
+-- the entry, from where the checks have answered
+abbrev start : tie.After-system-checks → tie.Start
 start c = c .before .before .before .before .before .before .before
 
-sized : (c : tie.After-enum-told) → Given (tableSizes (start c .args .p) (start c .args .m) (start c .args .n))
-sized c = sizes-passed (c .before .before .table-sizes .ensures) (c .enum-told .given .1)
+-- all checks hold
+passed : (c : tie.After-enum-told)
+    → let a = start (c .before .before) .args in
+    AllHold (systemChecks (a .p) (a .m) (a .n) (a .a .now) (a .w .now) (a .z .now) (a .u .now))
+passed c =
+    let a = start (c .before .before) .args in
+    system-passed (a .p) (a .m) (a .n) (a .a .now) (a .w .now) (a .z .now) (a .u .now) (c .before .before .system-checks .ensures) (c .enum-told .given .1)
 
-table-sizes-requires : tie.Need-table-sizes-requires
-table-sizes-requires c κs = tt
+system-checks-requires : tie.Need-system-checks-requires
+system-checks-requires c κs = tt
 
 enum-known-kind : tie.Need-enum-known-kind
 enum-known-kind c = search needs
 
+same-length : tie.Need-same-length
+same-length c = search needs
+
+same-length-2 : tie.Need-same-length-2
+same-length-2 c = search needs
+
 returns : tie.Need-returns
 returns c =
-    let e = c .before in
-    solve-refused _ _ _ _ _ _ _ (sizes-failed (e .before .before .table-sizes .ensures) (e .kind .given .1))
+    let k = c .before in
+    let a = start (k .before .before) .args in
+    let told = k .before .before .system-checks .ensures in
+    solve-refused _ _ _ _ _ _ _ (system-failed (a .p) (a .m) (a .n) (a .a .now) (a .w .now) (a .z .now) (a .u .now) told (k .kind .given .1))
 
 enum-told : tie.Need-enum-told
 enum-told c = search needs
 
-mul-if1 : tie.Need-mul-if1
-mul-if1 c =
-    let a = start c .args in
-    let s = sized c .1 .0 in
-    omega (arith, table-most (a .m) (a .n) (s .0) (s .1))
-
-returns-2 : tie.Need-returns-2
-returns-2 c = solve-refused _ _ _ _ _ _ _ (past-sizes (sized (c .before)) (fails-here (c .if1 .taken)))
-
-returns-3 : tie.Need-returns-3
-returns-3 c =
-    let e = c .before in
-    solve-refused _ _ _ _ _ _ _ (past-sizes (sized (e .before)) (e .if1 .left then fails-here (c .if2 .taken)))
-
-returns-4 : tie.Need-returns-4
-returns-4 c =
-    let e = c .before in
-    solve-refused _ _ _ _ _ _ _
-    (past-sizes (sized (e .before .before)) (e .before .if1 .left then e .if2 .left then fails-here (c .if3 .taken)))
-
-returns-5 : tie.Need-returns-5
-returns-5 c =
-    let e = c .before in
-    let l = e .before in
-    solve-refused _ _ _ _ _ _ _
-    (past-sizes (sized (l .before .before))
-    (l .before .if1 .left then l .if2 .left then e .if3 .left then fails-here (c .if4 .taken)))
-
-all-below-requires : tie.Need-all-below-requires
-all-below-requires c κs = tt
-
-returns-6 : tie.Need-returns-6
-returns-6 c =
-    let e = c .before .before in
-    let l = e .before .before in
-    solve-refused _ _ _ _ _ _ _
-    (past-sizes (sized (l .before .before))
-    (l .before .if1 .left
-    then l .if2 .left
-    then e .before .if3 .left
-    then e .if4 .left
-    then fails-here (guard-taken (c .before .all-below .ensures) (c .if5 .taken))))
-
--- past 3, and 4 for A
-abbrev begun : tie.Else5 → tie.After-enum-told
-begun c = c .before .before .before .before .before .before
-
-checked : (c : tie.Else5)
-    → Checked (start (begun c) .args .p) (start (begun c) .args .m) (start (begun c) .args .n) (start (begun c) .args .a .now)
-checked c =
-    passes-all (sized (begun c)) (c .before .before .before .before .before .if1 .left)
-    (guard-left (c .before .all-below .ensures) (c .if5 .left))
-
-all-below-requires-2 : tie.Need-all-below-requires-2
-all-below-requires-2 c κs = tt
-
-returns-7 : tie.Need-returns-7
-returns-7 c =
-    let b = c .before .before in
-    let e = b .before .before in
-    let k = checked b in
-    solve-refused _ _ _ _ _ _ _
-    (past-sizes (sized (begun b))
-    (k .a-long
-    then e .before .before .if2 .left
-    then e .before .if3 .left
-    then e .if4 .left
-    then k .a-below
-    then fails-here (guard-taken (c .before .all-below2 .ensures) (c .if6 .taken))))
-
--- and for w
-abbrev told : tie.Else6 → tie.Else5
-told c = c .before .before
-
-system : (c : tie.Else6)
-    → System (start (begun (told c)) .args .p) (start (begun (told c)) .args .m) (start (begun (told c)) .args .n)
-    (start (begun (told c)) .args .w .now) (start (begun (told c)) .args .z .now) (start (begun (told c)) .args .u .now)
-system c =
-    let e = told c .before .before in
-    record {
-      w-long = e .before .before .if2 .left;
-      w-below = guard-left (c .before .all-below2 .ensures) (c .if6 .left);
-      z-long = e .before .if3 .left;
-      u-long = e .if4 .left;
-    }
-
 solve-of-requires : tie.Need-solve-of-requires
 solve-of-requires c κs =
-    let w = c .before .before in
-    (checked (told w), system w)
+    let e = c .before .before in
+    let a = start (e .before .before) .args in
+    let hs = given (passed e) in (
+      table-given (a .p) (a .m) (a .n) (a .a .now) (a .w .now) (a .z .now) (a .u .now) hs,
+      system-given (a .p) (a .m) (a .n) (a .a .now) (a .w .now) (a .z .now) (a .u .now) hs,
+    )
 
-same-length : tie.Need-same-length
-same-length c = c .before .before .before .before .solve-of .kept .1 .1 .1 .1 .1 .0
+same-length-3 : tie.Need-same-length-3
+same-length-3 c = c .before .before .before .before .solve-of .kept .1 .1 .1 .1 .1 .0
 
-same-length-2 : tie.Need-same-length-2
-same-length-2 c = c .before .before .before .before .solve-of .kept .1 .1 .1 .1 .1 .1 .0
+same-length-4 : tie.Need-same-length-4
+same-length-4 c = c .before .before .before .before .solve-of .kept .1 .1 .1 .1 .1 .1 .0
 
-returns-8 : tie.Need-returns-8
-returns-8 c =
-    let s = c .before .before .before .before in
-    let w = s .before .before .before in
-    solve-done _ _ _ _ _ _ _ _ (checked (told w)) (system w) (s .solve-of .ensures)
+returns-2 : tie.Need-returns-2
+returns-2 c =
+    let o = c .before .before .before .before in
+    solve-done _ _ _ _ _ _ _ _ (passed (o .before .before .before)) (o .solve-of .ensures)
 
 pub solve-spec : {M : Type 1} → statement M
 solve-spec =
     tie.close
-    (tie.spec table-sizes-requires enum-known-kind returns enum-told mul-if1 returns-2 returns-3 returns-4 returns-5
-    all-below-requires returns-6 all-below-requires-2 returns-7 solve-of-requires same-length same-length-2 returns-8)
+    (tie.spec system-checks-requires enum-known-kind same-length same-length-2 returns enum-told solve-of-requires same-length-3 same-length-4 returns-2)
