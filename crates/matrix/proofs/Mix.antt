@@ -1,6 +1,6 @@
 -- The mix of a row by the turned system: row y of A D is the solution of the transpose of A with row y of A as its right side, since
 -- the transpose of D is the pivot inverse of the transpose.
-use mathlib.Core.Path.{_≡_, sym, ap, ap₂, _∙_, fun-ext}
+use mathlib.Core.Path.{_≡_, sym, ap, ap₂, _∙_, fun-ext, subst}
 use mathlib.Core.List.{List}
 use Prim.Native.Nat.{ℕ, _+_, _*_, _-_, _<_}
 use native.Mathlib.Decide.{ℕ-discrete}
@@ -17,13 +17,13 @@ use Rattle.words.specs.Words.{Below}
 use Rattle.field.specs.Residue.{Residue, residues, reduce, _⊕_, _⊗_, negated}
 use Rattle.field.specs.Written.{numbers, tabulate}
 use Rattle.field.proofs.Field.{residues-ring}
-use Rattle.field.proofs.Residues.{reduce-value, value-unique, below-of-value}
+use Rattle.field.proofs.Residues.{reduce-value, value-unique}
 use Rattle.field.proofs.Written.{length-tabulate, getD-tabulate, is-tabulate}
 use Rattle.matrix_mul.specs.Places.{Negated}
 use Rattle.matrix_echelon.specs.Reduced.{SolutionFound}
 use Rattle.matrix.specs.Calls.{tableOf, inverseOf}
 use Rattle.matrix.specs.Parts.{turned}
-use Rattle.matrix.proofs.Memory.{part-line, row-line}
+use Rattle.matrix.proofs.Memory.{part-line, row-line, numbers-below}
 use Rattle.matrix.proofs.Grids.{turned-inverse}
 
 module _ (p : ℕ) (ok : IsModulus p) (m n : ℕ) (a : List ℕ) (y : ℕ) (row : y < m) where
@@ -50,10 +50,9 @@ module _ (p : ℕ) (ok : IsModulus p) (m n : ℕ) (a : List ℕ) (y : ℕ) (row 
 
   -- the numbers below p that the solution leaves
   pub turned-below : {r : ℕ} {u : List ℕ} → SolutionFound p (turned m n) a lent 1 r u → Below p u
-  turned-below {u = u} s i h =
-      let e = turned-solution s in
-      below-of-value (omega (arith, ok .prime .two-or-more)) (product (residues p) n (tableOf p m n a) (inverseOf p ok m n a) y i)
-      (ap (λ q. getD q i 0) e ∙ getD-tabulate m _ i (omega (arith, ap length e ∙ length-tabulate m _)))
+  turned-below s =
+      subst (Below p) (sym (turned-solution s))
+      (numbers-below p m (product (residues p) n (tableOf p m n a) (inverseOf p ok m n a) y) (omega (arith, ok .prime .two-or-more)))
 
   -- its negative with 1 added at y is row y of 1 - A D
   pub mix-written : {r : ℕ} {u : List ℕ} (v : List ℕ) (x : ℕ) → SolutionFound p (turned m n) a lent 1 r u → Negated p u v
