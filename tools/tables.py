@@ -88,15 +88,20 @@ def solve_case(p, m, n, a, w):
     return r, d, columns, rows, vectors, basis, answer, z, u, nearest, rest
 
 
+def factored(rng, p, m, n, rank):
+    """A random product of m rows of so many numbers and as many rows of n: a table of at most that rank."""
+    left = [[rng.randrange(p) for _ in range(rank)] for _ in range(m)]
+    right = [[rng.randrange(p) for _ in range(n)] for _ in range(rank)]
+    return [[sum(x * right[t][j] for t, x in enumerate(row)) % p for j in range(n)] for row in left]
+
+
 def table(rng, p, m, n, rank):
     """A random table of at most that rank, with zero rows and columns and permuted lines now and then."""
     kind = rng.randrange(6)
     if kind == 0:
         a = [[rng.randrange(p) for _ in range(n)] for _ in range(m)]
     else:
-        left = [[rng.randrange(p) for _ in range(rank)] for _ in range(m)]
-        right = [[rng.randrange(p) for _ in range(n)] for _ in range(rank)]
-        a = [[sum(x * right[t][j] for t, x in enumerate(row)) % p for j in range(n)] for row in left]
+        a = factored(rng, p, m, n, rank)
     if kind == 2:
         for i in range(m):
             if rng.random() < 0.3:
@@ -119,9 +124,7 @@ def table(rng, p, m, n, rank):
 def of_rank(rng, p, m, n, rank):
     """A random table of just that rank."""
     while True:
-        left = [[rng.randrange(p) for _ in range(rank)] for _ in range(m)]
-        right = [[rng.randrange(p) for _ in range(n)] for _ in range(rank)]
-        a = [[sum(x * right[t][j] for t, x in enumerate(row)) % p for j in range(n)] for row in left]
+        a = factored(rng, p, m, n, rank)
         if len(reduced(a, n, p)[1]) == rank:
             return a
 

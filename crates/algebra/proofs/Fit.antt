@@ -14,11 +14,10 @@ use Rattle.algebra.proofs.Applied as applied
 use Rattle.algebra.proofs.Marks.{by-test}
 
 module _ (R : Ring) where
-  -- only the numbers of z below n count, and only row i of w
-  pub remainder-same : (n : ℕ) (A : Matrix R) (x z w v : Vector R) (i : ℕ) → ((t : ℕ) → t < n → x t ≡ z t) → w i ≡ v i
-      → remainder R n A x w i ≡ remainder R n A z v i
+  -- only the numbers of z below n count
+  pub remainder-same : (n : ℕ) (A : Matrix R) (x z w : Vector R) (i : ℕ) → ((t : ℕ) → t < n → x t ≡ z t) → remainder R n A x w i ≡ remainder R n A z w i
   unfolding remainder
-  remainder-same n A x z w v i h e = ap₂ (λ a b. R .plus a (R .minus b)) e (applied.apply-same R n A x z h i)
+  remainder-same n A x z w i h = ap (λ a. R .plus (w i) (R .minus a)) (applied.apply-same R n A x z h i)
 
 module _ (R : Ring) (L : IsCommutativeRing R) where
   open Ring R using (Carrier, zero as 𝟘, plus as _⊕_, times as _⊗_, minus)
@@ -97,7 +96,4 @@ module _ (R : Ring) (L : IsCommutativeRing R) where
           ∙ L .plus-zero (z c))
 
       pub fit-rest : (i : ℕ) → i < m → rest i ≡ remainder R n A (apply R m D w) w i
-      unfolding remainder
-      fit-rest i l =
-          remainder-only n A z w i (rest i) (F .sums i l)
-          ∙ ap (λ a. w i ⊕ minus a) (applied.apply-same R n A z (apply R m D w) fit-column i)
+      fit-rest i l = remainder-only n A z w i (rest i) (F .sums i l) ∙ remainder-same R n A z (apply R m D w) w i fit-column

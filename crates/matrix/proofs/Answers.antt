@@ -128,14 +128,6 @@ module _ (p m n : ℕ) (a w z u : List ℕ) where
   system-given (modulus, (sizes, (a-long, (w-long, (z-long, (u-long, (a-below, (w-below, _)))))))) =
       record { w-long = w-long; w-below = w-below; z-long = z-long; u-long = u-long }
 
-  -- what the function for these checks tells: all hold, or the kind of the first that fails
-  pub system-passed : {v : Verdict} → Judges (systemChecks p m n a w z u) v → v ≡ verdict.Passed → AllHold (systemChecks p m n a w z u)
-  system-passed told e = subst (Judges (systemChecks p m n a w z u)) e told
-
-  pub system-failed : {v : Verdict} {k : Refusal} → Judges (systemChecks p m n a w z u) v → v ≡ verdict.Refused k
-      → FirstFailing (systemChecks p m n a w z u) k
-  system-failed told e = subst (Judges (systemChecks p m n a w z u)) e told
-
   pub solve-refused : {k : Refusal} → FirstFailing (systemChecks p m n a w z u) k → untouched (z, u) k ≡ solveCall p m n a w z u
   unfolding solveCall
   solve-refused f = sym (in-order-refused _ _ f)

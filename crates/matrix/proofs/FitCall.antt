@@ -24,15 +24,16 @@ use Rattle.checks.proofs.InOrder.{given, in-order-elim, kind-of-list}
 use Rattle.checks.proofs.Modulus.{modulus-prop}
 use Rattle.checks.proofs.Refusals.{refusal-number}
 use Rattle.words.specs.Words.{Blank}
+use Rattle.words.proofs.Zeros.{blank-inside}
 use Rattle.field.specs.Residue.{residues, reduce, _⊕_}
 use Rattle.field.specs.Written.{tabulate, numbers}
 use Rattle.field.proofs.Residues.{reduce-small, value-unique}
 use Rattle.field.proofs.Written.{length-tabulate, is-tabulate}
 use Rattle.matrix.specs.Decide.{field}
-use Rattle.matrix.specs.Calls.{tableOf, columnsOf, rowMarksOf, tableRank, inverseOf, vectorOf, candidate, systemChecks, solution, solveCall, nearestFit, fitCall}
+use Rattle.matrix.specs.Calls.{tableOf, columnsOf, rowMarksOf, tableRank, inverseOf, vectorOf, candidate, leftOver, systemChecks, solution, solveCall, nearestFit, fitCall}
 use Rattle.matrix.specs.Parts.{StoresFit}
 use Rattle.matrix.specs.Promises.{NearestFit, FitDone, FitBesideSolve}
-use Rattle.matrix.proofs.Memory.{vector-read, apply-read, remainder-read, numbers-below, zero-to-end}
+use Rattle.matrix.proofs.Memory.{vector-read, apply-read, remainder-read, numbers-below}
 use Rattle.matrix.proofs.Stored.{table-pivots, columns-many}
 use Rattle.matrix.proofs.Answers.{system-hold, table-given, system-given, solve-done, fit-done}
 use Rattle.matrix.proofs.SolveCall.{solution-elim, other-kinds}
@@ -55,7 +56,7 @@ module _ (p : ℕ) (ok : IsModulus p) (m n : ℕ) (a w : List ℕ) where
   column = candidate p ok m n a w
 
   abbrev left : Vector (residues p)
-  left = remainder (residues p) n A column (vectorOf p w)
+  left = leftOver p ok m n a w
 
   abbrev zs : List ℕ
   zs = numbers n column
@@ -109,7 +110,9 @@ module _ (p : ℕ) (ok : IsModulus p) (m n : ℕ) (a w : List ℕ) where
   blank-solves b i l = agrees p ok m n a w stored i l (b i)
 
   solves-blank : Solves (residues p) m n A column (vectorOf p w) → Blank rests
-  solves-blank s = zero-to-end rests m (omega (arith, rest-long p ok m n a w stored)) (λ i l. is-zero p ok m n a w stored i l (s i l))
+  solves-blank s =
+      blank-inside rests
+      (λ i l. let row : i < m = omega (arith, rest-long p ok m n a w stored) in is-zero p ok m n a w stored i row (s i row))
 
   -- beside what solve answers past its checks
   beside-solution : (z : List ℕ) → FitBesideSolve (nearestFit p ok m n a w) (solution p ok m n a w z)

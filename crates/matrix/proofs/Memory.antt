@@ -1,14 +1,13 @@
 -- From numbers in memory to vectors, tables and marks: a list that reads as a table is that table written out, a list of
 -- marks sums to the number of members, and a table times a vector, or what that leaves over of another, is made of sums of products
 -- along lines of memory.
-use mathlib.Core.Path.{_≡_, refl, sym, ap, ap₂, _∙_, fun-ext}
+use mathlib.Core.Path.{_≡_, sym, ap, ap₂, _∙_, fun-ext}
 use mathlib.Core.Bool.{true, false, not}
 use mathlib.Core.List.{List}
 use Prim.Native.Nat.{ℕ, zero, suc, _+_, _*_, _-_, _/_, _%_, _≤_, _<_}
 use native.Mathlib.Nat.{zero-add, mul-zero, mod-lt, div-lt-iff-lt-mul, div-add-mod', pos-of-ne-zero, le-step, lt-suc-self, mul-le-mul, mul-le-mul-right}
-use native.Mathlib.Decide.{decLt}
 use native.Mathlib.Omega.{arith}
-use lib.ListN.{length, getD, take, drop, replicate, length-take, length-drop, length-replicate, getD-replicate, List·getD-eq-default}
+use lib.ListN.{length, getD, take, drop, replicate, length-take, length-drop, length-replicate, getD-replicate}
 use borrow.Author.Tests.{eq-eqb, ne-eqb}
 use lib.Seq.{getD-take, getD-drop, ext-getD}
 use Rattle.checks.specs.Largest.{largest}
@@ -151,7 +150,7 @@ apply-read p n X v = fun-ext (apply-same (residues p) n X (vectorOf p (numbers n
 pub remainder-read : (p n : ℕ) (X : Matrix (residues p)) (v w : Vector (residues p))
     → remainder (residues p) n X (vectorOf p (numbers n v)) w ≡ remainder (residues p) n X v w
 remainder-read p n X v w =
-    fun-ext (λ i. remainder-same (residues p) n X (vectorOf p (numbers n v)) v w w i (vector-read p n v) refl)
+    fun-ext (λ i. remainder-same (residues p) n X (vectorOf p (numbers n v)) v w i (vector-read p n v))
 
 -- numbers that are written are below p
 pub numbers-below : (p n : ℕ) (v : Vector (residues p)) → 0 < p → Below p (numbers n v)
@@ -164,11 +163,3 @@ zero-written p n v i h l e = getD-tabulate n (λ t. (v t) .value) i l ∙ ap (λ
 
 pub written-zero : (p n : ℕ) (v : Vector (residues p)) (i : ℕ) → i < n → getD (numbers n v) i 0 ≡ 0 → v i ≡ residues p .zero
 written-zero p n v i l e = sym (reduce-value (v i)) ∙ ap (reduce p) (sym (getD-tabulate n (λ t. (v t) .value) i l) ∙ e)
-
--- numbers that are 0 up to their end are all 0
-pub zero-to-end : (xs : List ℕ) (k : ℕ) → length xs ≤ k → ((i : ℕ) → i < k → getD xs i 0 ≡ 0) → Blank xs
-zero-to-end xs k l h i = go (decLt i k)
-  where
-    go : Dec (i < k) → getD xs i 0 ≡ 0
-    go (yes b) = h i b
-    go (no b) = List·getD-eq-default xs 0 (omega arith)

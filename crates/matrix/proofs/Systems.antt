@@ -16,50 +16,48 @@ use Rattle.checks.specs.Told.{results, refused}
 use Rattle.checks.specs.Outcome.{outcome}
 use Rattle.checks.specs.Prime.{IsModulus}
 use Rattle.words.specs.Words.{Blank, LeastNonzero}
+use Rattle.words.proofs.Zeros.{blank-inside}
 use Rattle.field.specs.Residue.{residues}
 use Rattle.field.specs.Written.{numbers}
 use Rattle.field.proofs.Written.{length-tabulate, is-tabulate}
 use Rattle.field.proofs.Residues.{reduce-small}
 use Rattle.matrix_echelon.specs.Reduced.{SolutionFound}
 use Rattle.matrix.specs.Decide.{field}
-use Rattle.matrix.specs.Calls.{tableOf, inverseOf, vectorOf, candidate, firstRow, solution}
+use Rattle.matrix.specs.Calls.{tableOf, inverseOf, vectorOf, candidate, leftOver, firstRow, solution}
 use Rattle.matrix.specs.Parts.{plain, StoresFit}
 use Rattle.matrix.proofs.Theorems.{first-row-differs, first-row-first}
 use Rattle.matrix.proofs.SolveCall.{solution-found, solution-none}
-use Rattle.matrix.proofs.Memory.{vector-line, remainder-read, zero-written, written-zero, zeros-written, zero-to-end}
+use Rattle.matrix.proofs.Memory.{vector-line, remainder-read, zero-written, written-zero, zeros-written}
 use Rattle.matrix.proofs.Grids.{plain-pivots, plain-inverse, plain-rank}
 
 -- ---- what is left over decides
 
 module _ (p : ℕ) (ok : IsModulus p) (m n : ℕ) (a w : List ℕ) where
-  -- A(Dw), and what that leaves over
+  -- A(Dw)
   abbrev image : Vector (residues p)
   image = apply (residues p) n (tableOf p m n a) (candidate p ok m n a w)
 
-  abbrev left : Vector (residues p)
-  left = remainder (residues p) n (tableOf p m n a) (candidate p ok m n a w) (vectorOf p w)
-
   module _ {r : ℕ} {x rest : List ℕ} (f : StoresFit p ok m n a w r x rest) where
     pub rest-long : length rest ≡ m
-    rest-long = ap length (f .rest-written) ∙ length-tabulate m (λ i. (left i) .value)
+    rest-long = ap length (f .rest-written) ∙ length-tabulate m (λ i. (leftOver p ok m n a w i) .value)
 
     -- a number of the remainder is 0 exactly where A(Dw) and w are the same
     pub agrees : (i : ℕ) → i < m → getD rest i 0 ≡ 0 → image i ≡ vectorOf p w i
     agrees i l e =
         zero-remainder (residues p) (field p ok .ring) n (tableOf p m n a) (candidate p ok m n a w) (vectorOf p w) i
-        (written-zero p m left i l (ap (λ xs. getD xs i 0) (sym (f .rest-written)) ∙ e))
+        (written-zero p m (leftOver p ok m n a w) i l (ap (λ xs. getD xs i 0) (sym (f .rest-written)) ∙ e))
 
     pub is-zero : (i : ℕ) → i < m → image i ≡ vectorOf p w i → getD rest i 0 ≡ 0
     is-zero i l e =
         ap (λ xs. getD xs i 0) (f .rest-written)
-        ∙ zero-written p m left i (omega (arith, ok .prime .two-or-more)) l
+        ∙ zero-written p m (leftOver p ok m n a w) i (omega (arith, ok .prime .two-or-more)) l
         (remainder-zero (residues p) (field p ok .ring) n (tableOf p m n a) (candidate p ok m n a w) (vectorOf p w) i e)
 
     module _ (z : List ℕ) (y : ℕ) (first : LeastNonzero rest y) where
       -- no number is left over: the system is solved
       pub solved-by : (z′ : List ℕ) → m ≤ y → z′ ≡ x → outcome (results r) (z′, rest) ≡ solution p ok m n a w z
       solved-by z′ h same =
-          let zeros = zeros-written m rest rest-long (zero-to-end rest y (omega (arith, rest-long)) (first .before)) in
+          let zeros = zeros-written m rest rest-long (blank-inside rest (λ i l. first .before i (omega (arith, rest-long)))) in
           (λ i. outcome (results (f .is-rank i)) ((same ∙ f .z-written) i, zeros i))
           ∙ sym (solution-found p ok m n a w z (λ i l. agrees i l (first .before i (omega arith))))
 
@@ -113,7 +111,7 @@ module _ (p : ℕ) (m n : ℕ) (a w x : List ℕ) {r : ℕ} (s : SolutionFound p
       record {
         is-rank = plain-rank p m n a (s .rank) ok;
         z-written = candidate-found ok;
-        rest-written = is-tabulate m (λ i. (left p ok m n a w i) .value) rest long (λ i h. blank i ∙ sym (left-zero i h));
+        rest-written = is-tabulate m (λ i. (leftOver p ok m n a w i) .value) rest long (λ i h. blank i ∙ sym (left-zero i h));
       }
     where
       Q : IsPivotInverse (residues p) m n (tableOf p m n a) (s .rank .D) (s .rank .I) (s .rank .J)
@@ -127,7 +125,7 @@ module _ (p : ℕ) (m n : ℕ) (a w x : List ℕ) {r : ℕ} (s : SolutionFound p
           ap (λ X. apply (residues p) n (tableOf p m n a) (apply (residues p) m X (vectorOf p w)) i) (sym (plain-inverse p m n a (s .rank) ok))
           ∙ rows-fit (residues p) (field p ok .ring) Q (vectorOf p w) i (members i h)
 
-      left-zero : (i : ℕ) → i < m → (left p ok m n a w i) .value ≡ 0
+      left-zero : (i : ℕ) → i < m → (leftOver p ok m n a w i) .value ≡ 0
       left-zero i h =
           ap (λ v. v .value)
           (remainder-zero (residues p) (field p ok .ring) n (tableOf p m n a) (candidate p ok m n a w) (vectorOf p w) i (same i h))

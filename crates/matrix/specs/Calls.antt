@@ -97,7 +97,7 @@ kernelCall p m n a basis =
     (λ hs. outcome (results (n - tableRank p (hs .0) m n a)) (basisOf p (hs .0) m n a))
     (untouched basis)
 
--- ---- systems: what solve and fit check
+-- ---- solve and fit
 
 -- 3 for A, w, z and a last slice of m numbers: solve's u, fit's remainder
 abbrev pub systemLengths : (m n : ℕ) (a w z u : List ℕ) → Checks Refusal
@@ -110,16 +110,14 @@ systemChecks p m n a w z u =
     andThen (tableSizes p m n)
     (λ _. andThen (systemLengths m n a w z u) (λ _. below? p a else Number ⨾ below? p w else Number ⨾ passed))
 
--- the numbers of a list as a vector
-unfoldable pub vectorOf : (p : ℕ) → List ℕ → Vector (residues p)
-vectorOf p w i = reduce p (getD w i 0)
-
--- ---- solve
-
 -- the first of k places, from t on, where the test is true, or t + k
 unfoldable pub firstFrom : (ℕ → Bool) → (t k : ℕ) → ℕ
 firstFrom f t zero = t
 firstFrom f t (suc k) = choose (f t) t (firstFrom f (suc t) k)
+
+-- the numbers of a list as a vector
+unfoldable pub vectorOf : (p : ℕ) → List ℕ → Vector (residues p)
+vectorOf p w i = reduce p (getD w i 0)
 
 module _ (p : ℕ) (ok : IsModulus p) (m n : ℕ) (a w : List ℕ) where
   -- Dw
@@ -138,22 +136,20 @@ module _ (p : ℕ) (ok : IsModulus p) (m n : ℕ) (a w : List ℕ) where
       (outcome (results (tableRank p ok m n a)) (numbers n candidate, replicate m 0))
       (outcome (refused Insoluble) (z, numbers m (mixOf (residues p) n (tableOf p m n a) (inverseOf p ok m n a) firstRow)))
 
--- the rank, with z and u; or 5, with z as it was and u
+  -- w - A(Dw)
+  abbrev pub leftOver : Vector (residues p)
+  leftOver = remainder (residues p) n (tableOf p m n a) candidate (vectorOf p w)
+
+  -- 02, #102: "z = Dw and the remainder w - Az, for each accepted table. .. The result is r"
+  unfoldable pub nearestFit : Outcome (List ℕ × List ℕ)
+  nearestFit = outcome (results (tableRank p ok m n a)) (numbers n candidate, numbers m leftOver)
+
+-- solve: the rank, with z and u; or 5, with z as it was and u
 unfoldable pub solveCall : (p m n : ℕ) (a w z u : List ℕ) → Outcome (List ℕ × List ℕ)
 solveCall p m n a w z u =
     inOrder (systemChecks p m n a w z u) (λ hs. solution p (hs .0) m n a w z) (untouched (z, u))
 
--- ---- fit
-
--- 02, #102: "a call that gives z = Dw and the remainder w - Az, for each accepted table. .. The result is r"
-unfoldable pub nearestFit : (p : ℕ) → IsModulus p → (m n : ℕ) (a w : List ℕ) → Outcome (List ℕ × List ℕ)
-nearestFit p ok m n a w =
-    outcome (results (tableRank p ok m n a)) (
-      numbers n (candidate p ok m n a w),
-      numbers m (remainder (residues p) n (tableOf p m n a) (candidate p ok m n a w) (vectorOf p w)),
-    )
-
--- "the checks are solve's without 5"
+-- fit: the rank, with z and the remainder. 02, #102: "the checks are solve's without 5"
 unfoldable pub fitCall : (p m n : ℕ) (a w z rest : List ℕ) → Outcome (List ℕ × List ℕ)
 fitCall p m n a w z rest =
     inOrder (systemChecks p m n a w z rest) (λ hs. nearestFit p (hs .0) m n a w) (untouched (z, rest))

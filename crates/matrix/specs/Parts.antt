@@ -7,7 +7,6 @@ use lib.ListN.{length, getD, replicate}
 use lib.Dec.{eqb}
 use Rattle.algebra.specs.Matrix.{Matrix, product}
 use Rattle.algebra.specs.Quasiinverse.{Marks, count}
-use Rattle.algebra.specs.Solve.{remainder}
 use Rattle.checks.specs.Largest.{largest}
 use Rattle.checks.specs.Prime.{IsModulus}
 use Rattle.checks.specs.Told.{Told}
@@ -18,7 +17,7 @@ use Rattle.field.specs.Residue.{residues, reduce}
 use Rattle.field.specs.View.{table}
 use Rattle.field.specs.Written.{numbers, rowsOf, marksOf}
 use Rattle.matrix_echelon.specs.declared.Grid.{Grid}
-use Rattle.matrix.specs.Calls.{tableOf, columnsOf, rowMarksOf, tableRank, inverseOf, vectorsFrom, basisOf, vectorOf, candidate, solution}
+use Rattle.matrix.specs.Calls.{columnsOf, rowMarksOf, tableRank, inverseOf, vectorsFrom, basisOf, candidate, leftOver, solution}
 
 -- a table of m rows and n columns that has passed the checks
 pub record Checked (p m n : ℕ) (a : List ℕ) : Type 0 where
@@ -91,7 +90,7 @@ pub record System (p m n : ℕ) (w z u : List ℕ) : Type 0 where
 pub record StoresFit (p : ℕ) (ok : IsModulus p) (m n : ℕ) (a w : List ℕ) (r : ℕ) (z rest : List ℕ) : Type 0 where
   pub is-rank : r ≡ tableRank p ok m n a
   pub z-written : z ≡ numbers n (candidate p ok m n a w)
-  pub rest-written : rest ≡ numbers m (remainder (residues p) n (tableOf p m n a) (candidate p ok m n a w) (vectorOf p w))
+  pub rest-written : rest ≡ numbers m (leftOver p ok m n a w)
 
 -- what is told and left in z and u is 01's solution of the system
 abbrev pub IsSolution : (p m n : ℕ) (a w z : List ℕ) → Told → (z′ u′ : List ℕ) → Type 0

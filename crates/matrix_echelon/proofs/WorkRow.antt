@@ -5,7 +5,7 @@ use mathlib.Core.List.{List}
 use Prim.Native.Nat.{ℕ, suc, _+_, _*_, _-_, _≤_, _<_}
 use native.Mathlib.Decide.{decLt}
 use native.Mathlib.Omega.{arith}
-use lib.ListN.{length, getD, take, List·getD-eq-default}
+use lib.ListN.{length, getD, take}
 use lib.Seq.{length-take-le, getD-take}
 use Rattle.algebra.specs.Ring.{IsCommutativeRing}
 use Rattle.algebra.specs.Matrix.{mixed}
@@ -13,6 +13,7 @@ use Rattle.algebra.specs.Echelon.{Worked, Cleared}
 use Rattle.algebra.proofs.Echelon.{worked-none, row-follows, rank-columns}
 use Rattle.words.specs.Lengths.{widestRow}
 use Rattle.words.specs.Words.{Blank, Zeros}
+use Rattle.words.proofs.Zeros.{blank-inside}
 use Rattle.field.specs.Residue.{reduce, residues}
 use Rattle.field.specs.Limbs.{whole}
 use Rattle.field.specs.View.{line}
@@ -142,11 +143,7 @@ module _ (p : ℕ) (g : Grid) (i : ℕ) (a w : List ℕ) (step carried r : ℕ) 
           wide-long = room-long x y
 
           blank : Blank (take (g .columns + carried) x)
-          blank j = at (decLt j (g .columns + carried))
-            where
-              at : Dec (j < g .columns + carried) → getD (take (g .columns + carried) x) j 0 ≡ 0
-              at (yes b) = getD-take (g .columns + carried) x j 0 b ∙ y .1 j
-              at (no b) = List·getD-eq-default (take (g .columns + carried) x) 0 (omega (arith, wide-long))
+          blank = blank-inside (take (g .columns + carried) x) (λ j b. getD-take (g .columns + carried) x j 0 (omega (arith, wide-long)) ∙ y .1 j)
 
       row-cleared : Cleared (residues p) i (g .columns + carried) (wide p g a w step) r (workedRows p e (g .columns + carried)) (pivotsOf pivots) (rowIn p los his)
       row-cleared =

@@ -1,9 +1,12 @@
 -- `matrix_calls::solve` meets its contract: the refusal by the first check that fails, or the solution.
+use mathlib.Core.Path.{subst}
 use borrow.Author.Needs.{needs}
-use Rattle.checks.specs.InOrder.{AllHold}
+use Rattle.checks.specs.declared.Refusal.{Refusal}
+use Rattle.checks.specs.InOrder.{Checks, AllHold}
+use Rattle.checks.specs.Sizes.{Judges}
 use Rattle.checks.proofs.InOrder.{given}
 use Rattle.matrix.specs.Calls.{systemChecks}
-use Rattle.matrix.proofs.Answers.{system-passed, system-failed, table-given, system-given, solve-refused, solve-done}
+use Rattle.matrix.proofs.Answers.{table-given, system-given, solve-refused, solve-done}
 use Rattle.matrix_calls.proofs.solve.Statement.{statement}
 use Rattle.matrix_calls.proofs.solve.Tie as tie
 
@@ -11,13 +14,13 @@ use Rattle.matrix_calls.proofs.solve.Tie as tie
 abbrev start : tie.After-system-checks → tie.Start
 start c = c .before .before .before .before .before .before .before
 
--- all checks hold
-passed : (c : tie.After-enum-told)
-    → let a = start (c .before .before) .args in
-    AllHold (systemChecks (a .p) (a .m) (a .n) (a .a .now) (a .w .now) (a .z .now) (a .u .now))
-passed c =
-    let a = start (c .before .before) .args in
-    system-passed (a .p) (a .m) (a .n) (a .a .now) (a .w .now) (a .z .now) (a .u .now) (c .before .before .system-checks .ensures) (c .enum-told .given .1)
+-- the list that they go through
+abbrev asked : tie.Start → Checks Refusal
+asked s = let a = s .args in systemChecks (a .p) (a .m) (a .n) (a .a .now) (a .w .now) (a .z .now) (a .u .now)
+
+-- all of it holds
+passed : (c : tie.After-enum-told) → AllHold (asked (start (c .before .before)))
+passed c = let t = c .before .before in subst (Judges (asked (start t))) (c .enum-told .given .1) (t .system-checks .ensures)
 
 system-checks-requires : tie.Need-system-checks-requires
 system-checks-requires c κs = tt
@@ -34,9 +37,8 @@ same-length-2 c = search needs
 returns : tie.Need-returns
 returns c =
     let k = c .before in
-    let a = start (k .before .before) .args in
-    let told = k .before .before .system-checks .ensures in
-    solve-refused _ _ _ _ _ _ _ (system-failed (a .p) (a .m) (a .n) (a .a .now) (a .w .now) (a .z .now) (a .u .now) told (k .kind .given .1))
+    let t = k .before .before in
+    solve-refused _ _ _ _ _ _ _ (subst (Judges (asked (start t))) (k .kind .given .1) (t .system-checks .ensures))
 
 enum-told : tie.Need-enum-told
 enum-told c = search needs
