@@ -1,7 +1,7 @@
 /* The benchmark: the calls of libdauneroad.a beside FLINT, in one process, on the same tables.
  *
  *   bench race SECONDS TABLE AIMS    times everything, one line each, about SECONDS for a line; writes these two files
- *   bench count CALL           prepares, then makes one call of take, repeat, show, quasiinverse, solve, seal or prime: for callgrind
+ *   bench count CALL           prepares, then makes one call of take, repeat, show, quasiinverse, solve, check, seal or prime: for callgrind
  *
  * Before a thing is timed both sides work it out and must agree, or the program ends with status 1. A time is the fastest of
  * many samples. The contenders' samples take turns, so that both sides see the same machine. The library's side is the whole
@@ -704,6 +704,11 @@ static int count(const char *call) {
         prepare(&s, p, MOST, MOST);
         our_solve(&s, 0);
         must(s.answer == DAUNEROAD_DONE + MOST, call);
+    } else if (!strcmp(call, "check")) {
+        prepare(&s, p, MOST, MOST);
+        our_quasiinverse(&s, 0);
+        s.answer = dauneroad_check(p, MOST, MOST, s.a[0], MOST * MOST, s.d, MOST * MOST);
+        must(s.answer == DAUNEROAD_DONE + MOST, call);
     } else if (!strcmp(call, "seal")) {
         uint32_t value;
         int32_t records[MOST];
@@ -726,6 +731,6 @@ static int count(const char *call) {
 int main(int argc, char **argv) {
     if (argc == 5 && !strcmp(argv[1], "race")) return race_all(atof(argv[2]), argv[3], argv[4]);
     int status = argc == 3 && !strcmp(argv[1], "count") ? count(argv[2]) : 2;
-    if (status == 2) fprintf(stderr, "usage: bench race SECONDS TABLE AIMS | bench count take|repeat|show|quasiinverse|solve|seal|prime\n");
+    if (status == 2) fprintf(stderr, "usage: bench race SECONDS TABLE AIMS | bench count take|repeat|show|quasiinverse|solve|check|seal|prime\n");
     return status;
 }

@@ -8,6 +8,7 @@ pub mod Marks
 pub mod Counts
 pub mod Elimination
 pub mod Step
+pub mod Sized
 pub mod Base
 pub mod Exists
 pub mod Applied
@@ -23,6 +24,7 @@ pub mod Independent
 pub mod Members
 pub mod Decide
 pub mod Marked
+pub mod AnyInverse
 pub mod Settled
 pub mod Within
 pub mod NextRow

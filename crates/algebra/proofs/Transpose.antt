@@ -6,7 +6,7 @@ use Prim.Native.Nat.{ℕ}
 use native.Mathlib.Decide.{ℕ-discrete}
 use Rattle.algebra.specs.Ring.{Ring, IsCommutativeRing}
 use Rattle.algebra.specs.Matrix.{Vector, Matrix, unit, product, apply, mixed, transpose}
-use Rattle.algebra.specs.Quasiinverse.{Marks, IsInverseOn, IsPivotInverse}
+use Rattle.algebra.specs.Quasiinverse.{Marks, Absorbs, IsInverseOn, IsPivotInverse}
 use Rattle.algebra.proofs.Sums as sums
 use Rattle.algebra.proofs.Matrices as matrices
 
@@ -42,6 +42,16 @@ module _ (R : Ring) (L : IsCommutativeRing R) where
   unfolding mixed apply transpose
   mixed-transpose k u X i = sums.sum-same R k (λ t. u t ⊗ X i t) (λ t. X i t ⊗ u t) (λ t l. L .times-comm (u t) (X i t))
 
+  -- A D A = A of the transposes
+  pub absorbs-transposed : {m n : ℕ} {A D : Matrix R} → Absorbs R m n A D → Absorbs R n m (transpose R A) (transpose R D)
+  absorbs-transposed {m} {n} {A} {D} E =
+      record {
+        equation =
+            ap (product R m (transpose R A)) (sym (transpose-product n A D))
+            ∙ sym (transpose-product m (product R n A D) A)
+            ∙ ap (transpose R) (matrices.product-assoc R L m n A D A ∙ E .equation);
+      }
+
   -- the transpose of D is a pivot inverse of the transpose of A, with the marks of rows and columns exchanged
   pub transposed : {m n : ℕ} {A D : Matrix R} {I J : Marks} → IsPivotInverse R m n A D I J
       → IsPivotInverse R n m (transpose R A) (transpose R D) J I
@@ -52,13 +62,7 @@ module _ (R : Ring) (L : IsCommutativeRing R) where
         column-outside = λ i j e. Q .row-outside j i e;
         fixes-column = λ i c e. product-transposes n A D i c ∙ Q .fixes-row c i e ∙ unit-swap R c i;
         fixes-row = λ y j e. product-transposes m D A y j ∙ Q .fixes-column j y e ∙ unit-swap R j y;
-        absorbs =
-            record {
-              equation =
-                  ap (product R m (transpose R A)) (sym (transpose-product n A D))
-                  ∙ sym (transpose-product m (product R n A D) A)
-                  ∙ ap (transpose R) (matrices.product-assoc R L m n A D A ∙ Q .absorbs .equation);
-            };
+        absorbs = absorbs-transposed (Q .absorbs);
         upper = λ i c l. product-transposes n A D i c ∙ Q .lower c i l;
         lower = λ y j l. product-transposes m D A y j ∙ Q .upper j y l;
         columns = Q .rows;

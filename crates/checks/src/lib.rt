@@ -43,6 +43,10 @@ pub enum Refusal {
     NotBoard,
     // 12: s, the words of a record, not 1 to 16
     Words,
+    // 17: ADA differs from A, so that D is no inner inverse of A
+    NotInner,
+    // 18: DAD differs from D, so that D is no outer inverse of A
+    NotOuter,
 }
 
 // The number that the documents give the kind.
@@ -62,6 +66,8 @@ pub fn number_of(kind: Refusal) -> u32
         Refusal::Withdrawal => 10,
         Refusal::NotBoard => 11,
         Refusal::Words => 12,
+        Refusal::NotInner => 17,
+        Refusal::NotOuter => 18,
     }
 }
 

@@ -13,7 +13,7 @@ use Rattle.checks.specs.Told.{refused}
 use Rattle.checks.specs.Outcome.{Outcome}
 use Rattle.checks.proofs.InOrder.{in-order-elim}
 use Rattle.checks.proofs.Refusals.{refusal-number}
-use Rattle.matrix.specs.Calls.{solution, nearestFit, quasiinverseCall, kernelCall, solveCall, fitCall}
+use Rattle.matrix.specs.Calls.{solution, nearestFit, quasiinverseCall, kernelCall, solveCall, fitCall, checkCall}
 use Rattle.matrix.proofs.Stored.{rank-most}
 use Rattle.frame.specs.Format.{longest}
 use Rattle.frame.specs.Calls.{readCall, writeCall, sealCall}
@@ -61,6 +61,12 @@ module _ (p m n : ℕ) (a : List ℕ) where
   pub small-fit : (w z rest : List ℕ) (o : Outcome (List ℕ × List ℕ)) → o ≡ fitCall p m n a w z rest → Small (o .told)
   unfolding fitCall nearestFit
   small-fit w z rest o =
+      carried
+      (in-order-elim _ _ SmallOutcome (λ hs. omega (arith, rank-most p (hs .0) m n a, hs .1 .0 .1)) (λ k f. small-refusal k))
+
+  pub small-check : (d : List ℕ) (o : Outcome (Unit {0})) → o ≡ checkCall p m n a d → Small (o .told)
+  unfolding checkCall
+  small-check d o =
       carried
       (in-order-elim _ _ SmallOutcome (λ hs. omega (arith, rank-most p (hs .0) m n a, hs .1 .0 .1)) (λ k f. small-refusal k))
 

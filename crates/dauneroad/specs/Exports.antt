@@ -6,7 +6,7 @@ use lib.IntN.{ℤ, natAbs}
 use Rattle.checks.specs.Told.{Told}
 use Rattle.checks.specs.Outcome.{Outcome}
 use Rattle.signed.specs.Calls.{signedCall, residueCall}
-use Rattle.matrix.specs.Calls.{quasiinverseCall, kernelCall, solveCall, fitCall}
+use Rattle.matrix.specs.Calls.{quasiinverseCall, kernelCall, solveCall, fitCall, checkCall}
 use Rattle.frame.specs.Calls.{readCall, writeCall, sealCall}
 use Rattle.ledger.specs.Calls.{openCall, takeCall, withdrawCall, showCall}
 
@@ -82,3 +82,6 @@ solveAnswer p m n a w z u = exported (solveCall p m n a w z u)
 
 abbrev pub fitAnswer : (p m n : ℕ) (a w z rest : List ℕ) → Answer (List ℕ × List ℕ)
 fitAnswer p m n a w z rest = exported (fitCall p m n a w z rest)
+
+abbrev pub checkAnswer : (p m n : ℕ) (a d : List ℕ) → Answer (Unit {0})
+checkAnswer p m n a d = exported (checkCall p m n a d)

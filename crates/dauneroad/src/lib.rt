@@ -7,7 +7,7 @@ ghost use Rattle.board_solve.specs.Told.{takeTold};
 ghost use Rattle.board_calls.specs.Told.{openTold, answerTold};
 ghost use Rattle.dauneroad.specs.Exports.{Small, answer, openAnswer, takeAnswer, withdrawAnswer, showAnswer};
 ghost use Rattle.dauneroad.specs.Exports.{readAnswer, writeAnswer, sealAnswer, signedAnswer, residueAnswer};
-ghost use Rattle.dauneroad.specs.Exports.{quasiinverseAnswer, kernelAnswer, solveAnswer, fitAnswer};
+ghost use Rattle.dauneroad.specs.Exports.{quasiinverseAnswer, kernelAnswer, solveAnswer, fitAnswer, checkAnswer};
 use board_calls::CountAnswer;
 use board_calls::OpenAnswer;
 use board_calls::TakeAnswer;
@@ -251,4 +251,11 @@ pub extern "C" fn dauneroad_fit(
         ≡ fitAnswer p m n (now (a .entry)) (now (w .entry)) (now (z .entry)) (now (rest .entry)) ⌝ }
 {
     table_number(matrix_calls::fit(p, m, n, a, w, z, rest))
+}
+
+#[no_mangle]
+pub extern "C" fn dauneroad_check(p: u32, m: u32, n: u32, a: &[u32], d: &[u32]) -> u32
+    ensures { λ r. ⌜ answer r tt ≡ checkAnswer p m n (now (a .entry)) (now (d .entry)) ⌝ }
+{
+    table_number(matrix_calls::check(p, m, n, a, d))
 }

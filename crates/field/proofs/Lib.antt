@@ -5,4 +5,5 @@ pub mod Totals
 pub mod Limbs
 pub mod Written
 pub mod Views
+pub mod Lines
 pub mod Products

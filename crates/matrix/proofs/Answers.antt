@@ -1,11 +1,11 @@
--- What quasiinverse, kernel, solve and fit come to: the refusal by the first of their checks that fails, with all lent memory as it
+-- What quasiinverse, kernel, solve, fit and check come to: the refusal by the first of their checks that fails, with all lent memory as it
 -- was, or, where the table and the memory pass, what the parts left in it.
 use mathlib.Core.Path.{_≡_, sym, subst}
 use mathlib.Core.List.{List}
 use Prim.Native.Nat.{ℕ, _*_}
 use lib.ListN.{length}
 use Rattle.checks.specs.declared.Refusal.{Refusal}
-use Rattle.checks.specs.declared.Refusal.the-variants.{Length, Number}
+use Rattle.checks.specs.declared.Refusal.the-variants.{Length, Number, NotInner, NotOuter}
 use Rattle.checks.specs.Prime.{IsModulus}
 use Rattle.checks.specs.Told.{results}
 use Rattle.checks.specs.Outcome.{Outcome, outcome, untouched}
@@ -13,9 +13,11 @@ use Rattle.checks.specs.declared.Verdict.{Verdict}
 use Rattle.checks.specs.declared.Verdict.the-variants as verdict
 use Rattle.checks.specs.InOrder.{Checks, Given, andThen, AllHold, FirstFailing}
 use Rattle.checks.specs.Sizes.{tableSizes, Judges}
-use Rattle.checks.proofs.InOrder.{none-left, _and-then_, _then_, fails-here, or-later, given, fails-in-front, in-order-done, in-order-refused}
+use Rattle.checks.proofs.InOrder.{none-left, _and-then_, _then_, fails-here, or-later, given, fails-in-front, hold-and-then, fails-then}
+use Rattle.checks.proofs.InOrder.{in-order-done, in-order-refused}
 use Rattle.words.specs.Words.{Below}
 use Rattle.matrix.specs.Calls.{tableRank, quasiinverseChecks, quasiinverseCall, kernelChecks, kernelCall, solution, systemChecks, solveCall, nearestFit, fitCall}
+use Rattle.matrix.specs.Calls.{IsInner, IsOuter, pairChecks, inverseChecks, checkCall}
 use Rattle.matrix.specs.Parts.{Checked, InverseRoom, StoresInverse, StoresBasis, System, StoresFit}
 
 -- 1 and 2 hold, and then the first of the others that fails has the kind k
@@ -148,3 +150,56 @@ module _ (p m n : ℕ) (a w z u : List ℕ) where
       sym
       (in-order-done _ (untouched (z, u)) _ all
       (λ hs. let f = h (hs .0) in sym (λ t. outcome (results (f .is-rank t)) (f .z-written t, f .rest-written t))))
+
+-- ---- check
+
+module _ (p m n : ℕ) (a d : List ℕ) where
+  pub pair-hold : Checked p m n a → Checked p n m d → AllHold (pairChecks p m n a d)
+  pair-hold k l =
+      k .is-modulus
+      and-then (k .m-most, k .n-most)
+      and-then k .a-long
+      and-then l .a-long
+      and-then k .a-below
+      and-then l .a-below
+      and-then none-left
+
+  -- 3 and 4, by what fails: a length, whatever the numbers are, then a number of A or of D
+  pub pair-length : Given (tableSizes p m n) → (length a ≡ m * n → length d ≡ n * m → ⊥) → FirstFailing (pairChecks p m n a d) Length
+  pair-length s bad = past-sizes s (or-later (λ la. fails-here (bad la)))
+
+  pub pair-number : Given (tableSizes p m n) → length a ≡ m * n → length d ≡ n * m → (Below p a → Below p d → ⊥)
+      → FirstFailing (pairChecks p m n a d) Number
+  pair-number s la ld bad = past-sizes s (la then ld then or-later (λ b. fails-here (bad b)))
+
+  -- what the checks gave are two tables, the one as wide as the other is high
+  pub pair-given : Given (pairChecks p m n a d) → Checked p m n a × Checked p n m d
+  pair-given (modulus, (sizes, (a-long, (d-long, (a-below, (d-below, _)))))) = (
+    record { is-modulus = modulus; m-most = sizes .0; n-most = sizes .1; a-long = a-long; a-below = a-below },
+    record { is-modulus = modulus; m-most = sizes .1; n-most = sizes .0; a-long = d-long; a-below = d-below },
+  )
+
+  pub check-refused : {k : Refusal} → FirstFailing (pairChecks p m n a d) k → untouched tt k ≡ checkCall p m n a d
+  unfolding checkCall
+  check-refused f = sym (in-order-refused _ _ (fails-in-front (pairChecks p m n a d) (λ hs. inverseChecks p (hs .0) m n a d) f))
+
+  module _ (all : AllHold (pairChecks p m n a d)) where
+    pub check-not-inner : (IsInner p m n a d → ⊥) → untouched tt NotInner ≡ checkCall p m n a d
+    unfolding checkCall
+    check-not-inner f =
+        sym (in-order-refused _ _ (fails-then (pairChecks p m n a d) (λ hs. inverseChecks p (hs .0) m n a d) all (λ hs. fails-here f)))
+
+    pub check-not-outer : IsInner p m n a d → (IsOuter p m n a d → ⊥) → untouched tt NotOuter ≡ checkCall p m n a d
+    unfolding checkCall
+    check-not-outer i f =
+        sym
+        (in-order-refused _ _ (fails-then (pairChecks p m n a d) (λ hs. inverseChecks p (hs .0) m n a d) all (λ hs. i then fails-here f)))
+
+    pub check-done : IsInner p m n a d → IsOuter p m n a d → (r : ℕ) → ((ok : IsModulus p) → r ≡ tableRank p ok m n a)
+        → outcome (results r) tt ≡ checkCall p m n a d
+    unfolding checkCall
+    check-done i o r e =
+        sym
+        (in-order-done _ (untouched tt) _
+        (hold-and-then {cs = pairChecks p m n a d} {more = λ hs. inverseChecks p (hs .0) m n a d} all (λ hs. i and-then o and-then none-left))
+        (λ hs. sym (λ t. outcome (results (e (hs .0) t)) tt)))

@@ -1,6 +1,6 @@
 -- The checker on tables in memory: tests over lists of numbers that compute, and what they tell. A modulus is tested by its
 -- remainders, D and the marks by the checker over the residues, which are compared by their values.
-use mathlib.Core.Path.{_≡_}
+use mathlib.Core.Path.{_≡_, ap}
 use mathlib.Core.Bool.{Bool, true, not}
 use mathlib.Core.List.{List}
 use Prim.Native.Nat.{ℕ, _*_, _%_, _<_}
@@ -9,11 +9,14 @@ use native.Mathlib.Omega.{arith}
 use lib.Dec.{eqb, ltb, leb}
 use lib.ListN.{length, getD, List·getD-eq-default}
 use lib.Seq.{ext-getD}
-use borrow.Author.Tests.{eqb-true, eqb-false, ltb-true, leb-true, lt-ltb, not-true}
+use borrow.Author.Tests.{eq-eqb, eqb-true, eqb-false, ltb-true, leb-true, lt-ltb, not-true}
 use Rattle.checks.specs.Largest.{largest}
 use Rattle.algebra.specs.Choice.{choose}
+use Rattle.algebra.specs.Matrix.{product}
 use Rattle.algebra.specs.Quasiinverse.{IsPivotInverse}
 use Rattle.algebra.proofs.Counts.{true-not-false}
+use Rattle.algebra.proofs.Matrices.{entry}
+use Rattle.algebra.proofs.Sized.{by-size, absorbs-inside}
 use Rattle.checks.specs.Prime.{Prime, IsModulus}
 use Rattle.field.specs.Residue.{Residue, residues}
 use Rattle.field.specs.View.{table}
@@ -21,11 +24,11 @@ use Rattle.words.specs.Words.{Below, LeastNonzero}
 use Rattle.field.proofs.Field.{residues-ring}
 use Rattle.field.proofs.Residues.{residue-path}
 use Rattle.field.proofs.Views.{table-sized}
-use Rattle.matrix.specs.Calls.{tableOf}
+use Rattle.matrix.specs.Calls.{tableOf, IsInner}
 use Rattle.matrix.specs.Parts.{Checked, StoresInverse, marked}
 use Rattle.matrix.proofs.Memory.{marked-no}
 use Rattle.matrix.proofs.Stored.{inverted}
-use Rattle.matrix.proofs.Checker.{_and_, _implies_, everyBelow, isPivotInverse, by-size, both, implied, every-below, checked}
+use Rattle.matrix.proofs.Checker.{_and_, _implies_, everyBelow, everyPlace, isPivotInverse, both, implied, every-below, below-every, every-place, checked}
 
 -- ---- lists of numbers
 
@@ -159,3 +162,26 @@ module _ (p m n : ℕ) (a d columns rows : List ℕ) where
         let (rows-long, rows-each) = marks-checked m rows rows-marks in
         inverted p ok m n a d columns rows quasiinverse-checked (all-below p d below) (eqb-true _ _ long)
         columns-long columns-each rows-long rows-each
+
+-- ---- A D A = A
+
+module _ (p m n : ℕ) (a d : List ℕ) where
+  -- every entry of A D A is that of A, where D has n rows and m columns
+  unfoldable pub isAbsorbed : Bool
+  isAbsorbed =
+      everyPlace m n
+      (λ i j. same (product (residues p) n (tableOf p m n a) (product (residues p) m (tableOf p n m d) (tableOf p m n a)) i j) (tableOf p m n a i j))
+
+  pub absorbs-checked : IsModulus p → isAbsorbed ≡ true → IsInner p m n a d
+  unfolding isAbsorbed
+  absorbs-checked ok t =
+      absorbs-inside (residues p) (residues-ring p (omega (arith, ok .prime .two-or-more))) (table-sized p a 0 n m n) (tableOf p n m d)
+      (λ i j h l. same-path _ _ (every-place m n _ t i j h l))
+
+  pub absorbs-unchecked : not isAbsorbed ≡ true → IsInner p m n a d → ⊥
+  unfolding isAbsorbed same
+  absorbs-unchecked t E =
+      true-not-false
+      (below-every m _
+      (λ i h. below-every n _ (λ j l. eq-eqb _ _ (ap (λ (x : Residue p). x .value) (entry (residues p) (E .equation) i j)))))
+      (not-true _ t)

@@ -1,13 +1,12 @@
 -- A checker of pivot inverses. `isPivotInverse` is a test that computes: it compares the entries inside the sizes, which are
 -- finitely many. Where it passes, D is a pivot inverse of A with the marks I and J (`checked`), since A and D are zero outside
 -- their sizes and the marks end there. It is over any ring whose entries can be compared.
-use mathlib.Core.Path.{_≡_, sym, ap, _∙_, subst}
+use mathlib.Core.Path.{_≡_, refl, sym, ap, _∙_, subst}
 use mathlib.Core.Bool.{Bool, true, false, not, _&&_, and-eq-true-iff}
 use mathlib.Core.List.{List, [], _∷_, List·Memᴰ, List·Memᴰ·head, List·Memᴰ·tail}
 use mathlib.Core.Logic.{⊎-elim}
-use Prim.Native.Nat.{ℕ, zero, suc, _≤_, _<_}
-use native.Mathlib.Nat.{not-suc-le-zero, le-of-suc-le-suc, eq-or-lt-of-le}
-use native.Mathlib.Decide.{decLt}
+use Prim.Native.Nat.{ℕ, zero, suc, _<_}
+use native.Mathlib.Nat.{not-suc-le-zero, le-of-suc-le-suc, eq-or-lt-of-le, le-step, lt-suc-self}
 use native.Mathlib.Omega.{arith}
 use lib.Dec.{eqb}
 use borrow.Author.Tests.{eqb-true}
@@ -15,8 +14,7 @@ use Rattle.algebra.specs.Ring.{Ring, IsCommutativeRing}
 use Rattle.algebra.specs.Matrix.{Matrix, Sized, unit, product}
 use Rattle.algebra.specs.Quasiinverse.{Marks, count, IsPivotInverse}
 use Rattle.algebra.proofs.Sums.{unit-other}
-use Rattle.algebra.proofs.Matrices.{entries}
-use Rattle.algebra.proofs.Step as steps
+use Rattle.algebra.proofs.Sized.{by-size, sized-zero, product-sized, absorbs-inside}
 
 -- ---- tests
 
@@ -74,6 +72,11 @@ every-below (suc n) f t k h =
     let (before, last) = both (everyBelow n f) (f n) t in
     ⊎-elim (λ e. ap f e ∙ last) (λ l. every-below n f before k l) (eq-or-lt-of-le (le-of-suc-le-suc h))
 
+pub below-every : (n : ℕ) (f : ℕ → Bool) → ((k : ℕ) → k < n → f k ≡ true) → everyBelow n f ≡ true
+unfolding everyBelow _and_
+below-every zero f h = refl
+below-every (suc n) f h = and-eq-true-iff (everyBelow n f) (f n) .1 (below-every n f (λ k l. h k (le-step l)), h n (lt-suc-self n))
+
 pub every-place : (m n : ℕ) (f : ℕ → ℕ → Bool) → everyPlace m n f ≡ true → (i j : ℕ) → i < m → j < n → f i j ≡ true
 every-place m n f t i j h l = every-below n (f i) (every-below m (λ k. everyBelow n (f k)) t i h) j l
 
@@ -81,35 +84,6 @@ pub every-member : {A : Type 0} (f : A → Bool) (xs : List A) → every f xs �
 unfolding every
 every-member f (x ∷ xs) t y (List·Memᴰ·head e) = ap f e ∙ both _ _ t .0
 every-member f (x ∷ xs) t y (List·Memᴰ·tail i) = every-member f xs (both _ _ t .1) y i
-
--- ---- entries outside the sizes
-
--- a position is inside or not
-pub by-size : {P : Type 0} (i n : ℕ) → (i < n → P) → (n ≤ i → P) → P
-by-size {P} i n f g = go (decLt i n)
-  where
-    go : Dec (i < n) → P
-    go (yes h) = f h
-    go (no h) = g (omega arith)
-
-module _ (R : Ring) where
-  -- entries that agree inside the sizes agree
-  pub sized-same : {m n : ℕ} {X Y : Matrix R} → Sized R m n X → Sized R m n Y → (i j : ℕ) → (i < m → j < n → X i j ≡ Y i j) → X i j ≡ Y i j
-  sized-same {m} {n} sX sY i j h =
-      by-size i m
-      (λ k. by-size j n (h k) (λ l. sX .columns-end i j l ∙ sym (sY .columns-end i j l)))
-      (λ k. sX .rows-end i j k ∙ sym (sY .rows-end i j k))
-
-  -- an entry that is zero inside the sizes is zero
-  sized-zero : {m n : ℕ} {X : Matrix R} → Sized R m n X → (i j : ℕ) → (i < m → j < n → X i j ≡ R .zero) → X i j ≡ R .zero
-  sized-zero {m} {n} s i j h = by-size i m (λ k. by-size j n (h k) (s .columns-end i j)) (s .rows-end i j)
-
-  product-sized : IsCommutativeRing R → {m k n : ℕ} {X Y : Matrix R} → Sized R m k X → Sized R k n Y → Sized R m n (product R k X Y)
-  product-sized L {k = k} {X = X} {Y = Y} sX sY =
-      record {
-        rows-end = λ i j h. steps.product-row R L k X Y i (λ t l. sX .rows-end i t h) j;
-        columns-end = λ i j h. steps.product-column R L k X Y j (λ t l. sY .columns-end t j h) i;
-      }
 
 -- ---- the checker
 
@@ -139,12 +113,7 @@ module _ (R : Ring) (L : IsCommutativeRing R) (same : R .Carrier → R .Carrier 
         fixes-row = λ y j e.
             by-size j m (λ h. sound _ _ (implied (every-place m m _ fixes-row y j (rows y e) h) e))
             (λ h. AD .columns-end y j h ∙ sym (unit-other R y j (λ q. omega (arith, rows y e))));
-        absorbs =
-            record {
-              equation =
-                  entries R _ A
-                  (λ i j. sized-same R (product-sized R L sA DA) sA i j (λ h l. sound _ _ (every-place m n _ absorbs i j h l)));
-            };
+        absorbs = absorbs-inside R L sA D (λ i j h l. sound _ _ (every-place m n _ absorbs i j h l));
         upper = λ i c k. sized-zero R DA i c (λ h l. sound _ _ (every-below i _ (every-below n _ upper i h) c k));
         lower = λ y j k. sized-zero R AD y j (λ h l. sound _ _ (every-below j _ (every-below m _ lower j l) y k));
         columns = columns;

@@ -1,5 +1,6 @@
--- 01's starred examples of tables, and what fit leaves of their systems, hold of the calls' definitions. No decision is opened: each example passes a test that
--- computes (`passes`), and an example that passes holds (`passed-holds`), by the checker and the laws of the calls.
+-- 01's starred examples of tables, what fit leaves of their systems and what check says of other tables hold of the calls' definitions.
+-- No decision is opened: each example passes a test that computes (`passes`), and an example that passes holds (`passed-holds`), by the
+-- checker and the laws of the calls.
 use mathlib.Core.Path.{_≡_, refl, sym, ap, ap₂, _∙_}
 use mathlib.Core.Bool.{Bool, true, not}
 use mathlib.Core.List.{List, _++_, flatten, List·Memᴰ}
@@ -20,20 +21,23 @@ use Rattle.checks.specs.Told.{results}
 use Rattle.checks.specs.Outcome.{outcome}
 use Rattle.checks.specs.InOrder.{AllHold}
 use Rattle.matrix.specs.Calls.{tableOf, tableRank, vectorsFrom, firstFrom, quasiinverseCall, kernelCall, systemChecks, solveCall, fitCall, solution, vectorOf}
+use Rattle.matrix.specs.Calls.{pairChecks, checkCall}
 use Rattle.matrix.specs.Parts.{Checked, StoresInverse, InverseRoom, KernelVectors, StoresBasis, StoresFit, marked}
-use Rattle.matrix.specs.Examples.{Becomes, solvedBy, refusedBy, SystemExample, TableExample, tableExamples, systemOutcome, Holds}
+use Rattle.matrix.specs.Examples.{Becomes, solvedBy, refusedBy, SystemExample, Judged, accepted, notInner, notOuter, SentExample}
+use Rattle.matrix.specs.Examples.{TableExample, tableExamples, systemOutcome, sentOutcome, Holds}
 use Rattle.matrix.proofs.Stored.{rank-is}
-use Rattle.matrix.proofs.Answers.{quasiinverse-done, kernel-done, system-hold, solve-done, fit-done}
+use Rattle.matrix.proofs.Answers.{quasiinverse-done, kernel-done, system-hold, solve-done, fit-done, pair-hold, check-not-inner, check-not-outer, check-done}
 use Rattle.matrix.proofs.Basis.{basis-stored}
 use Rattle.matrix.proofs.Systems.{solved-by, refused-by}
 use Rattle.matrix.proofs.Checker.{_and_, every, everyBelow, isPivotInverse, both, every-member}
 use Rattle.matrix.proofs.CheckedTables.{areBelow, all-below, areSame, all-same, areMarks, isLeastNonzero, least-nonzero, isPrime}
 use Rattle.matrix.proofs.CheckedTables.{isTable, table-checked, same, holdsInverse, quasiinverse-checked, inverse-checked}
+use Rattle.matrix.proofs.CheckedTables.{isAbsorbed, absorbs-checked, absorbs-unchecked}
 
 -- ---- the test
 
 module _ (e : TableExample) where
-  open TableExample e using (p, m, n, a, d, columns, rows, rank, vectors, systems)
+  open TableExample e using (p, m, n, a, d, columns, rows, rank, vectors, systems, others)
 
   -- the table, and D
   abbrev A : Matrix (residues p)
@@ -66,7 +70,16 @@ module _ (e : TableExample) where
   passesSystem s =
       isSystem (s .w) and becomesSo (s .w) (s .becomes) and areSame (s .z) (candidateOf (s .w)) and areSame (s .rest) (restOf (s .w))
 
-  -- the table passes the checks, D and the marks are its quasiinverse, and rank, kernel and systems are what D gives
+  -- the two equations hold, or the first of them that does not is the one named
+  unfoldable judgedSo : List ℕ → Judged → Bool
+  judgedSo x accepted = isAbsorbed p m n a x and isAbsorbed p n m x a
+  judgedSo x notInner = not (isAbsorbed p m n a x)
+  judgedSo x notOuter = isAbsorbed p m n a x and not (isAbsorbed p n m x a)
+
+  unfoldable passesSent : SentExample → Bool
+  passesSent s = eqb (length (s .sent)) (n * m) and areBelow p (s .sent) and judgedSo (s .sent) (s .judged)
+
+  -- the table passes the checks, D and the marks are its quasiinverse, and rank, kernel, systems and other tables are as D says
   unfoldable passes : Bool
   passes =
       isTable p m n a
@@ -75,6 +88,7 @@ module _ (e : TableExample) where
       and eqb (length vectors + rank) n
       and areSame (flatten vectors) (vectorsFrom m n (marked columns) D A 0 n)
       and every passesSystem systems
+      and every passesSent others
 
 -- ---- an example that passes holds
 
@@ -159,9 +173,30 @@ module _ (e : TableExample) (checks : Checked (e .p) (e .m) (e .n) (e .a))
         (ap₂ (λ k l. outcome (results rank) (k, l)) so left
         ∙ fit-done p m n a w z rest rank _ _ (all-hold z rest z-long rest-long) fit-so)
 
+  -- check
+  module _ (x : List ℕ) (long : length x ≡ n * m) (below : Below p x) where
+    pair : AllHold (pairChecks p m n a x)
+    pair =
+        pair-hold p m n a x checks
+        (record { is-modulus = checks .is-modulus; m-most = checks .n-most; n-most = checks .m-most; a-long = long; a-below = below })
+
+    judges : (j : Judged) → judgedSo e x j ≡ true → checkCall p m n a x ≡ sentOutcome rank j
+    unfolding judgedSo
+    judges accepted t =
+        let (inner, outer) = both _ _ t in
+        sym
+        (check-done p m n a x pair (absorbs-checked p m n a x (checks .is-modulus) inner)
+        (absorbs-checked p n m x a (checks .is-modulus) outer) rank rank-so)
+    judges notInner t = sym (check-not-inner p m n a x pair (absorbs-unchecked p m n a x t))
+    judges notOuter t =
+        let (inner, outer) = both _ _ t in
+        sym
+        (check-not-outer p m n a x pair (absorbs-checked p m n a x (checks .is-modulus) inner) (absorbs-unchecked p n m x a outer))
+
 passed-holds : (e : TableExample) → passes e ≡ true → Holds e
-unfolding passes passesSystem
+unfolding passes passesSystem passesSent
 passed-holds e t =
+    let (t, others) = both _ _ t in
     let (t, systems) = both _ _ t in
     let (t, filled) = both _ _ t in
     let (t, long) = both _ _ t in
@@ -182,11 +217,15 @@ passed-holds e t =
           let (t, so) = both _ _ t in
           let (system, becomes) = both _ _ t in
           fits e k inverse r (s .w) system (s .z) (s .rest) (all-same _ _ so) (all-same _ _ left);
+      judges = λ s i.
+          let (t, judged) = both _ _ (every-member (passesSent e) (e .others) others s i) in
+          let (long, below) = both _ _ t in
+          judges e k inverse r (s .sent) (eqb-true _ _ long) (all-below (e .p) (s .sent) below) (s .judged) judged;
     }
 
 -- every starred example passes, computed
 all-pass : every passes tableExamples ≡ true
-unfolding every passes passesSystem isSystem becomesSo differing tableExamples
+unfolding every passes passesSystem isSystem becomesSo differing passesSent judgedSo isAbsorbed tableExamples
     isTable isPrime holdsInverse areBelow areSame areMarks isLeastNonzero isPivotInverse everyBelow _and_ same
     flatten vectorsFrom firstFrom marked vectorOf kernelVector mixOf remainder count sum unit product apply table tabulate reduce _⊕_ _⊗_ negated
 all-pass = refl

@@ -33,7 +33,8 @@ use Rattle.matrix.specs.Decide.{field}
 use Rattle.matrix.specs.Calls.{tableOf, columnsOf, rowMarksOf, tableRank, inverseOf, vectorOf, candidate, leftOver, systemChecks, solution, solveCall, nearestFit, fitCall}
 use Rattle.matrix.specs.Parts.{StoresFit}
 use Rattle.matrix.specs.Promises.{NearestFit, FitDone, FitBesideSolve}
-use Rattle.matrix.proofs.Memory.{vector-read, apply-read, remainder-read, numbers-below}
+use Rattle.field.proofs.Lines.{numbers-below}
+use Rattle.matrix.proofs.Memory.{vector-read, apply-read, remainder-read}
 use Rattle.matrix.proofs.Stored.{table-pivots, columns-many}
 use Rattle.matrix.proofs.Answers.{system-hold, table-given, system-given, solve-done, fit-done}
 use Rattle.matrix.proofs.SolveCall.{solution-elim, other-kinds}

@@ -13,11 +13,11 @@ use Rattle.algebra.specs.Matrix.{Matrix, Sized}
 use Rattle.algebra.specs.Span.{RowDepends, ColumnDepends}
 use Rattle.algebra.specs.Quasiinverse.{Marks, count, IsPivotInverse}
 use Rattle.algebra.proofs.Marks.{by-test, is-false}
-use Rattle.algebra.proofs.Matrices.{entries}
+use Rattle.algebra.proofs.Sized.{by-size, sized-equal}
 use Rattle.checks.specs.Refusal.{IsRefusal}
 use Rattle.checks.specs.Prime.{IsModulus}
 use Rattle.checks.specs.Told.{results}
-use Rattle.checks.specs.Outcome.{outcome}
+use Rattle.checks.specs.Outcome.{Outcome, outcome}
 use Rattle.checks.proofs.InOrder.{in-order-elim}
 use Rattle.checks.proofs.Modulus.{modulus-prop}
 use Rattle.checks.proofs.Refusals.{refusal-number}
@@ -27,10 +27,10 @@ use Rattle.field.proofs.Residues.{reduce-value}
 use Rattle.field.proofs.Views.{table-entry, table-sized}
 use Rattle.field.proofs.Written.{length-tabulate, getD-tabulate}
 use Rattle.matrix.specs.Calls.{tableOf, columnsOf, rowMarksOf, tableRank, inverseOf, quasiinverseCall}
-use Rattle.matrix.specs.Parts.{marked}
+use Rattle.matrix.specs.Parts.{Checked, marked}
 use Rattle.matrix.specs.Promises.{FreeMarks, QuasiinverseDone}
-use Rattle.matrix.proofs.Checker.{by-size, sized-same}
-use Rattle.matrix.proofs.Memory.{marked-yes, marked-no, place-inside, numbers-below}
+use Rattle.field.proofs.Lines.{numbers-below}
+use Rattle.matrix.proofs.Memory.{marked-yes, marked-no, place-inside}
 use Rattle.matrix.proofs.Stored.{table-pivots}
 use Rattle.matrix.proofs.Theorems.{quasiinverse-table, inverse-table, inverse-only, rank-columns}
 use Rattle.matrix.proofs.Theorems.{chosen-columns-free, chosen-columns-depend, chosen-rows-free, chosen-rows-depend}
@@ -40,7 +40,7 @@ use Rattle.matrix.proofs.Theorems.{chosen-columns-free, chosen-columns-
 -- a matrix that is zero outside its sizes is read back from its numbers
 rows-read : (p m n : ℕ) (X : Matrix (residues p)) → Sized (residues p) m n X → tableOf p m n (rowsOf m n X) ≡ X
 rows-read p m n X sized =
-    entries (residues p) _ X (λ i j. sized-same (residues p) (table-sized p (rowsOf m n X) 0 n m n) sized i j (at i j))
+    sized-equal (residues p) m n _ X (table-sized p (rowsOf m n X) 0 n m n) sized at
   where
     at : (i j : ℕ) → i < m → j < n → tableOf p m n (rowsOf m n X) i j ≡ X i j
     at i j h l =
@@ -144,4 +144,14 @@ unfolding quasiinverseCall
 quasiinverse-call p m n a d columns rows =
     in-order-elim _ _ (λ o. (IsRefusal (o .told .number) → ⊥) → QuasiinverseDone p m n a o)
     (λ hs _. inverse-done p (hs .0) m n a)
+    (λ kind _ accepted. absurd (accepted (refusal-number kind)))
+
+-- and its table has passed the checks
+pub quasiinverse-passed : (p m n : ℕ) (a d columns rows : List ℕ)
+    → (IsRefusal (quasiinverseCall p m n a d columns rows .told .number) → ⊥) → Checked p m n a
+unfolding quasiinverseCall
+quasiinverse-passed p m n a d columns rows =
+    in-order-elim _ _ (λ (o : Outcome (List ℕ × (List ℕ × List ℕ))). (IsRefusal (o .told .number) → ⊥) → Checked p m n a)
+    (λ (modulus, (sizes, (a-long, (d-long, (columns-long, (rows-long, (a-below, _))))))) _.
+    record { is-modulus = modulus; m-most = sizes .0; n-most = sizes .1; a-long = a-long; a-below = a-below })
     (λ kind _ accepted. absurd (accepted (refusal-number kind)))

@@ -37,7 +37,7 @@ use Rattle.field.proofs.Written.{length-tabulate, getD-tabulate}
 use Rattle.matrix.specs.Decide.{field}
 use Rattle.matrix.specs.Calls.{tableOf, columnsOf, tableRank, inverseOf, basisOf, kernelCall}
 use Rattle.matrix.specs.Promises.{IsKernelBasis, outsideBefore, ColumnVectors, KernelDone}
-use Rattle.matrix.proofs.Memory.{row-inside}
+use Rattle.field.proofs.Lines.{row-inside}
 use Rattle.matrix.proofs.Vectors.{vectors, vectors-none, vectors-more, vectors-skip, vectors-vector, vectorAt}
 use Rattle.matrix.proofs.Theorems.{rank-columns, kernel-vector-sent, kernel-vector-outside, kernel-one-combination, kernel-only-one}
 

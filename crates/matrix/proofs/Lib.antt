@@ -15,5 +15,6 @@ pub mod FitCall
 pub mod Checker
 pub mod CheckedTables
 pub mod InverseCall
+pub mod CheckCall
 pub mod Examples
 pub mod Order

@@ -5,11 +5,11 @@ use mathlib.Core.Path.{_≡_, sym, ap, ap₂, _∙_, fun-ext}
 use mathlib.Core.Bool.{true, false, not}
 use mathlib.Core.List.{List}
 use Prim.Native.Nat.{ℕ, zero, suc, _+_, _*_, _-_, _/_, _%_, _≤_, _<_}
-use native.Mathlib.Nat.{zero-add, mul-zero, mod-lt, div-lt-iff-lt-mul, div-add-mod', pos-of-ne-zero, le-step, lt-suc-self, mul-le-mul, mul-le-mul-right}
+use native.Mathlib.Nat.{zero-add, mul-zero, mod-lt, div-lt-iff-lt-mul, div-add-mod', pos-of-ne-zero, le-step, lt-suc-self, mul-le-mul}
 use native.Mathlib.Omega.{arith}
-use lib.ListN.{length, getD, take, drop, replicate, length-take, length-drop, length-replicate, getD-replicate}
+use lib.ListN.{length, getD, take, drop, replicate, length-replicate, getD-replicate}
 use borrow.Author.Tests.{eq-eqb, ne-eqb}
-use lib.Seq.{getD-take, getD-drop, ext-getD}
+use lib.Seq.{ext-getD}
 use Rattle.checks.specs.Largest.{largest}
 use Rattle.algebra.specs.Choice.{choose}
 use Rattle.algebra.specs.Matrix.{Vector, Matrix, sum, apply}
@@ -23,11 +23,12 @@ use Rattle.field.specs.View.{line, table}
 use Rattle.field.specs.Products.{sumOfProducts}
 use Rattle.words.specs.Words.{Below, Blank}
 use Rattle.field.specs.Written.{tabulate, numbers, rowsOf, marksOf}
-use Rattle.field.proofs.Residues.{reduce-small, reduce-value, below-of-value}
+use Rattle.field.proofs.Residues.{reduce-small, reduce-value}
 use Rattle.field.proofs.Totals.{total, total-zero, total-suc}
 use Rattle.field.proofs.Views.{table-entry}
+use Rattle.field.proofs.Lines.{row-inside, row-line, part-long, part-line, written-line}
 use Rattle.words.proofs.Walk.{Walked}
-use Rattle.field.proofs.Written.{length-tabulate, getD-tabulate, is-tabulate}
+use Rattle.field.proofs.Written.{getD-tabulate, is-tabulate}
 use Rattle.matrix.specs.Calls.{vectorOf}
 use Rattle.matrix.specs.Parts.{marked}
 
@@ -76,39 +77,18 @@ pub marked-yes : (xs : List ℕ) (c : ℕ) → (getD xs c 0 ≡ 0 → ⊥) → m
 unfolding marked
 marked-yes xs c e = ap not (ne-eqb (getD xs c 0) 0 e)
 
--- a row of a table is a line of step 1
-pub row-line : (p : ℕ) (x : List ℕ) (m n i t : ℕ) → i < m → t < n → table p x 0 n m n i t ≡ line p x (i * n) 1 t
-unfolding line
-row-line p x m n i t h l =
-    table-entry p x 0 n m n i t h l ∙ ap (λ k. reduce p (getD x k 0)) (let e : 0 + i * n + t ≡ i * n + t * 1 = omega arith in e)
-
 -- the numbers of a list are a line of it
 pub vector-line : (p : ℕ) (w : List ℕ) → line p w 0 1 ≡ vectorOf p w
 unfolding line vectorOf
 vector-line p w = fun-ext (λ t. ap (λ q. reduce p (getD w q 0)) (let e : 0 + t * 1 ≡ t = omega arith in e))
 
--- a row, and a place of it, lies in a table of m rows and n columns
-pub row-inside : (i m n : ℕ) → i < m → i * n + n ≤ m * n
-row-inside i m n h = omega (arith, mul-le-mul-right n h)
-
+-- a place of a row lies in a table of m rows and n columns
 pub place-inside : (i j m n : ℕ) → i < m → j < n → j + i * n < m * n
 place-inside i j m n h l = omega (arith, row-inside i m n h)
 
 -- how many numbers a table has at most
 pub table-most : (n m : ℕ) → n ≤ largest → m ≤ largest → n * m ≤ largest * largest
 table-most n m h l = omega (arith, mul-le-mul h l)
-
--- k numbers of x from s on, as the code lends them, are a line of x
-pub part-long : (x : List ℕ) (s k : ℕ) → s + k ≤ length x → length (take (s + k - s) (drop s x)) ≡ k
-part-long x s k h = omega (arith, length-take (s + k - s) (drop s x), length-drop s x)
-
-pub part-line : (p : ℕ) (x : List ℕ) (s k t : ℕ) → t < k → line p (take (s + k - s) (drop s x)) 0 1 t ≡ line p x s 1 t
-unfolding line
-part-line p x s k t h =
-    ap (reduce p)
-    (getD-take (s + k - s) (drop s x) (0 + t * 1) 0 (omega arith)
-    ∙ getD-drop s x (0 + t * 1) 0
-    ∙ ap (λ q. getD x q 0) (let e : s + (0 + t * 1) ≡ s + t * 1 = omega arith in e))
 
 -- the sum of products along a row, as the code lends it, is that row's number of the table applied to a vector
 pub apply-number : (p m k : ℕ) (x w : List ℕ) (i r : ℕ) → i < m → i * k + k ≤ length x
@@ -140,8 +120,7 @@ walked-numbers j n f xs ys d e w = is-tabulate n f ys (w .long ∙ e) (λ i h. w
 
 -- what is written and read again is the vector, as far as it was written
 pub vector-read : (p n : ℕ) (v : Vector (residues p)) (t : ℕ) → t < n → vectorOf p (numbers n v) t ≡ v t
-unfolding vectorOf
-vector-read p n v t l = ap (reduce p) (getD-tabulate n (λ k. (v k) .value) t l) ∙ reduce-value (v t)
+vector-read p n v t l = (λ q. sym (vector-line p (numbers n v)) q t) ∙ written-line p n v t l
 
 -- so a matrix is applied to it as to the vector
 pub apply-read : (p n : ℕ) (X : Matrix (residues p)) (v : Vector (residues p)) → apply (residues p) n X (vectorOf p (numbers n v)) ≡ apply (residues p) n X v
@@ -151,11 +130,6 @@ pub remainder-read : (p n : ℕ) (X : Matrix (residues p)) (v w : Vector (residu
     → remainder (residues p) n X (vectorOf p (numbers n v)) w ≡ remainder (residues p) n X v w
 remainder-read p n X v w =
     fun-ext (λ i. remainder-same (residues p) n X (vectorOf p (numbers n v)) v w i (vector-read p n v))
-
--- numbers that are written are below p
-pub numbers-below : (p n : ℕ) (v : Vector (residues p)) → 0 < p → Below p (numbers n v)
-numbers-below p n v h i l =
-    below-of-value h (v i) (getD-tabulate n (λ t. (v t) .value) i (omega (arith, length-tabulate n (λ t. (v t) .value))))
 
 -- a number that is written is 0 exactly if its residue is
 pub zero-written : (p n : ℕ) (v : Vector (residues p)) (i : ℕ) → 0 < p → i < n → v i ≡ residues p .zero → getD (numbers n v) i 0 ≡ 0

@@ -23,7 +23,7 @@ use Rattle.matrix_mul.specs.Places.{Negated}
 use Rattle.matrix_echelon.specs.Reduced.{SolutionFound}
 use Rattle.matrix.specs.Calls.{tableOf, inverseOf}
 use Rattle.matrix.specs.Parts.{turned}
-use Rattle.matrix.proofs.Memory.{part-line, row-line, numbers-below}
+use Rattle.field.proofs.Lines.{part-line, row-line, numbers-below}
 use Rattle.matrix.proofs.Grids.{turned-inverse}
 
 module _ (p : ℕ) (ok : IsModulus p) (m n : ℕ) (a : List ℕ) (y : ℕ) (row : y < m) where

@@ -1,6 +1,7 @@
--- 01, "Order for all three: 1, 2, 3, 4 (A first, then w)", and "What is handed back on refusal", said of the three calls and of fit, whose
--- "checks are solve's without 5" (02, #102): 1 or 2 refuses whatever the lengths and numbers are, 3 whatever the numbers are, then 4,
--- all with lent memory untouched; all else is accepted. Solve's 5, and what it accepts, is in SolveCall.
+-- 01, "Order for all three: 1, 2, 3, 4 (A first, then w)", and "What is handed back on refusal", said of the three calls, of fit, whose
+-- "checks are solve's without 5" (02, #102), and of check, "1, 2, 3, 4 (A, then D)" (#113): 1 or 2 refuses whatever the lengths and
+-- numbers are, 3 whatever the numbers are, then 4, all with lent memory untouched; all else is accepted. Solve's 5, and what it accepts,
+-- is in SolveCall, check's 17 and 18 in CheckCall.
 use mathlib.Core.Path.{_≡_, sym}
 use mathlib.Core.List.{List}
 use Prim.Native.Nat.{ℕ, _*_}
@@ -14,9 +15,10 @@ use Rattle.checks.specs.Sizes.{tableSizes}
 use Rattle.checks.specs.Outcome.{Outcome, untouched}
 use Rattle.checks.proofs.InOrder.{fails-here, _then_, or-later, in-order-accepted}
 use Rattle.words.specs.Words.{Below}
-use Rattle.matrix.specs.Calls.{quasiinverseChecks, quasiinverseCall, kernelChecks, kernelCall, systemChecks, solveCall, nearestFit, fitCall}
+use Rattle.matrix.specs.Calls.{quasiinverseChecks, quasiinverseCall, kernelChecks, kernelCall, systemChecks, solveCall, nearestFit, fitCall, checkCall}
 use Rattle.matrix.specs.Parts.{InverseRoom}
 use Rattle.matrix.proofs.Answers.{past-sizes, sizes-first, system-length, system-number, quasiinverse-refused, kernel-refused, solve-refused, fit-refused}
+use Rattle.matrix.proofs.Answers.{pair-length, pair-number, check-refused}
 
 module _ (p m n : ℕ) (a : List ℕ) where
   -- ---- quasiinverse
@@ -97,3 +99,16 @@ module _ (p m n : ℕ) (a : List ℕ) where
     pub fit-accepted : AllHold (systemChecks p m n a w z u) → IsRefusal (fitCall p m n a w z u .told .number) → ⊥
     unfolding fitCall nearestFit
     fit-accepted all = in-order-accepted _ _ (λ (o : Outcome (List ℕ × List ℕ)). IsRefusal (o .told .number) → ⊥) all (λ hs h. omega arith)
+
+  -- ---- check
+
+  module _ (d : List ℕ) where
+    pub check-sizes : {k : Refusal} → FirstFailing (tableSizes p m n) k → checkCall p m n a d ≡ untouched tt k
+    check-sizes f = sym (check-refused p m n a d (sizes-first f))
+
+    pub check-length : Given (tableSizes p m n) → (length a ≡ m * n → length d ≡ n * m → ⊥) → checkCall p m n a d ≡ untouched tt Length
+    check-length s bad = sym (check-refused p m n a d (pair-length p m n a d s bad))
+
+    pub check-number : Given (tableSizes p m n) → length a ≡ m * n → length d ≡ n * m → (Below p a → Below p d → ⊥)
+        → checkCall p m n a d ≡ untouched tt Number
+    check-number s la ld bad = sym (check-refused p m n a d (pair-number p m n a d s la ld bad))

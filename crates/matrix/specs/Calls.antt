@@ -1,17 +1,17 @@
--- What quasiinverse, kernel, solve and fit answer and leave in lent memory, for every input: 01, "Quasiinverse, kernel, solution"
--- and "What is handed back on refusal"; 02, #102.
+-- What quasiinverse, kernel, solve, fit and check answer and leave in lent memory, for every input: 01, "Quasiinverse, kernel,
+-- solution" and "What is handed back on refusal"; 02, #102 and #113.
 use mathlib.Core.Bool.{Bool, true, false}
 use mathlib.Core.List.{List, [], _++_}
 use Prim.Native.Nat.{ℕ, zero, suc, _*_, _-_}
 use lib.ListN.{getD, replicate}
 use Rattle.algebra.specs.Choice.{choose, pick}
 use Rattle.algebra.specs.Matrix.{Vector, Matrix, apply}
-use Rattle.algebra.specs.Quasiinverse.{Marks}
+use Rattle.algebra.specs.Quasiinverse.{Marks, Absorbs}
 use Rattle.algebra.specs.Chosen.{chosenColumns, chosenRows, rank}
 use Rattle.algebra.specs.Kernel.{kernelVector}
 use Rattle.algebra.specs.Solve.{mixOf, remainder}
 use Rattle.checks.specs.declared.Refusal.{Refusal}
-use Rattle.checks.specs.declared.Refusal.the-variants.{Length, Number, Insoluble}
+use Rattle.checks.specs.declared.Refusal.the-variants.{Length, Number, Insoluble, NotInner, NotOuter}
 use Rattle.checks.specs.Told.{results, refused}
 use Rattle.checks.specs.Outcome.{Outcome, outcome, untouched}
 use Rattle.checks.specs.InOrder.{Checks, passed, _else_, _⨾_, andThen, inOrder}
@@ -21,7 +21,7 @@ use Rattle.checks.specs.Decide.{long?}
 use Rattle.field.specs.Residue.{residues, reduce}
 use Rattle.field.specs.View.{table}
 use Rattle.field.specs.Written.{numbers, rowsOf, marksOf}
-use Rattle.matrix.specs.Decide.{combinations, givenInverse, equal?, solves?}
+use Rattle.matrix.specs.Decide.{combinations, givenInverse, equal?, solves?, absorbs?}
 use Rattle.words.specs.Decide.{below?}
 
 -- the table of m rows and n columns in the numbers a, stored row by row
@@ -153,3 +153,37 @@ solveCall p m n a w z u =
 unfoldable pub fitCall : (p m n : ℕ) (a w z rest : List ℕ) → Outcome (List ℕ × List ℕ)
 fitCall p m n a w z rest =
     inOrder (systemChecks p m n a w z rest) (λ hs. nearestFit p (hs .0) m n a w) (untouched (z, rest))
+
+-- ---- check
+
+-- 02, #113: "Order: 1, 2, 3, 4 (A, then D), then the new two as numbered": 1, 2; 3 for A and then D; 4 for A and then D
+abbrev pub pairChecks : (p m n : ℕ) (a d : List ℕ) → Checks Refusal
+pairChecks p m n a d =
+    andThen (tableSizes p m n)
+    (λ _.
+    long? a (m * n) else Length
+    ⨾ long? d (n * m) else Length
+    ⨾ below? p a else Number
+    ⨾ below? p d else Number
+    ⨾ passed)
+
+module _ (p m n : ℕ) (a d : List ℕ) where
+  -- ADA = A, for the table D of n rows and m columns in d: D is an inner inverse of A
+  abbrev pub IsInner : Type 0
+  IsInner = Absorbs (residues p) m n (tableOf p m n a) (tableOf p n m d)
+
+  -- DAD = D: D is an outer inverse of A
+  abbrev pub IsOuter : Type 0
+  IsOuter = Absorbs (residues p) n m (tableOf p n m d) (tableOf p m n a)
+
+-- "17, ADA differs from A; 18, DAD differs from D": the same decision, the second time with A and D exchanged
+abbrev pub inverseChecks : (p : ℕ) → IsModulus p → (m n : ℕ) (a d : List ℕ) → Checks Refusal
+inverseChecks p ok m n a d = absorbs? p ok m n a d else NotInner ⨾ absorbs? p ok n m d a else NotOuter ⨾ passed
+
+abbrev pub checkChecks : (p m n : ℕ) (a d : List ℕ) → Checks Refusal
+checkChecks p m n a d = andThen (pairChecks p m n a d) (λ hs. inverseChecks p (hs .0) m n a d)
+
+-- "Accept D exactly if ADA = A and DAD = D, and give the rank": that of A. Nothing is lent to be written.
+unfoldable pub checkCall : (p m n : ℕ) (a d : List ℕ) → Outcome (Unit {0})
+checkCall p m n a d =
+    inOrder (checkChecks p m n a d) (λ hs. outcome (results (tableRank p (hs .0) m n a)) tt) (untouched tt)

@@ -6,8 +6,10 @@ use Prim.Native.Nat.{ℕ}
 use Rattle.algebra.specs.Ring.{IsField}
 use Rattle.algebra.specs.Matrix.{Vector, Matrix, apply}
 use Rattle.algebra.specs.Span.{Solves}
+use Rattle.algebra.specs.Quasiinverse.{Absorbs}
 use Rattle.algebra.specs.Chosen.{DecidesCombinations, Inverse}
 use Rattle.algebra.proofs.Choice.{all-below?}
+use Rattle.algebra.proofs.Sized as sized
 use Rattle.algebra.proofs.Decide.{combination?}
 use Rattle.algebra.proofs.Marked.{inverse-of}
 use Rattle.checks.specs.Prime.{IsModulus}
@@ -27,6 +29,10 @@ module _ (p : ℕ) (ok : IsModulus p) where
   -- D of the table of m rows and n columns in the numbers a, stored row by row
   pub givenInverse : (m n : ℕ) (a : List ℕ) → Inverse (residues p) combinations m n (table p a 0 n m n)
   givenInverse m n a = inverse-of (residues p) field combinations (table-sized p a 0 n m n)
+
+  -- whether A D A = A, for the table A of m rows and n columns in a, and D of n rows and m columns in d
+  pub absorbs? : (m n : ℕ) (a d : List ℕ) → Dec (Absorbs (residues p) m n (table p a 0 n m n) (table p d 0 m n m))
+  absorbs? m n a d = sized.absorbs? (residues p) (field .ring) (table-sized p a 0 n m n) (table p d 0 m n m) residue-equal?
 
 pub equal? : {p : ℕ} (x y : Residue p) → Dec (x ≡ y)
 equal? x y = residue-equal? x y

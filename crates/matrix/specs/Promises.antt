@@ -1,6 +1,6 @@
--- What 01 promises of quasiinverse, kernel and solve, and 02 of fit, said of the outcome o of a call: of what it tells and of the
--- numbers that it leaves in lent memory. That the calls keep these promises is shown in proofs/InverseCall.antt, KernelCall.antt,
--- SolveCall.antt and FitCall.antt.
+-- What 01 promises of quasiinverse, kernel and solve, and 02 of fit and check, said of the outcome o of a call: of what it tells and of
+-- the numbers that it leaves in lent memory. That the calls keep these promises is shown in proofs/InverseCall.antt, KernelCall.antt,
+-- SolveCall.antt, FitCall.antt and CheckCall.antt.
 use mathlib.Core.Path.{_≡_}
 use mathlib.Core.Bool.{false, not}
 use mathlib.Core.Logic.{_⊎_, _↔_}
@@ -21,7 +21,7 @@ use Rattle.field.specs.Residue.{residues, _⊗_}
 use Rattle.field.specs.Written.{numbers}
 use Rattle.words.specs.Words.{Below, Blank}
 use Rattle.matrix.specs.Parts.{marked}
-use Rattle.matrix.specs.Calls.{tableOf, columnsOf, rowMarksOf, tableRank, inverseOf, vectorOf, candidate}
+use Rattle.matrix.specs.Calls.{tableOf, columnsOf, rowMarksOf, tableRank, inverseOf, vectorOf, candidate, IsInner, IsOuter}
 
 -- ---- quasiinverse
 
@@ -147,3 +147,23 @@ pub record FitBesideSolve (f s : Outcome (List ℕ × List ℕ)) : Type 0 where
   pub same-z : (IsRefusal (s .told .number) → ⊥) → f .lent .0 ≡ s .lent .0
   pub same-result : (IsRefusal (s .told .number) → ⊥) → f .told ≡ s .told
   pub else-insoluble : IsRefusal (s .told .number) → s .told ≡ refused Insoluble
+
+-- ---- check
+
+module _ (p m n : ℕ) (a d : List ℕ) where
+  -- of what is told past 1 to 4. 02, #113: "Accept D exactly if ADA = A and DAD = D .. 17, ADA differs from A; 18, DAD differs from D",
+  -- "the new two as numbered": 18 only where ADA = A
+  pub record CheckJudges (o : Outcome (Unit {0})) : Type 0 where
+    pub accepts : (IsRefusal (o .told .number) → ⊥) ↔ IsQuasiinverse (residues p) m n (tableOf p m n a) (tableOf p n m d)
+    pub seventeen : (o .told .number ≡ 17) ↔ (IsInner p m n a d → ⊥)
+    pub eighteen : (o .told .number ≡ 18) ↔ (IsInner p m n a d × (IsOuter p m n a d → ⊥))
+
+  -- of a call that is not refused: D is a quasiinverse of A, document 001's, "and give the rank", which is D's rank too. "After
+  -- acceptance the nearest-fit remainder from that D", w - A(Dw), "is all 0 exactly if the system has a solution", whatever w is.
+  pub record CheckDone (ok : IsModulus p) (o : Outcome (Unit {0})) : Type 0 where
+    pub told : o .told ≡ results (tableRank p ok m n a)
+    pub quasiinverse : IsQuasiinverse (residues p) m n (tableOf p m n a) (tableOf p n m d)
+    pub same-rank : tableRank p ok n m d ≡ tableRank p ok m n a
+    pub remainder-exactly : (w : Vector (residues p))
+        → ((i : ℕ) → i < m → remainder (residues p) n (tableOf p m n a) (apply (residues p) m (tableOf p n m d) w) w i ≡ residues p .zero)
+        ↔ ((x : Vector (residues p)) × Solves (residues p) m n (tableOf p m n a) x w)

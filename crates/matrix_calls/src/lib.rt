@@ -1,13 +1,14 @@
-// Tables: quasiinverse, kernel, solution and nearest fit. Each call checks, in this order, 1, p; 2, the sizes; 3, the lengths; 4,
-// the numbers; and leaves all lent memory as it was where it refuses by these.
+// Tables: quasiinverse, kernel, solution and nearest fit, and the check of a quasiinverse from elsewhere. Each call checks, in this
+// order, 1, p; 2, the sizes; 3, the lengths; 4, the numbers; and leaves all lent memory as it was where it refuses by these.
 ghost use mathlib.Core.Path.{_≡_};
 ghost use Rattle.matrix.specs.Told.{tableTold};
-ghost use Rattle.matrix.specs.Calls.{quasiinverseCall, kernelCall, systemChecks, solveCall, fitCall};
+ghost use Rattle.matrix.specs.Calls.{quasiinverseCall, kernelCall, systemChecks, solveCall, fitCall, pairChecks, checkCall};
 ghost use Rattle.checks.specs.Outcome.{outcome};
 ghost use Rattle.checks.specs.Sizes.{Judges};
 use checks::Refusal;
 use checks::Verdict;
 pub use matrix::TableAnswer;
+use matrix_check::absorbs;
 use words::all_below;
 
 pub mod work;
@@ -136,4 +137,47 @@ pub fn fit(
         return TableAnswer::Refused(kind);
     }
     TableAnswer::Done(work::fit_of(p, m as usize, n as usize, a, w, z, rest))
+}
+
+// What check checks first: 1 and 2; 3 for a, then d; 4 for a, then d.
+fn pair_checks(p: u32, m: u32, n: u32, a: &[u32], d: &[u32]) -> Verdict
+    ensures { λ r. ⌜ Judges (pairChecks p m n (now (a .entry)) (now (d .entry))) r ⌝ }
+{
+    if let Verdict::Refused(kind) = checks::table_sizes(p, m, n) {
+        return Verdict::Refused(kind);
+    }
+    let height = m as usize;
+    let width = n as usize;
+    if a.len() != height * width {
+        return Verdict::Refused(Refusal::Length);
+    }
+    if d.len() != width * height {
+        return Verdict::Refused(Refusal::Length);
+    }
+    if !all_below(p, a) {
+        return Verdict::Refused(Refusal::Number);
+    }
+    if !all_below(p, d) {
+        return Verdict::Refused(Refusal::Number);
+    }
+    Verdict::Passed
+}
+
+// Whether d, n rows and m columns, is a quasiinverse of a, on whatever rows and columns: the rank of a; 17, A D A is not A; or 18,
+// D A D is not D. Nothing is lent to be written.
+pub fn check(p: u32, m: u32, n: u32, a: &[u32], d: &[u32]) -> TableAnswer
+    ensures { λ r. ⌜ outcome (tableTold r) tt ≡ checkCall p m n (now (a .entry)) (now (d .entry)) ⌝ }
+{
+    if let Verdict::Refused(kind) = pair_checks(p, m, n, a, d) {
+        return TableAnswer::Refused(kind);
+    }
+    let height = m as usize;
+    let width = n as usize;
+    if !absorbs(p, height, width, a, d) {
+        return TableAnswer::Refused(Refusal::NotInner);
+    }
+    if !absorbs(p, width, height, d, a) {
+        return TableAnswer::Refused(Refusal::NotOuter);
+    }
+    TableAnswer::Done(work::rank_of(p, height, width, a))
 }

@@ -10,6 +10,7 @@ use checks::Refusal;
 use matrix::TableAnswer;
 use matrix::parts;
 use matrix_echelon::Grid;
+use matrix_echelon::forward;
 use matrix_echelon::reduced;
 
 // D, I and J of the table in lent memory, and its rank.
@@ -123,4 +124,19 @@ pub fn solve_of(
 {
     let mut x = words::row_room();
     solve_with(p, m, n, a, w, &mut x[..n], z, u)
+}
+
+// The rank of the table.
+pub fn rank_of(p: u32, m: usize, n: usize, a: &[u32]) -> u32
+    requires { ⌜ Checked p m n (now a) ⌝ }
+    ensures { λ r. ⌜ ((ok : IsModulus p) → r ≡ tableRank p ok m n (now (a .entry))) ⌝ }
+{
+    let plain = Grid {
+        start: 0,
+        down: n,
+        along: 1,
+        rows: m,
+        columns: n,
+    };
+    forward::rank(p, plain, a) as u32
 }

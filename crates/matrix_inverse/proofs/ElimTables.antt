@@ -12,11 +12,11 @@ use borrow.Author.Tests.{lt-ltb, le-ltb}
 use Rattle.algebra.specs.Matrix.{Matrix, Sized, zeros, stack, beside}
 use Rattle.algebra.specs.Choice.{choose}
 use Rattle.algebra.proofs.Matrices.{entries}
+use Rattle.algebra.proofs.Sized.{sized-equal}
 use Rattle.algebra.proofs.Blocks.{Part, upper, lower, part, stack-upper, stack-lower, beside-left, beside-right}
 use Rattle.field.specs.Residue.{Residue, reduce, residues}
 use Rattle.field.specs.View.{table}
 use Rattle.field.proofs.Views.{table-entry, table-sized}
-use Rattle.matrix_mul.proofs.Places.{tables-equal}
 
 -- a block of zeros
 pub zeros-sized : (p m n : ℕ) → Sized (residues p) m n (zeros (residues p))
@@ -29,7 +29,7 @@ pub blank-table :
     table p xs start stride m n ≡ zeros (residues p)
 unfolding zeros
 blank-table p xs start stride m n blank =
-    tables-equal p m n (table p xs start stride m n) (zeros (residues p)) (table-sized p xs start stride m n) (zeros-sized p m n)
+    sized-equal (residues p) m n (table p xs start stride m n) (zeros (residues p)) (table-sized p xs start stride m n) (zeros-sized p m n)
     (λ i j h l. table-entry p xs start stride m n i j h l ∙ ap (reduce p) (blank i j h l))
 
 -- a place behind the first m is among the first m + n where it is among n behind them

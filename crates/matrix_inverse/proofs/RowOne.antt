@@ -16,6 +16,7 @@ use Rattle.algebra.specs.Ring.{IsCommutativeRing}
 use Rattle.algebra.specs.Matrix.{Sized, zeros}
 use Rattle.algebra.specs.Quasiinverse.{none, only, single, IsPivotInverse}
 use Rattle.algebra.proofs.Matrices.{entry}
+use Rattle.algebra.proofs.Sized.{sized-equal}
 use Rattle.algebra.proofs.Base.{zero-table, one-row}
 use Rattle.field.specs.Residue.{reduce, residues, _⊗_}
 use Rattle.field.specs.View.{table}
@@ -23,7 +24,7 @@ use Rattle.field.proofs.Field.{residues-ring}
 use Rattle.field.proofs.Views.{table-entry, table-sized}
 use Rattle.matrix_mul.specs.Places.{place, Kept}
 use Rattle.matrix_inverse.specs.Eliminated.{Eliminable, Eliminated}
-use Rattle.matrix_mul.proofs.Places.{tables-equal, same-place, kept-none}
+use Rattle.matrix_mul.proofs.Places.{same-place, kept-none}
 use Rattle.matrix_inverse.proofs.ElimMarks.{marked-none, marked-one}
 use Rattle.matrix_inverse.proofs.ElimTables.{blank-table}
 
@@ -72,7 +73,7 @@ column-table :
     table p (set d (at + v * stride) r) at stride n 1 ≡ single (residues p) v (reduce p r)
 unfolding single
 column-table p d at stride n v r long fits l blank =
-    tables-equal p n 1 (table p d′ at stride n 1) (single (residues p) v (reduce p r)) (table-sized p d′ at stride n 1) sized
+    sized-equal (residues p) n 1 (table p d′ at stride n 1) (single (residues p) v (reduce p r)) (table-sized p d′ at stride n 1) sized
     (λ i j h g. table-entry p d′ at stride n 1 i j h g ∙ by-row i j h g (ℕ-discrete i v))
   where
     d′ : List ℕ

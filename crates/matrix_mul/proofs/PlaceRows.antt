@@ -10,6 +10,7 @@ use lib.ListN.{length, getD, take, drop}
 use Rattle.algebra.specs.Ring.{IsCommutativeRing}
 use Rattle.algebra.specs.Matrix.{Matrix, sum, add, product}
 use Rattle.algebra.proofs.Matrices.{entry}
+use Rattle.algebra.proofs.Sized.{sized-equal, product-sized}
 use Rattle.algebra.proofs.Step.{product-row}
 use Rattle.field.specs.Residue.{Residue, reduce, residues, _⊕_, _⊗_}
 use Rattle.field.specs.View.{line, table}
@@ -22,7 +23,7 @@ use Rattle.field.proofs.Views.{table-entry, table-sized}
 use Rattle.matrix_mul.specs.declared.Place.{Place}
 use Rattle.matrix_mul.specs.declared.Shape.{Shape}
 use Rattle.matrix_mul.specs.Places.{place, rowAt, shape, withRows, matrixAt, Block, Kept, Factors, Multiplied, ZerosAt, Used}
-use Rattle.matrix_mul.proofs.Places.{tables-equal, table-same, copied-table, same-place, kept-at, kept-none, add-sized, product-sized, row-product}
+use Rattle.matrix_mul.proofs.Places.{table-same, copied-table, same-place, kept-at, kept-none, add-sized, row-product}
 use Rattle.words.proofs.Parts.{replaced, replaced-length, replaced-inside, replaced-elsewhere, replaced-below, part-length, part-at}
 
 module _ (p k n : ℕ) (x y : List ℕ) (Y : Place) where
@@ -59,9 +60,9 @@ module _ (p k n : ℕ) (x y : List ℕ) (Y : Place) where
         record {
           kept = kept;
           result =
-              tables-equal p m n _ _ (table-sized p z′ (Z .start) (Z .stride) m n)
+              sized-equal (residues p) m n _ _ (table-sized p z′ (Z .start) (Z .stride) m n)
               (add-sized p positive m n _ _ (table-sized p z (Z .start) (Z .stride) m n)
-              (product-sized p positive m k n _ _ (table-sized p x (X .start) (X .stride) m k) (table-sized p y (Y .start) (Y .stride) k n)))
+              (product-sized (residues p) (residues-ring p positive) (table-sized p x (X .start) (X .stride) m k) (table-sized p y (Y .start) (Y .stride) k n)))
               (λ i j h l.
               table-entry p z′ (Z .start) (Z .stride) m n i j h l
               ∙ each i j h l

@@ -1,5 +1,5 @@
 -- Blocks of numbers in memory. The table of a part; tables of lists that agree; what `Kept` gives: it composes, widens, and
--- leaves tables elsewhere as they were; and entries and sizes of sums, negatives and products of tables.
+-- leaves tables elsewhere as they were; entries and sizes of sums and negatives of tables, and entries of products.
 use mathlib.Core.Path.{_≡_, refl, sym, ap, _∙_}
 use mathlib.Core.List.{List}
 use Prim.Native.Nat.{ℕ, _+_, _*_, _-_, _≤_, _<_}
@@ -12,8 +12,7 @@ use Rattle.algebra.specs.Ring.{IsCommutativeRing}
 use Rattle.algebra.specs.Matrix.{Matrix, Sized, sum, add, negative, product}
 use Rattle.algebra.proofs.Rings.{minus-zero}
 use Rattle.algebra.proofs.Sums.{sum-same}
-use Rattle.algebra.proofs.Matrices.{entries}
-use Rattle.algebra.proofs.Step.{product-row, product-column}
+use Rattle.algebra.proofs.Sized.{sized-equal}
 use Rattle.field.specs.Residue.{reduce, residues, _⊕_, _⊗_, negated}
 use Rattle.field.specs.View.{line, table}
 use Rattle.words.specs.Words.{Below, Blank, Copied}
@@ -22,22 +21,12 @@ use Rattle.field.proofs.Views.{table-entry, column-line, table-sized}
 use Rattle.matrix_mul.specs.declared.Place.{Place}
 use Rattle.matrix_mul.specs.Places.{place, matrixAt, Kept}
 
--- matrices of m rows and n columns are equal if their entries there are
-pub tables-equal : (p m n : ℕ) (X Y : Matrix (residues p)) → Sized (residues p) m n X → Sized (residues p) m n Y
-    → ((i j : ℕ) → i < m → j < n → X i j ≡ Y i j) → X ≡ Y
-tables-equal p m n X Y x y same = entries (residues p) X Y (λ i j. by-place i j (decLt i m) (decLt j n))
-  where
-    by-place : (i j : ℕ) → Dec (i < m) → Dec (j < n) → X i j ≡ Y i j
-    by-place i j (yes h) (yes l) = same i j h l
-    by-place i j (no h) d = x .rows-end i j (omega arith) ∙ sym (y .rows-end i j (omega arith))
-    by-place i j (yes h) (no l) = x .columns-end i j (omega arith) ∙ sym (y .columns-end i j (omega arith))
-
 -- lists that agree at the places of two blocks have equal tables there
 pub table-same : (p : ℕ) (xs : List ℕ) (start stride : ℕ) (ys : List ℕ) (start′ stride′ m n : ℕ)
     → ((i j : ℕ) → i < m → j < n → getD xs (start + i * stride + j) 0 ≡ getD ys (start′ + i * stride′ + j) 0)
     → table p xs start stride m n ≡ table p ys start′ stride′ m n
 table-same p xs start stride ys start′ stride′ m n same =
-    tables-equal p m n (table p xs start stride m n) (table p ys start′ stride′ m n)
+    sized-equal (residues p) m n (table p xs start stride m n) (table p ys start′ stride′ m n)
     (table-sized p xs start stride m n)
     (table-sized p ys start′ stride′ m n)
     (λ i j h l.
@@ -120,7 +109,7 @@ module _ {p : ℕ} {xs ys : List ℕ} where
       let e : start + i * X .stride + j ≡ start + j + i * X .stride = omega arith in
       rw e (kept-at k fits i (start + j) (omega arith) (λ t g. other j t l g)))
 
--- sums, negatives and products of matrices of fitting sizes are zero outside theirs
+-- sums and negatives of matrices of a size are zero outside it
 module _ (p : ℕ) (positive : 0 < p) where
   ring : IsCommutativeRing (residues p)
   ring = residues-ring p positive
@@ -142,14 +131,6 @@ module _ (p : ℕ) (positive : 0 < p) where
         columns-end = λ i j h. ap negated (x .columns-end i j h) ∙ minus-zero (residues p) ring;
       }
 
-  pub product-sized : (m k n : ℕ) (X Y : Matrix (residues p)) → Sized (residues p) m k X → Sized (residues p) k n Y
-      → Sized (residues p) m n (product (residues p) k X Y)
-  product-sized m k n X Y x y =
-      record {
-        rows-end = λ i j h. product-row (residues p) ring k X Y i (λ t l. x .rows-end i t h) j;
-        columns-end = λ i j h. product-column (residues p) ring k X Y j (λ t l. y .columns-end t j h) i;
-      }
-
   -- a table of negatives
   pub table-negative : (xs ys : List ℕ) (start stride m n : ℕ)
       → ((i j : ℕ) → i < m → j < n
@@ -157,7 +138,7 @@ module _ (p : ℕ) (positive : 0 < p) where
       → table p ys start stride m n ≡ negative (residues p) (table p xs start stride m n)
   unfolding negative
   table-negative xs ys start stride m n each =
-      tables-equal p m n (table p ys start stride m n) (negative (residues p) (table p xs start stride m n))
+      sized-equal (residues p) m n (table p ys start stride m n) (negative (residues p) (table p xs start stride m n))
       (table-sized p ys start stride m n)
       (negative-sized m n (table p xs start stride m n) (table-sized p xs start stride m n))
       (λ i j h l.

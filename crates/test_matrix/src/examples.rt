@@ -1,6 +1,7 @@
 // Document 01's examples of tables that are not starred, those of document 02's request 102, and the order of the checks: a call that
 // one check refuses would be refused by the later ones too. The starred examples are a theorem, in matrix/proofs/Examples.antt.
 ghost use Prim.Native.Nat.{_≤_};
+use super::check_examples;
 use super::memory;
 use super::report;
 use test_support::lent;
@@ -78,35 +79,36 @@ fn system(name: &[u8], p: u32, m: u32, n: u32, a: &[u32], w: &[u32], width: usiz
     fit(name, p, m, n, a, w, width, height);
 }
 
-// The four calls on memory that is right for 2 rows and 3 columns.
-fn four_on(name: &[u8], p: u32, m: u32, n: u32, a: &[u32]) {
+// The five calls on memory that is right for 2 rows and 3 columns. The D to check is that of the next function's table.
+fn five_on(name: &[u8], p: u32, m: u32, n: u32, a: &[u32]) {
     invert(name, p, m, n, a, 6, 3, 2);
     kernel(name, p, m, n, a, 9);
     system(name, p, m, n, a, &[1, 1], 3, 2);
+    check_examples::check(name, p, m, n, a, &[1, 0, 0, 1, 0, 0]);
 }
 
 // The same on a table that has rank 2 modulo every prime, as its first two columns are unit columns.
-fn four(name: &[u8], p: u32, m: u32, n: u32) {
-    four_on(name, p, m, n, &[1, 0, 1, 0, 1, 1]);
+fn five(name: &[u8], p: u32, m: u32, n: u32) {
+    five_on(name, p, m, n, &[1, 0, 1, 0, 1, 1]);
 }
 
 // Moduli that are refused before the sizes, which are wrong too; the least and the greatest modulus.
 fn moduli() {
-    four(b"modulus-0", 0, 65, 65);
-    four(b"modulus-1", 1, 65, 65);
-    four(b"modulus-4", 4, 65, 65);
-    four(b"modulus-2147117569", 2147117569, 65, 65);
-    four(b"modulus-2147483648", 2147483648, 65, 65);
-    four(b"modulus-2", 2, 2, 3);
-    four(b"modulus-2147483647", 2147483647, 2, 3);
+    five(b"modulus-0", 0, 65, 65);
+    five(b"modulus-1", 1, 65, 65);
+    five(b"modulus-4", 4, 65, 65);
+    five(b"modulus-2147117569", 2147117569, 65, 65);
+    five(b"modulus-2147483648", 2147483648, 65, 65);
+    five(b"modulus-2", 2, 2, 3);
+    five(b"modulus-2147483647", 2147483647, 2, 3);
 }
 
 // Sizes above 64, for which the lengths are wrong too.
 fn sizes() {
-    four(b"m-65", 7, 65, 3);
-    four(b"n-65", 7, 2, 65);
-    four(b"m-4294967295", 7, 4294967295, 3);
-    four(b"n-4294967295", 7, 2, 4294967295);
+    five(b"m-65", 7, 65, 3);
+    five(b"n-65", 7, 2, 65);
+    five(b"m-4294967295", 7, 4294967295, 3);
+    five(b"n-4294967295", 7, 2, 4294967295);
 }
 
 // The largest table, all ones, of rank 1.
@@ -167,7 +169,7 @@ fn lengths() {
 // right side.
 fn numbers() {
     system(b"a-short-w-p", 7, 2, 3, &[1, 0, 1, 0, 1], &[1, 7], 3, 2);
-    four_on(b"a-p", 7, 2, 3, &[1, 0, 1, 0, 1, 7]);
+    five_on(b"a-p", 7, 2, 3, &[1, 0, 1, 0, 1, 7]);
     system(b"w-p", 7, 2, 3, &[1, 0, 1, 0, 1, 1], &[1, 7], 3, 2);
 }
 

@@ -9,7 +9,8 @@ use Rattle.field.specs.Products.{sumOfProducts}
 use Rattle.field.proofs.Residues.{below-of-value}
 use Rattle.words.proofs.Walk.{Walked, walked-none, walked-more}
 use Rattle.matrix.specs.Calls.{tableOf, vectorOf}
-use Rattle.matrix.proofs.Memory.{row-inside, table-most, part-long, remainder-number, walked-numbers}
+use Rattle.field.proofs.Lines.{row-inside, part-long}
+use Rattle.matrix.proofs.Memory.{table-most, remainder-number, walked-numbers}
 use Rattle.matrix.proofs.parts.remainder.Statement.{statement}
 use Rattle.matrix.proofs.parts.remainder.Tie as tie
 

@@ -5,7 +5,8 @@ use Prim.Native.Nat.{ℕ, _+_, _*_, _≤_}
 use native.Mathlib.Omega.{arith}
 use lib.ListN.{length, length-set}
 use Rattle.words.specs.Words.{Below}
-use Rattle.matrix.proofs.Memory.{row-inside, part-long, table-most}
+use Rattle.field.proofs.Lines.{row-inside, part-long}
+use Rattle.matrix.proofs.Memory.{table-most}
 use Rattle.matrix.proofs.Grids.{turned-readable}
 use Rattle.matrix.proofs.Mix.{turned-below, mix-written}
 use Rattle.matrix.proofs.parts.row_mix.Statement.{statement}

@@ -4,10 +4,10 @@ use Rattle.test_matrix.proofs.cases.run.Statement.{statement}
 use Rattle.test_matrix.proofs.cases.run.Tie as tie
 
 abbrev Inv-loop : tie.InvT-loop
-Inv-loop tally₀ left₀ tally left = Unit
+Inv-loop kind tally₀ left₀ tally left = Unit
 
 abbrev μ-loop : tie.MeasureT-loop
-μ-loop tally₀ left₀ tally left = left
+μ-loop kind tally₀ left₀ tally left = left
 
 loop-holds : tie.Need-loop-holds Inv-loop μ-loop
 loop-holds c = tt
