@@ -7,10 +7,10 @@
  * means and what it rests on.
  *
  * Every function answers a number:
- *   0         done; for take: the frame is new and now stands
- *   100       take: a repeat of what stands already
- *   200 + k   done, with the result k that the function names
- *   1 to 12   refused, by the first check that fails (DAUNEROAD_MODULUS and so on below)
+ *   0                 done; for take: the frame is new and now stands
+ *   100               take: a repeat of what stands already
+ *   200 + k           done, with the result k that the function names
+ *   1 to 12, 17, 18   refused, by the first check that fails (DAUNEROAD_MODULUS and so on below)
  * A refusal leaves all lent memory as it was, except that 5 writes u and 9 writes the mix.
  *
  * A slice is a pointer and a length in elements. The pointer is aligned for its element and valid for that many elements;
@@ -52,7 +52,9 @@ enum {
     DAUNEROAD_CONFLICT = 9,        /* the frame contradicts the standing ones; mix says how */
     DAUNEROAD_WITHDRAWAL = 10,     /* more frames to withdraw than stand */
     DAUNEROAD_NOT_BOARD = 11,      /* the words are no board */
-    DAUNEROAD_WORDS = 12           /* s is not 1 to 16; in a board's words that is 11 */
+    DAUNEROAD_WORDS = 12,          /* s is not 1 to 16; in a board's words that is 11 */
+    DAUNEROAD_NOT_INNER = 17,      /* check: ADA differs from A: D is no inner inverse of A */
+    DAUNEROAD_NOT_OUTER = 18       /* check: DAD differs from D: D is no outer inverse of A */
 };
 
 /* Take's other answers, and what done answers begin with. */
@@ -151,6 +153,12 @@ uint32_t dauneroad_solve(uint32_t p, uint32_t m, uint32_t n, const uint32_t *a, 
  * 5. */
 uint32_t dauneroad_fit(uint32_t p, uint32_t m, uint32_t n, const uint32_t *a, size_t a_len, const uint32_t *w, size_t w_len,
                        uint32_t *z, size_t z_len, uint32_t *rest, size_t rest_len);
+
+/* Whether D (n rows of m numbers), wherever it comes from, is a quasiinverse of A: A D A = A and D A D = D. 200 + the rank of A. What
+ * quasiinverse leaves is always accepted, and D may be one on other rows and columns. With each D that is accepted, w - A (D w) modulo p
+ * is all 0 exactly if A z = w has a solution, and then D w is one. Nothing is written. Refuses 1, 2, 3 (a_len is m * n, d_len is
+ * n * m), 4 (A first, then D), then 17, A D A differs from A, then 18, D A D differs from D. */
+uint32_t dauneroad_check(uint32_t p, uint32_t m, uint32_t n, const uint32_t *a, size_t a_len, const uint32_t *d, size_t d_len);
 
 #ifdef __cplusplus
 }

@@ -1,5 +1,6 @@
 /* Document 01's examples, with one word a record, frames with padding as document 02's #101 has them and with numbers as its #111 has
- * them, and the nearest fits of its #102, through the header alone. One line per example group; ends with 0 only if all of them hold. */
+ * them, the nearest fits of its #102 and the checks of its #113, through the header alone; signed readings are in readings.c. One line
+ * per example group; ends with 0 only if all of them hold. */
 #include "dauneroad.h"
 #include "expect.h"
 
@@ -83,6 +84,62 @@ static void empty_fits(void)
     EXPECT(dauneroad_fit(5, 0, 0, none, 0, none, 0, none, 0, none, 0) == 200);
     EXPECT(none[0] == 77);
     group("nearest fits with no rows, with no columns, with neither");
+}
+
+/* D of A = (1 0) has 1 for its first number and any second one; A is a quasiinverse of the same ones. */
+static void checked_rows(void)
+{
+    const uint32_t a[] = {1, 0};
+    for (uint32_t x = 0; x < 5; x++) {
+        for (uint32_t y = 0; y < 5; y++) {
+            const uint32_t d[] = {x, y};
+            EXPECT(dauneroad_check(5, 1, 2, a, LEN(a), d, LEN(d)) == (x == 1 ? 201 : 17));
+            EXPECT(dauneroad_check(5, 2, 1, d, LEN(d), a, LEN(a)) == (x == 1 ? 201 : x == 0 && y == 0 ? 18 : 17));
+        }
+    }
+    group("check, p = 5, A = (1 0), every D, and each way round");
+}
+
+static void checked_tables(void)
+{
+    const uint32_t a[] = {1, 2, 2, 4}, ours[] = {1, 0, 0, 0}, last[] = {0, 0, 0, 4}, inner[] = {1, 1, 0, 2}, unit[] = {1, 0, 0, 1};
+    const uint32_t zero[] = {0}, one[] = {1};
+    EXPECT(dauneroad_check(5, 2, 2, a, LEN(a), ours, LEN(ours)) == 201);
+    EXPECT(dauneroad_check(5, 2, 2, a, LEN(a), last, LEN(last)) == 201); /* on the last row and column */
+    EXPECT(dauneroad_check(5, 2, 2, a, LEN(a), inner, LEN(inner)) == DAUNEROAD_NOT_OUTER);
+    EXPECT(dauneroad_check(5, 2, 2, inner, LEN(inner), a, LEN(a)) == DAUNEROAD_NOT_INNER);
+    EXPECT(dauneroad_check(5, 2, 2, a, LEN(a), unit, LEN(unit)) == DAUNEROAD_NOT_INNER); /* and DAD is not D */
+    EXPECT(dauneroad_check(5, 2, 2, unit, LEN(unit), unit, LEN(unit)) == 202); /* one memory for both */
+    EXPECT(dauneroad_check(2, 1, 1, zero, 1, one, 1) == DAUNEROAD_NOT_OUTER);
+    EXPECT(dauneroad_check(2, 1, 1, one, 1, zero, 1) == DAUNEROAD_NOT_INNER);
+    EXPECT(dauneroad_check(2, 1, 1, zero, 1, zero, 1) == 200);
+    EXPECT(dauneroad_check(2, 0, 2, zero, 0, one, 0) == 200);
+    EXPECT(dauneroad_check(2, 3, 0, zero, 0, one, 0) == 200);
+    EXPECT(dauneroad_check(2, 0, 0, zero, 0, one, 0) == 200);
+    EXPECT(DAUNEROAD_NOT_INNER == 17 && DAUNEROAD_NOT_OUTER == 18);
+    group("check, p = 5, A = (1 2), (2 4); p = 2, A = (0) and (1); no rows, no columns, neither");
+}
+
+/* 6 is 1 modulo 5, and is refused all the same. */
+static void check_order(void)
+{
+    static uint32_t large[65 * 65];
+    const uint32_t a[] = {1, 0, 0}, d[] = {1, 3, 0}, bad_a[] = {6, 0, 0}, bad_d[] = {6, 3, 0};
+    EXPECT(dauneroad_check(4, 65, 65, bad_a, 1, bad_d, 1) == DAUNEROAD_MODULUS);
+    EXPECT(dauneroad_check(4, 1, 2, a, 2, d, 2) == DAUNEROAD_MODULUS);
+    EXPECT(dauneroad_check(5, 65, 1, bad_a, 1, bad_d, 1) == DAUNEROAD_SIZE);
+    EXPECT(dauneroad_check(5, 1, 65, bad_a, 1, bad_d, 1) == DAUNEROAD_SIZE);
+    EXPECT(dauneroad_check(5, 65, 64, large, 4160, large, 4160) == DAUNEROAD_SIZE);
+    EXPECT(dauneroad_check(5, 64, 64, large, 4096, large, 4096) == 200);
+    for (size_t a_len = 1; a_len <= 3; a_len++) {
+        for (size_t d_len = 1; d_len <= 3; d_len++) {
+            int right = a_len == 2 && d_len == 2;
+            EXPECT(dauneroad_check(5, 1, 2, a, a_len, d, d_len) == (right ? 201 : 3));
+            EXPECT(dauneroad_check(5, 1, 2, bad_a, a_len, d, d_len) == (right ? 4 : 3));
+            EXPECT(dauneroad_check(5, 1, 2, a, a_len, bad_d, d_len) == (right ? 4 : 3));
+        }
+    }
+    group("check, the order of 1, 2, 3, 4, then 17 and 18");
 }
 
 static void moduli_and_sizes(void)
@@ -309,68 +366,6 @@ static void sealing(void)
     group("sealing the sheet's frames");
 }
 
-static void readings(void)
-{
-    static const struct {
-        uint32_t p, residue;
-        int32_t record;
-    } table[] = {{2, 0, 0}, {2, 1, 1}, {3, 1, 1}, {3, 2, -1}, {7, 3, 3}, {7, 4, -3}, {7, 6, -1}, {2147483647, 0, 0},
-                 {2147483647, 1073741823, 1073741823}, {2147483647, 1073741824, -1073741823}, {2147483647, 2147483646, -1}};
-    static const struct {
-        uint32_t p;
-        int32_t record;
-    } outside[] = {{2, -1}, {2, 2}, {7, 4}, {7, -4}, {2147483647, 1073741824}, {2147483647, -1073741824},
-                   {2147483647, INT32_MIN}, {2147483647, INT32_MAX}, {2, INT32_MIN}};
-    for (size_t i = 0; i < LEN(table); i++) {
-        int32_t record = 55;
-        uint32_t residue = 55;
-        const uint32_t p = table[i].p, low = DAUNEROAD_LOW(p);
-        EXPECT(dauneroad_signed(p, low, table[i].residue, &record) == 0);
-        EXPECT(record == table[i].record);
-        EXPECT(dauneroad_residue(p, low, table[i].record, &residue) == 0);
-        EXPECT(residue == table[i].residue);
-        EXPECT(dauneroad_signed(p, low, p, &record) == DAUNEROAD_NUMBER);
-        EXPECT(dauneroad_signed(p, p, table[i].residue, &record) == DAUNEROAD_NUMBER);
-        EXPECT(record == table[i].record);
-    }
-    for (size_t i = 0; i < LEN(outside); i++) {
-        uint32_t residue = 55;
-        EXPECT(dauneroad_residue(outside[i].p, DAUNEROAD_LOW(outside[i].p), outside[i].record, &residue) == DAUNEROAD_NUMBER);
-        EXPECT(residue == 55);
-    }
-    group("signed readings, both ends of the range");
-}
-
-static void low_ends(void)
-{
-    static const struct {
-        uint32_t p, low, residue;
-        int32_t record;
-    } table[] = {{2, 0, 1, 1}, {2, 1, 1, -1}, {2, 1, 0, 0}, {7, 0, 6, 6}, {7, 1, 5, 5}, {7, 1, 6, -1}, {7, 5, 1, 1}, {7, 5, 2, -5},
-                 {7, 6, 0, 0}, {7, 6, 1, -6}, {2147483647, 0, 2147483646, 2147483646}, {2147483647, 2147483646, 1, -2147483646},
-                 {2147483647, 2147483645, 1, 1}, {2147483647, 2147483645, 2, -2147483645}, {2147483647, 1, 2147483645, 2147483645}};
-    static const struct {
-        uint32_t p, low;
-        int32_t record;
-    } outside[] = {{2, 0, -1}, {2, 1, 1}, {7, 0, 7}, {7, 0, -1}, {7, 6, 1}, {7, 6, -7}, {7, 7, -1}, {7, 4294967295, -1},
-                   {2147483647, 0, -1}, {2147483647, 0, 2147483647}, {2147483647, 2147483646, 1},
-                   {2147483647, 2147483646, -2147483647}, {2147483647, 2147483646, INT32_MIN}, {2147483647, 2147483647, -1}};
-    for (size_t i = 0; i < LEN(table); i++) {
-        int32_t record = 55;
-        uint32_t residue = 55;
-        EXPECT(dauneroad_signed(table[i].p, table[i].low, table[i].residue, &record) == 0);
-        EXPECT(record == table[i].record);
-        EXPECT(dauneroad_residue(table[i].p, table[i].low, table[i].record, &residue) == 0);
-        EXPECT(residue == table[i].residue);
-    }
-    for (size_t i = 0; i < LEN(outside); i++) {
-        uint32_t residue = 55;
-        EXPECT(dauneroad_residue(outside[i].p, outside[i].low, outside[i].record, &residue) == DAUNEROAD_NUMBER);
-        EXPECT(residue == 55);
-    }
-    group("signed readings from 0, 1, p - 2 and p - 1");
-}
-
 int main(void)
 {
     first_table();
@@ -378,14 +373,15 @@ int main(void)
     third_table();
     small_tables();
     empty_fits();
+    checked_rows();
+    checked_tables();
+    check_order();
     moduli_and_sizes();
     frames();
     widths();
     fresh_board();
     sheet();
     sealing();
-    readings();
-    low_ends();
     printf("basic: done\n");
     return failures != 0;
 }

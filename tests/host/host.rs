@@ -3,6 +3,7 @@
 
 mod boards;
 mod calls;
+mod checks;
 mod draw;
 mod frames;
 mod histories;
@@ -13,6 +14,7 @@ mod tables;
 
 use boards::*;
 use calls::Group;
+use checks::*;
 use draw::{BAD, PRIMES, SOME_S};
 use frames::*;
 use histories::*;
@@ -33,6 +35,8 @@ fn fenced(g: &mut Group) {
         tables(g, 240, 24);
         tables_largest(g, 4);
         table_refusals(g, 1500);
+        checks(g, 120, 12);
+        checks_largest(g, 1);
         histories(g, 40, 12, 20);
         tampering(g, 1500, 8);
         histories(g, 2, 64, 20);
@@ -61,6 +65,7 @@ fn at_once(g: &mut Group) {
                 let mut g = Group::new("calls at the same time", seed);
                 histories(&mut g, 24, 12, 40);
                 tables(&mut g, 60, 12);
+                checks(&mut g, 60, 12);
                 (g.calls, g.wrong)
             })
         })
@@ -86,7 +91,7 @@ fn required() -> Vec<String> {
     required_of_boards(&mut of);
     required_of_tables(&mut of);
     let calls = ["signed", "residue", "open", "take", "withdraw", "show", "read", "write", "seal"];
-    for call in calls.into_iter().chain(["quasiinverse", "kernel", "solve", "fit"]) {
+    for call in calls.into_iter().chain(["quasiinverse", "kernel", "solve", "fit", "check"]) {
         PRIMES.iter().chain(&BAD).for_each(|p| of(call, &format!("p {p}")));
     }
     labels
@@ -173,9 +178,9 @@ fn required_of_boards(of: &mut impl FnMut(&str, &str)) {
     }
 }
 
-/// Of quasiinverse, kernel, solve and fit.
+/// Of quasiinverse, kernel, solve, fit and check.
 fn required_of_tables(of: &mut impl FnMut(&str, &str)) {
-    for call in ["quasiinverse", "kernel", "solve", "fit"] {
+    for call in ["quasiinverse", "kernel", "solve", "fit", "check"] {
         of(
             call,
             "done, 1 alone, 2 alone, 3 alone, 4 alone, 1 before 2, 1 before 3, 1 before 4, 2 before 3, 2 before 4, 3 before 4",
@@ -191,10 +196,18 @@ fn required_of_tables(of: &mut impl FnMut(&str, &str)) {
     }
     of("solve", "solved, 5, 3 u below, 3 u above");
     of("fit", "nothing left over, left over, 3 rest below, 3 rest above");
+    of("check", "3 d below, 3 d above, 4 d, 4 both, 3 a before 4 d, 3 d before 4 a, 17 alone, 18 alone, 17 before 18");
+    // 3 before 17 and 18 is none: tables of other lengths have no products to compare
+    of("check", "1 before 17, 1 before 18, 2 before 17, 2 before 18, 4 before 17, 4 before 18");
+    for place in ["17 at corner", "18 at corner"] {
+        (0..4).for_each(|corner| of("check", &format!("{place} {corner} alone, {place} {corner} alone of 64 by 64")));
+    }
+    of("check", "another in any order, another from the end, another combined, one off 17, one off 18, one off accepted");
+    of("check", "nothing left over by another, left over by another");
 }
 
 fn main() {
-    let groups: [(&'static str, &dyn Fn(&mut Group)); 24] = [
+    let groups: [(&'static str, &dyn Fn(&mut Group)); 29] = [
         ("the prime test", &|g| moduli(g, 1500)),
         ("signed readings", &readings),
         ("frames, tiny ones all", &frames_exhaustive),
@@ -226,6 +239,11 @@ fn main() {
             tampering(g, 12_000, 10);
             tampering_largest(g, 60);
         }),
+        ("checks, tiny ones all", &checks_exhaustive),
+        ("checks, one number off", &|g| checks_one_off(g, 6)),
+        ("checks, all sizes", &|g| checks(g, 120, 64)),
+        ("checks, small sizes", &|g| checks(g, 3000, 9)),
+        ("checks, 64 by 64", &|g| checks_largest(g, 12)),
         ("slices at fences, read only where read", &fenced),
     ];
     let begin = Instant::now();

@@ -7,6 +7,7 @@
 #define _GNU_SOURCE
 #include "dauneroad.h"
 #include "known.h"
+#include "known_tables.h"
 
 #include <pthread.h>
 #include <signal.h>
@@ -17,14 +18,14 @@
 #include <unistd.h>
 
 #define WORDS DAUNEROAD_BOARD_WORDS(N, s)
-#define BOARD_STACK 49152        /* the most bytes that take, withdraw, show, kernel, solve and fit may take */
+#define BOARD_STACK 49152        /* the most bytes that take, withdraw, show, kernel, solve, fit and check may take */
 #define QUASIINVERSE_STACK 73728 /* the same for quasiinverse */
 #define OTHER_STACK 8192         /* and for the others */
 #define THREAD 8192              /* what the thread needs itself */
 #define LARGE 262144
 #define FENCE 1048576
 
-/* ---- the cases: what is made ready, the call, and what must then hold ---- */
+/* ---- the cases: what is made ready, the call, and what must then hold; those on tables are in known_tables.h ---- */
 
 static uint32_t call_open(void) { return dauneroad_open(P, N, s, board, WORDS); }
 static uint32_t call_take(void) { return dauneroad_take(board, WORDS, frame, frame_len, mix, N); }
@@ -39,13 +40,6 @@ static uint32_t call_write(void)
 static uint32_t call_seal(void) { return dauneroad_seal(P, N, s, DAUNEROAD_LOW(P), records, N * s, rows[63], N, got, s); }
 static uint32_t call_signed(void) { return dauneroad_signed(P, DAUNEROAD_LOW(P), P / 2 + 1, &record); }
 static uint32_t call_residue(void) { return dauneroad_residue(P, DAUNEROAD_LOW(P), -(int32_t)(P / 2), &residue); }
-static uint32_t call_quasiinverse(void)
-{
-    return dauneroad_quasiinverse(P, N, N, table, N * N, out, N * N, columns, N, marks, N);
-}
-static uint32_t call_kernel(void) { return dauneroad_kernel(P, N, N, table, N * N, out, N * N); }
-static uint32_t call_solve(void) { return dauneroad_solve(P, N, N, table, N * N, w, N, z, N, u, N); }
-static uint32_t call_fit(void) { return dauneroad_fit(P, N, N, table, N * N, w, N, z, N, u, N); }
 
 static void ready_open(void) { fill(board, sizeof board); }
 static int after_open(uint32_t answer) { return answer == 0 && board_is(0); }
@@ -137,87 +131,6 @@ static int after_write_narrow(uint32_t answer)
     return answer == DAUNEROAD_DONE + 72 + s && memcmp(bytes, frame, sizeof frame) == 0;
 }
 
-static void ready_full(void)
-{
-    memcpy(table, rows, sizeof table);
-    for (int i = 0; i < N; i++)
-        w[i] = values[i][0];
-}
-static int after_quasiinverse_full(uint32_t answer)
-{
-    multiply(table, out, product);
-    return answer == DAUNEROAD_DONE + 64 && memcmp(product, unit, sizeof unit) == 0 && all(columns, N, 1) && all(marks, N, 1);
-}
-static int after_kernel_full(uint32_t answer) { return answer == DAUNEROAD_DONE && all(out, N * N, 0); }
-static int after_solve_full(uint32_t answer)
-{
-    return answer == DAUNEROAD_DONE + 64 && memcmp(z, residues[0], sizeof z) == 0 && all(u, N, 0);
-}
-
-static void ready_half(void)
-{
-    memcpy(table, half, sizeof table);
-    for (int i = 0; i < N; i++)
-        w[i] = row_times(table + i * N, residues[0], 1);
-}
-static void ready_insoluble(void)
-{
-    ready_half();
-    w[40] = plus(w[40], 1);
-    w[63] = plus(w[63], 1);
-}
-static int after_quasiinverse_half(uint32_t answer)
-{
-    static uint32_t again[N * N];
-    multiply(table, out, product);
-    multiply(product, table, again);
-    int holds = memcmp(again, table, sizeof table) == 0;
-    for (int i = 0; i < N; i++) /* nothing outside the first 32 rows and columns, where D then is the inverse */
-        for (int j = 0; j < N; j++)
-            holds = holds && (out[i * N + j] == 0 || (i < 32 && j < 32));
-    return holds && answer == DAUNEROAD_DONE + 32 && all(columns, 32, 1) && all(columns + 32, 32, 0) && all(marks, 32, 1) &&
-           all(marks + 32, 32, 0);
-}
-static int after_kernel_half(uint32_t answer)
-{
-    int holds = answer == DAUNEROAD_DONE + 32 && all(out + 32 * N, 32 * N, 0);
-    for (int v = 0; v < 32; v++) {
-        for (int j = 32; j < N; j++)
-            holds = holds && out[v * N + j] == (j == v + 32);
-        for (int i = 0; i < N; i++)
-            holds = holds && row_times(table + i * N, out + v * N, 1) == 0;
-    }
-    return holds;
-}
-static int after_solve_half(uint32_t answer)
-{
-    int holds = answer == DAUNEROAD_DONE + 32 && all(u, N, 0) && all(z + 32, 32, 0);
-    for (int i = 0; i < N; i++)
-        holds = holds && row_times(table + i * N, z, 1) == w[i];
-    return holds;
-}
-static int after_insoluble(uint32_t answer)
-{
-    int holds = answer == DAUNEROAD_INSOLUBLE && untouched(z, N) && row_times(u, w, 1) != 0;
-    for (int i = 32; i < N; i++)
-        holds = holds && u[i] == (i == 40);
-    for (int j = 0; j < N; j++)
-        holds = holds && row_times(u, table + j, N) == 0;
-    return holds;
-}
-
-/* the two rows that were made to differ are outside J: all of that is left over, and nothing else */
-static int after_left_over(uint32_t answer)
-{
-    int holds = answer == DAUNEROAD_DONE + 32 && all(z + 32, 32, 0);
-    for (int i = 0; i < N; i++)
-        holds = holds && u[i] == (i == 40 || i == 63) && plus(row_times(table + i * N, z, 1), u[i]) == w[i];
-    return holds;
-}
-
-static void ready_zero(void) { memset(table, 0, sizeof table), memset(w, 0, sizeof w); }
-static int after_kernel_zero(uint32_t answer) { return answer == DAUNEROAD_DONE + 64 && memcmp(out, unit, sizeof unit) == 0; }
-
 typedef struct {
     const char *name;
     void (*ready)(void);
@@ -259,6 +172,10 @@ static const Case cases[] = {
     {"fit-rank-64", ready_full, call_fit, after_solve_full, BOARD_STACK, 1},
     {"fit-rank-32", ready_half, call_fit, after_solve_half, BOARD_STACK, 1},
     {"fit-left-over", ready_insoluble, call_fit, after_left_over, BOARD_STACK, 1},
+    {"check-rank-64", ready_check_full, call_check, after_check_full, BOARD_STACK, 1},
+    {"check-rank-32", ready_check_half, call_check, after_check_half, BOARD_STACK, 1},
+    {"check-not-inner", ready_not_inner, call_check, after_not_inner, BOARD_STACK, 1},
+    {"check-not-outer", ready_not_outer, call_check, after_not_outer, BOARD_STACK, 1},
 };
 
 /* ---- the threads ---- */

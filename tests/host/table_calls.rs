@@ -19,6 +19,7 @@ extern "C" {
         p: u32, m: u32, n: u32, a: *const u32, a_len: usize, w: *const u32, w_len: usize, z: *mut u32, z_len: usize,
         rest: *mut u32, rest_len: usize,
     ) -> u32;
+    fn dauneroad_check(p: u32, m: u32, n: u32, a: *const u32, a_len: usize, d: *const u32, d_len: usize) -> u32;
 }
 
 pub struct Quasi {
@@ -143,6 +144,34 @@ pub fn fit(g: &mut Group, t: &Given, w: &[u32], z_len: usize, rest_len: usize) -
     system(g, ("fit", dauneroad_fit, model::fit), t, w, (z_len, rest_len))
 }
 
+/// Check is lent two tables and writes to neither.
+pub fn check(g: &mut Group, t: &Given, d: &[u32]) -> u32 {
+    let (p, m, n) = (t.p, t.m, t.n);
+    let a = Lent::read_only(&mut g.rng, &t.a);
+    let lent_d = Lent::read_only(&mut g.rng, d);
+    let want = model::check(p, m, n, &t.a, d);
+    let got = unsafe { dauneroad_check(p, m, n, a.ptr(), a.len(), lent_d.ptr(), lent_d.len()) };
+    g.calls += 1;
+    g.demand(got == want && a.untouched() && lent_d.untouched(), || {
+        let guards = (a.untouched(), lent_d.untouched());
+        format!("check(p {p}, m {m}, n {n}, a {:?}, d {d:?}): library {got} guards {guards:?}, document {want}", t.a)
+    });
+    got
+}
+
+/// Check of two tables in one memory: A begins it, and D begins `at` words further on. What is only read may overlap.
+pub fn check_within(g: &mut Group, (p, m, n): (u32, u32, u32), words: &[u32], at: usize) -> u32 {
+    let size = m as usize * n as usize;
+    let lent = Lent::read_only(&mut g.rng, words);
+    let want = model::check(p, m, n, &words[..size], &words[at..at + size]);
+    let got = unsafe { dauneroad_check(p, m, n, lent.ptr(), size, lent.ptr().add(at), size) };
+    g.calls += 1;
+    g.demand(got == want && lent.untouched(), || {
+        format!("check(p {p}, m {m}, n {n}) within {words:?}, D at {at}: library {got}, document {want}")
+    });
+    got
+}
+
 /// Calls whose slices are all empty, with nothing behind their pointers.
 pub fn empty_slices(g: &mut Group) {
     let none = std::ptr::NonNull::<u32>::dangling().as_ptr();
@@ -152,9 +181,15 @@ pub fn empty_slices(g: &mut Group) {
             dauneroad_kernel(7, 0, 0, none, 0, none, 0),
             dauneroad_solve(7, 0, 0, none, 0, none, 0, none, 0, none, 0),
             dauneroad_fit(7, 0, 0, none, 0, none, 0, none, 0, none, 0),
+            dauneroad_check(7, 0, 0, none, 0, none, 0),
+            dauneroad_check(7, 64, 0, none, 0, none, 0),
+            dauneroad_check(7, 0, 64, none, 0, none, 0),
+            dauneroad_check(7, 1, 1, none, 0, none, 0),
+            dauneroad_check(7, 65, 0, none, 0, none, 0),
+            dauneroad_check(9, 0, 65, none, 0, none, 0),
         ]
     };
-    let want = [200; 4];
+    let want = [200, 200, 200, 200, 200, 200, 200, 3, 2, 1];
     g.calls += want.len() as u64;
     g.demand(got == want, || format!("empty slices: library {got:?}, document {want:?}"));
 }

@@ -1,6 +1,7 @@
-//! Quasiinverse, kernel, solve and fit.
+//! Quasiinverse, kernel, solve and fit, and check of what quasiinverse leaves; check of other tables is in checks.rs.
 
 use crate::calls::Group;
+use crate::checks::any_d;
 use crate::draw::*;
 use crate::model::{self, Table};
 use crate::table_calls::{self as calls, Given};
@@ -13,7 +14,7 @@ pub struct Whole {
     systems: Vec<(u32, Vec<u32>)>,
 }
 
-/// Quasiinverse, kernel, solve and fit of one table, and what must hold of their results whatever the model says.
+/// Quasiinverse, kernel, solve, fit and check of one table, and what must hold of their results whatever the model says.
 pub fn whole_table(g: &mut Group, t: &Given, sides: &[Vec<u32>]) -> Whole {
     let (q, m, n) = (t.p as u64, t.m as usize, t.n as usize);
     let a = model::rows_of(m, n, &t.a);
@@ -27,6 +28,7 @@ pub fn whole_table(g: &mut Group, t: &Given, sides: &[Vec<u32>]) -> Whole {
     let marked = ones(&found.columns) == rank && ones(&found.rows) == rank;
     let confined = (0..n).all(|j| (0..m).all(|i| d[j][i] == 0 || found.columns[j] == 1 && found.rows[i] == 1));
     g.demand(marked && confined, || format!("marks and D do not agree: {:?} modulo {q}", t.a));
+    passes(g, t, &found.d, found.number);
 
     let (vectors, basis) = calls::kernel(g, t, n * n);
     let vectors = vectors.wrapping_sub(200) as usize;
@@ -38,6 +40,13 @@ pub fn whole_table(g: &mut Group, t: &Given, sides: &[Vec<u32>]) -> Whole {
 
     let systems = sides.iter().map(|w| whole_system(g, t, &a, &found, w)).collect();
     Whole { columns: found.columns, rows: found.rows, vectors: vectors as u32, systems }
+}
+
+/// Check accepts D of A, and A of D, with this number: D is a quasiinverse of A, and so is A of D.
+pub fn passes(g: &mut Group, t: &Given, d: &[u32], number: u32) {
+    let turned = Given { p: t.p, m: t.n, n: t.m, a: d.to_vec() };
+    let got = [calls::check(g, t, d), calls::check(g, &turned, &t.a)];
+    g.demand(got == [number; 2], || format!("check answers {got:?} for {:?} and {d:?} modulo {}, not {number}", t.a, t.p));
 }
 
 /// Solve and fit of one right side of a table, whose quasiinverse is known. Answers solve's number and fit's z.
@@ -67,7 +76,7 @@ fn whole_system(g: &mut Group, t: &Given, a: &Table, found: &calls::Quasi, side:
 }
 
 /// A x.
-fn image(q: u64, a: &Table, x: &[u64]) -> Vec<u64> {
+pub fn image(q: u64, a: &Table, x: &[u64]) -> Vec<u64> {
     a.iter().map(|row| model::dot(q, row.iter().copied(), x.iter().copied())).collect()
 }
 
@@ -181,6 +190,7 @@ pub fn table_refusals(g: &mut Group, rounds: usize) {
         let a = table(&mut g.rng, p, m, n);
         let mut t = Given { p, m: m as u32, n: n as u32, a };
         let mut w = right_side(&mut g.rng, &t);
+        let mut sent = any_d(&mut g.rng, &t);
         if g.rng.once_in(4) {
             t.p = any_bad_p(&mut g.rng);
         }
@@ -197,6 +207,7 @@ pub fn table_refusals(g: &mut Group, rounds: usize) {
                 (m, n) = (t.m as usize, t.n as usize);
                 t.a.resize(m * n, 0);
                 w.resize(m, 0);
+                sent.resize(n * m, 0);
             }
         }
         if !t.a.is_empty() && g.rng.once_in(3) {
@@ -207,6 +218,13 @@ pub fn table_refusals(g: &mut Group, rounds: usize) {
         if !w.is_empty() && g.rng.once_in(3) {
             let at = g.rng.below(w.len());
             w[at] = too_large(&mut g.rng, t.p);
+        }
+        if !sent.is_empty() && g.rng.once_in(3) {
+            let any = g.rng.below(sent.len());
+            let at = g.rng.pick(&[0, sent.len() - 1, any]);
+            // every other time one that is right but for p
+            let more = sent[at].saturating_add(t.p);
+            sent[at] = if g.rng.once_in(2) { more } else { too_large(&mut g.rng, t.p) };
         }
         let a_len = length(&mut g.rng, m * n);
         t.a.resize(a_len, 0);
@@ -220,5 +238,8 @@ pub fn table_refusals(g: &mut Group, rounds: usize) {
         calls::solve(g, &t, &w, z_len, u_len);
         let (z_len, rest_len) = (length(&mut g.rng, n), length(&mut g.rng, m));
         calls::fit(g, &t, &w, z_len, rest_len);
+        let sent_len = length(&mut g.rng, n * m);
+        sent.resize(sent_len, 0);
+        calls::check(g, &t, &sent);
     }
 }

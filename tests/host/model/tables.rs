@@ -1,4 +1,4 @@
-//! Tables: quasiinverse, kernel, solve and fit.
+//! Tables: quasiinverse, kernel, solve, fit and check.
 
 use super::field::{dot, inverse};
 use super::met::{first, lengths, met, no_modulus, note_size};
@@ -85,14 +85,18 @@ fn mark(chosen: &[usize], to: &mut [u32]) {
     }
 }
 
-/// Checks 1, 2, 3, 4 of the table calls. The first slice is A, and `w` comes after it.
-fn table_refusal(call: &str, p: u32, m: u32, n: u32, a: &[u32], w: &[u32], slices: &[(&str, usize, u128)]) -> Option<u32> {
+/// Checks 1, 2, 3, 4 of the table calls, and those that a call has after them. The first slice is A; `second`, a name and its numbers,
+/// is the other one whose numbers are checked.
+#[rustfmt::skip]
+fn table_refusal(
+    call: &str, (p, m, n): (u32, u32, u32), a: &[u32], second: (&str, &[u32]), slices: &[(&str, usize, u128)], after: &[(u32, bool)],
+) -> Option<u32> {
     note_size(call, "m", p, m);
     note_size(call, "n", p, n);
     let in_a = a.iter().any(|&x| x >= p);
-    let in_w = w.iter().any(|&x| x >= p);
-    let number =
-        first(call, &[(1, no_modulus(call, p)), (2, m > 64 || n > 64), (3, lengths(call, slices)), (4, in_a || in_w)])?;
+    let in_second = second.1.iter().any(|&x| x >= p);
+    let four = [(1, no_modulus(call, p)), (2, m > 64 || n > 64), (3, lengths(call, slices)), (4, in_a || in_second)];
+    let number = first(call, &[&four, after].concat())?;
     match number {
         2 => met(
             call,
@@ -106,12 +110,10 @@ fn table_refusal(call: &str, p: u32, m: u32, n: u32, a: &[u32], w: &[u32], slice
         ),
         4 => met(
             call,
-            if in_a && in_w {
-                "4 both"
-            } else if in_a {
-                "4 a"
+            &if in_a && in_second {
+                "4 both".to_string()
             } else {
-                "4 w"
+                format!("4 {}", if in_a { "a" } else { second.0 })
             },
         ),
         _ => {}
@@ -132,7 +134,7 @@ pub fn quasiinverse(p: u32, m: u32, n: u32, a: &[u32], d: &mut [u32], columns: &
     let size = m as u128 * n as u128;
     let slices =
         [("a", a.len(), size), ("d", d.len(), size), ("columns", columns.len(), n as u128), ("rows", rows.len(), m as u128)];
-    if let Some(number) = table_refusal("quasiinverse", p, m, n, a, &[], &slices) {
+    if let Some(number) = table_refusal("quasiinverse", (p, m, n), a, ("", &[]), &slices, &[]) {
         return number;
     }
     let q = quasi(p as u64, m as usize, n as usize, &rows_of(m as usize, n as usize, a));
@@ -145,7 +147,7 @@ pub fn quasiinverse(p: u32, m: u32, n: u32, a: &[u32], d: &mut [u32], columns: &
 
 pub fn kernel(p: u32, m: u32, n: u32, a: &[u32], basis: &mut [u32]) -> u32 {
     let slices = [("a", a.len(), m as u128 * n as u128), ("basis", basis.len(), n as u128 * n as u128)];
-    if let Some(number) = table_refusal("kernel", p, m, n, a, &[], &slices) {
+    if let Some(number) = table_refusal("kernel", (p, m, n), a, ("", &[]), &slices, &[]) {
         return number;
     }
     let (q, m, n) = (p as u64, m as usize, n as usize);
@@ -164,7 +166,7 @@ pub fn kernel(p: u32, m: u32, n: u32, a: &[u32], basis: &mut [u32]) -> u32 {
 fn system(call: &str, p: u32, m: u32, n: u32, a: &[u32], w: &[u32], z: usize, last: (&str, usize)) -> Result<System, u32> {
     let slices =
         [("a", a.len(), m as u128 * n as u128), ("w", w.len(), m as u128), ("z", z, n as u128), (last.0, last.1, m as u128)];
-    if let Some(number) = table_refusal(call, p, m, n, a, w, &slices) {
+    if let Some(number) = table_refusal(call, (p, m, n), a, ("w", w), &slices, &[]) {
         return Err(number);
     }
     let (q, m, n) = (p as u64, m as usize, n as usize);
@@ -218,4 +220,61 @@ pub fn fit(p: u32, m: u32, n: u32, a: &[u32], w: &[u32], z: &mut [u32], rest: &m
     }
     met("fit", if t.image == t.w { "nothing left over" } else { "left over" });
     200 + t.rank
+}
+
+/// #113: "Accept D exactly if ADA = A and DAD = D, and give the rank .. Order: 1, 2, 3, 4 (A, then D), then the new two as numbered."
+pub fn check(p: u32, m: u32, n: u32, a: &[u32], d: &[u32]) -> u32 {
+    let size = m as u128 * n as u128;
+    let slices = [("a", a.len(), size), ("d", d.len(), size)];
+    // worked out wherever there are two tables to multiply, refused or not, to see that 17 and 18 come after the other checks
+    let there = p > 0 && m < 100 && n < 100 && slices.iter().all(|slice| slice.1 as u128 == size);
+    let (inner, outer) = if there { differences(p, m as usize, n as usize, a, d) } else { (Vec::new(), Vec::new()) };
+    let after = [(17, !inner.is_empty()), (18, !outer.is_empty())];
+    if let Some(number) = table_refusal("check", (p, m, n), a, ("d", d), &slices, &after) {
+        match number {
+            3 => note_crossed(p, (a, a.len() as u128 == size), (d, d.len() as u128 == size)),
+            17 => note_place(17, m, n, &inner),
+            18 => note_place(18, n, m, &outer),
+            _ => {}
+        }
+        return number;
+    }
+    let rank = reduce(p as u64, &mut rows_of(m as usize, n as usize, a), n as usize).len();
+    note_done("check", m, n, rank);
+    200 + rank as u32
+}
+
+/// The places where ADA differs from A modulo p, and those where DAD differs from D.
+fn differences(p: u32, m: usize, n: usize, a: &[u32], d: &[u32]) -> (Vec<usize>, Vec<usize>) {
+    let (q, a, d) = (p as u64, rows_of(m, n, a), rows_of(n, m, d));
+    let ad = product(q, &a, &d, m);
+    let places = |x: Table, y: &Table| {
+        let pairs = x.iter().flatten().zip(y.iter().flatten()).enumerate();
+        pairs.filter(|(_, (x, y))| **x != **y % q).map(|(at, _)| at).collect()
+    };
+    (places(product(q, &ad, &a, n), &a), places(product(q, &d, &ad, m), &d))
+}
+
+/// Notes a 3 where one table has the wrong length and the other one a bad number. Each comes with whether its length is right.
+fn note_crossed(p: u32, a: (&[u32], bool), d: (&[u32], bool)) {
+    let bad = |list: &[u32]| list.iter().any(|&x| x >= p);
+    match ((a.1, bad(a.0)), (d.1, bad(d.0))) {
+        ((false, false), (true, true)) => met("check", "3 a before 4 d"),
+        ((true, true), (false, false)) => met("check", "3 d before 4 a"),
+        _ => {}
+    }
+}
+
+/// Notes where a 17 or 18 is about one corner alone of a table of so many rows, more than one, and so wide.
+fn note_place(number: u32, rows: u32, width: u32, places: &[usize]) {
+    if let ([at], true) = (places, rows > 1 && width > 1) {
+        let last = (rows * width) as usize - 1;
+        let corners = [0, width as usize - 1, last + 1 - width as usize, last];
+        if let Some(corner) = corners.iter().position(|corner| corner == at) {
+            met("check", &format!("{number} at corner {corner} alone"));
+            if last == 4095 {
+                met("check", &format!("{number} at corner {corner} alone of 64 by 64"));
+            }
+        }
+    }
 }

@@ -57,7 +57,7 @@ returns c =
     let k = looked (c .before) in
     let t = turn k in
     tells-no
-    (λ all. guard-taken (k .row-kept .ensures) (c .if1 .taken) (rw (rooms t .through-long) (all (t .before .loop .i) (t .loop-test .taken))))
+    (λ all. guard-taken (k .row-kept .ensures) (c .if1 .taken) (rw (rooms t .through-long) (all _ (omega (arith, t .loop-test .taken)))))
 
 add-i : tie.Need-add-i Inv-loop μ-loop
 add-i c = let t = turn (looked (c .before)) in omega (arith, t .loop-test .taken, start t .pre .0 .m-most)
