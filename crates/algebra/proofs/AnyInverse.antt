@@ -1,17 +1,18 @@
 -- What every quasiinverse D of A gives, on whatever rows and columns it was made: D w decides the system A x = w, for which A D A = A
--- is enough, and D has the rank of A. For A = A (D A), so that A and D A have the same row space; in the same way D and D A have the
+-- is enough, and nothing less, and D has the rank of A. For A = A (D A), so that A and D A have the same row space; in the same way D and D A have the
 -- same column space. Where A D A = A alone holds, D A D is a quasiinverse.
-use mathlib.Core.Path.{_≡_, sym, ap, _∙_, subst}
+use mathlib.Core.Path.{_≡_, sym, ap, _∙_, fun-ext, subst}
 use mathlib.Core.Logic.{_↔_}
 use Prim.Native.Nat.{ℕ, _<_}
 use Rattle.algebra.specs.Ring.{Ring, IsCommutativeRing, IsField}
-use Rattle.algebra.specs.Matrix.{Vector, Matrix, product, apply, transpose}
+use Rattle.algebra.specs.Matrix.{Vector, Matrix, Sized, unit, product, apply, transpose}
 use Rattle.algebra.specs.Span.{IsCombination, Solves}
 use Rattle.algebra.specs.Quasiinverse.{Absorbs, IsQuasiinverse}
 use Rattle.algebra.specs.Chosen.{DecidesCombinations, chosenColumns, rank}
 use Rattle.algebra.specs.Solve.{remainder}
 use Rattle.algebra.proofs.Matrices as matrices
-use Rattle.algebra.proofs.Applied.{product-row}
+use Rattle.algebra.proofs.Applied.{product-row, apply-unit}
+use Rattle.algebra.proofs.Sized.{absorbs-inside}
 use Rattle.algebra.proofs.Transpose.{transpose-product, absorbs-transposed}
 use Rattle.algebra.proofs.Unique.{absorbs-left}
 use Rattle.algebra.proofs.Solve.{candidate-solves}
@@ -28,6 +29,16 @@ module _ (R : Ring) (L : IsCommutativeRing R) {m n : ℕ} {A D : Matrix R} (E : 
     (λ h. (apply R m D w, λ i l. zero-remainder R L n A (apply R m D w) w i (h i l))),
     (λ (x, s) i l. remainder-zero R L n A (apply R m D w) w i (candidate-solves R L E x w s i l)),
   )
+
+module _ (R : Ring) (L : IsCommutativeRing R) {m n : ℕ} {A : Matrix R} (sA : Sized R m n A) (D : Matrix R) where
+  -- and no D without A D A = A solves every system that has a solution, as the columns of A show
+  pub solves-absorbs : ((x : Vector R) → Solves R m n A (apply R m D (apply R n A x)) (apply R n A x)) → Absorbs R m n A D
+  unfolding product apply
+  solves-absorbs h =
+      absorbs-inside R L sA D
+      (λ i c k l.
+      let column : apply R n A (λ t. unit R t c) ≡ (λ s. A s c) = fun-ext (λ s. apply-unit R L n A s c l) in
+      subst (λ w. apply R n A (apply R m D w) i ≡ w i) column (h (λ t. unit R t c) i k))
 
 -- ---- an inner inverse D makes a quasiinverse D A D
 

@@ -72,6 +72,7 @@ every-below (suc n) f t k h =
     let (before, last) = both (everyBelow n f) (f n) t in
     ⊎-elim (λ e. ap f e ∙ last) (λ l. every-below n f before k l) (eq-or-lt-of-le (le-of-suc-le-suc h))
 
+-- and back
 pub below-every : (n : ℕ) (f : ℕ → Bool) → ((k : ℕ) → k < n → f k ≡ true) → everyBelow n f ≡ true
 unfolding everyBelow _and_
 below-every zero f h = refl

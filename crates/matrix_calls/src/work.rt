@@ -5,13 +5,26 @@ ghost use lib.ListN.{length};
 ghost use Rattle.checks.specs.Prime.{IsModulus};
 ghost use Rattle.matrix.specs.Calls.{tableRank};
 ghost use Rattle.matrix.specs.Told.{tableTold};
-ghost use Rattle.matrix.specs.Parts.{Checked, InverseRoom, StoresInverse, StoresBasis, System, StoresFit, IsSolution};
+ghost use Rattle.matrix.specs.Parts.{plain, Checked, InverseRoom, StoresInverse, StoresBasis, System, StoresFit, IsSolution};
 use checks::Refusal;
 use matrix::TableAnswer;
 use matrix::parts;
 use matrix_echelon::Grid;
 use matrix_echelon::forward;
 use matrix_echelon::reduced;
+
+// The table as it stands, for the eliminations, which read it in place.
+fn plain_grid(m: usize, n: usize) -> Grid
+    ensures { λ r. ⌜ r ≡ plain m n ⌝ }
+{
+    Grid {
+        start: 0,
+        down: n,
+        along: 1,
+        rows: m,
+        columns: n,
+    }
+}
 
 // D, I and J of the table in lent memory, and its rank.
 pub fn invert_ranked(
@@ -38,13 +51,7 @@ pub fn kernel_of(p: u32, m: usize, n: usize, a: &[u32], basis: &mut [u32]) -> u3
     requires { ⌜ Checked p m n (now a) × (length (now basis) ≡ n * n) ⌝ }
     ensures { λ r. ⌜ ((ok : IsModulus p) → StoresBasis p ok m n (now (a .entry)) (now (basis .exit)) r) ⌝ }
 {
-    let plain = Grid {
-        start: 0,
-        down: n,
-        along: 1,
-        rows: m,
-        columns: n,
-    };
+    let plain = plain_grid(m, n);
     let mut e = words::wide_table();
     let mut pivots = words::row_room();
     let rank = reduced::reduced(p, plain, a, a, 0, 0, &mut e, &mut pivots);
@@ -66,13 +73,7 @@ pub fn fit_of(
     ensures { λ r.
         ⌜ ((ok : IsModulus p) → StoresFit p ok m n (now (a .entry)) (now (w .entry)) r (now (z .exit)) (now (rest .exit))) ⌝ }
 {
-    let plain = Grid {
-        start: 0,
-        down: n,
-        along: 1,
-        rows: m,
-        columns: n,
-    };
+    let plain = plain_grid(m, n);
     let rank = reduced::solution(p, plain, a, w, 1, z);
     if rank == m {
         words::clear(rest);
@@ -131,12 +132,6 @@ pub fn rank_of(p: u32, m: usize, n: usize, a: &[u32]) -> u32
     requires { ⌜ Checked p m n (now a) ⌝ }
     ensures { λ r. ⌜ ((ok : IsModulus p) → r ≡ tableRank p ok m n (now (a .entry))) ⌝ }
 {
-    let plain = Grid {
-        start: 0,
-        down: n,
-        along: 1,
-        rows: m,
-        columns: n,
-    };
+    let plain = plain_grid(m, n);
     forward::rank(p, plain, a) as u32
 }
