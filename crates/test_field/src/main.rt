@@ -5,7 +5,8 @@
 //
 // The file `stdout` has the lines that document 01 gives, worked out from it, and what that script counts, and nothing from a run:
 // - "Examples", its line "Modulus: ..", with neighbours of the numbers there: `modulus P yes` or `modulus P no`.
-// - "What is handed back on refusal", the column "Returned": `refusal K` for each kind, in the table's order.
+// - "What is handed back on refusal", the column "Returned": `refusal K` for each kind, in the table's order, then document 02's 12,
+//   17 and 18.
 // - "The field and the tables", its paragraph "Signed reading of a residue v": `signed P V Z` and back `residue P Z V`, at both
 //   ends of the range and one beyond, with `refused N` in the last place where check 1 or check 4 stops the call. They are read
 //   with the old low end, (p - 1)/2 rounded down.
@@ -117,7 +118,7 @@ fn print_moduli() {
     print_modulus(4294967295);
 }
 
-// The kinds in the order of document 01's table.
+// The kinds in the order of document 01's table, then those of document 02 by their numbers.
 fn print_refusals() {
     print_refusal(Refusal::Modulus);
     print_refusal(Refusal::Size);
@@ -130,6 +131,9 @@ fn print_refusals() {
     print_refusal(Refusal::Conflict);
     print_refusal(Refusal::Withdrawal);
     print_refusal(Refusal::NotBoard);
+    print_refusal(Refusal::Words);
+    print_refusal(Refusal::NotInner);
+    print_refusal(Refusal::NotOuter);
 }
 
 // The residues 0, p/2, the next one where it is below p, p - 1, and p, which check 4 stops. For p = 2 and p = 3 one of them
