@@ -37,13 +37,19 @@ use Rattle.matrix.proofs.SolveCall.{solve-call-solved, solve-call-accep
 -- ---- past 1 to 4
 
 module _ (p m n : ℕ) (a d : List ℕ) where
+  -- D is a quasiinverse of A
+  abbrev Right : Type 0
+  Right = IsQuasiinverse (residues p) m n (tableOf p m n a) (tableOf p n m d)
+
   module _ (all : AllHold (pairChecks p m n a d)) where
     ok : IsModulus p
     ok = given all .0
 
-    accepted-outcome : IsInner p m n a d → IsOuter p m n a d → (q : IsModulus p) → outcome (results (tableRank p q m n a)) tt ≡ checkCall p m n a d
-    accepted-outcome i o q =
-        check-done p m n a d all i o (tableRank p q m n a) (λ r. ap (λ k. tableRank p k m n a) (modulus-prop p q r))
+    -- a quasiinverse is accepted, with the rank of the table
+    accepted-outcome : Right → (q : IsModulus p) → outcome (results (tableRank p q m n a)) tt ≡ checkCall p m n a d
+    accepted-outcome right q =
+        check-done p m n a d all (right .absorbs) (right .reflects) (tableRank p q m n a)
+        (λ r. ap (λ k. tableRank p k m n a) (modulus-prop p q r))
 
     -- what is told, by which of the two equations hold
     judged : Dec (IsInner p m n a d) → Dec (IsOuter p m n a d) → CheckJudges p m n a d (checkCall p m n a d)
@@ -62,9 +68,10 @@ module _ (p m n : ℕ) (a d : List ℕ) where
           eighteen = ((λ _. (i, f)), (λ _. refl));
         })
     judged (yes i) (yes o) =
-        subst (CheckJudges p m n a d) (accepted-outcome i o ok)
+        let right : Right = record { absorbs = i; reflects = o } in
+        subst (CheckJudges p m n a d) (accepted-outcome right ok)
         (record {
-          accepts = ((λ _. record { absorbs = i; reflects = o }), (λ _ r. omega arith));
+          accepts = ((λ _. right), (λ _ r. omega arith));
           seventeen = ((λ e. absurd (omega arith)), (λ g. absurd (g i)));
           eighteen = ((λ e. absurd (omega arith)), (λ (_, g). absurd (g o)));
         })
@@ -73,44 +80,35 @@ module _ (p m n : ℕ) (a d : List ℕ) where
     pub check-judges : CheckJudges p m n a d (checkCall p m n a d)
     check-judges = judged (absorbs? p ok m n a d) (absorbs? p ok n m d a)
 
-    -- a quasiinverse is accepted, with the rank of the table
-    pub check-accepts : IsQuasiinverse (residues p) m n (tableOf p m n a) (tableOf p n m d)
-        → (q : IsModulus p) → checkCall p m n a d ≡ outcome (results (tableRank p q m n a)) tt
-    check-accepts both q = sym (accepted-outcome (both .absorbs) (both .reflects) q)
-
   -- ---- the call
 
   -- not refused, 1 to 4 hold, and so do both equations
-  check-passed : (IsRefusal (checkCall p m n a d .told .number) → ⊥) → AllHold (pairChecks p m n a d) × IsInner p m n a d × IsOuter p m n a d
+  check-passed : (IsRefusal (checkCall p m n a d .told .number) → ⊥) → AllHold (pairChecks p m n a d) × Right
   unfolding checkCall
   check-passed =
-      in-order-elim _ _ (λ (o : Outcome (Unit {0})). (IsRefusal (o .told .number) → ⊥) → AllHold (pairChecks p m n a d) × IsInner p m n a d × IsOuter p m n a d)
+      in-order-elim _ _ (λ (o : Outcome (Unit {0})). (IsRefusal (o .told .number) → ⊥) → AllHold (pairChecks p m n a d) × Right)
       (λ (modulus, (sizes, (a-long, (d-long, (a-below, (d-below, (i, (o, _)))))))) _.
       let (k, l) = pair-given p m n a d (modulus, (sizes, (a-long, (d-long, (a-below, (d-below, tt)))))) in
-      (pair-hold p m n a d k l, i, o))
+      (pair-hold p m n a d k l, record { absorbs = i; reflects = o }))
       (λ kind _ accepted. absurd (accepted (refusal-number kind)))
 
   -- "Accept D exactly if ADA = A and DAD = D", of tables that pass 1 to 4
   pub check-exactly : (IsRefusal (checkCall p m n a d .told .number) → ⊥)
       ↔ (AllHold (pairChecks p m n a d) × IsQuasiinverse (residues p) m n (tableOf p m n a) (tableOf p n m d))
-  check-exactly = (
-    (λ accepted. let (all, i, o) = check-passed accepted in (all, record { absorbs = i; reflects = o })),
-    (λ (all, q). check-judges all .accepts .1 q),
-  )
+  check-exactly = (check-passed, λ (all, right). check-judges all .accepts .1 right)
 
   -- it tells the rank, which is D's rank too; and what D w leaves over decides the system
   pub check-call-done : (IsRefusal (checkCall p m n a d .told .number) → ⊥)
       → IsModulus p × ((q : IsModulus p) → CheckDone p m n a d q (checkCall p m n a d))
   check-call-done accepted =
-      let (all, i, o) = check-passed accepted in
-      let both : IsQuasiinverse (residues p) m n (tableOf p m n a) (tableOf p n m d) = record { absorbs = i; reflects = o } in (
+      let (all, right) = check-passed accepted in (
         ok all,
         λ q.
             record {
-              told = ap (λ (x : Outcome (Unit {0})). x .told) (sym (accepted-outcome all i o q));
-              quasiinverse = both;
-              same-rank = quasiinverse-rank (residues p) (field p q) (combinations p q) both;
-              remainder-exactly = λ w. remainder-decides (residues p) (field p q .ring) i w;
+              told = ap (λ (x : Outcome (Unit {0})). x .told) (sym (accepted-outcome all right q));
+              quasiinverse = right;
+              same-rank = quasiinverse-rank (residues p) (field p q) (combinations p q) right;
+              remainder-exactly = λ w. remainder-decides (residues p) (field p q .ring) (right .absorbs) w;
             },
       )
 
@@ -121,8 +119,8 @@ module _ (p m n : ℕ) (a d : List ℕ) where
       → remainder (residues p) n (tableOf p m n a) (apply (residues p) m (tableOf p n m d) (vectorOf p w)) (vectorOf p w) i ≡ residues p .zero)
       ↔ (IsRefusal (solveCall p m n a w z u .told .number) → ⊥)
   check-beside-solve accepted w z u w-long w-below z-long u-long =
-      let (all, i, o) = check-passed accepted in
-      let exactly = remainder-decides (residues p) (field p (ok all) .ring) i (vectorOf p w) in
+      let (all, right) = check-passed accepted in
+      let exactly = remainder-decides (residues p) (field p (ok all) .ring) (right .absorbs) (vectorOf p w) in
       let k = pair-given p m n a d (given all) .0 in
       let hs = given (system-hold p m n a w z u k (record { w-long = w-long; w-below = w-below; z-long = z-long; u-long = u-long })) in (
         (λ h. solve-call-accepts p m n a w z u hs (exactly .0 h)),
@@ -134,16 +132,12 @@ module _ (p m n : ℕ) (a d : List ℕ) where
 -- an accepted D is accepted with A as its quasiinverse, with the same answer
 pub check-turned : (p m n : ℕ) (a d : List ℕ) → (IsRefusal (checkCall p m n a d .told .number) → ⊥) → checkCall p n m d a ≡ checkCall p m n a d
 check-turned p m n a d accepted =
-    let (all, i, o) = check-passed p m n a d accepted in
+    let (all, right) = check-passed p m n a d accepted in
     let (k, l) = pair-given p m n a d (given all) in
-    let q = ok p m n a d all in
-    let turned = pair-hold p n m d a l k in
-    sym
-    (check-done p n m d a turned o i (tableRank p q m n a)
-    (λ r.
-    ap (λ x. tableRank p x m n a) (modulus-prop p q r)
-    ∙ sym (quasiinverse-rank (residues p) (field p r) (combinations p r) (record { absorbs = i; reflects = o }))))
-    ∙ accepted-outcome p m n a d all i o q
+    let q = k .is-modulus in
+    sym (accepted-outcome p n m d a (pair-hold p n m d a l k) (record { absorbs = right .reflects; reflects = right .absorbs }) q)
+    ∙ ap (λ r. outcome (results r) tt) (quasiinverse-rank (residues p) (field p q) (combinations p q) right)
+    ∙ accepted-outcome p m n a d all right q
 
 -- "Our own D always passes": with the D that quasiinverse left, check tells what quasiinverse told
 pub own-passes : (p m n : ℕ) (a d columns rows : List ℕ) → (IsRefusal (quasiinverseCall p m n a d columns rows .told .number) → ⊥)
@@ -160,7 +154,7 @@ own-passes p m n a d columns rows accepted =
       a-below = done .d-below;
     } in
     let all = pair-hold p m n a d′ k l in
-    check-accepts p m n a d′ all (done .quasiinverse) (k .is-modulus)
+    sym (accepted-outcome p m n a d′ all (done .quasiinverse) (k .is-modulus))
     ∙ ap (λ t. outcome t tt) (ap results (sym (done .is-r (k .is-modulus))) ∙ sym (done .told))
 
 -- ---- tables with no rows, and with no columns: there is one D, the empty one, and it is accepted

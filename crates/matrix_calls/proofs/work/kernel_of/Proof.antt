@@ -84,5 +84,5 @@ returns c ok =
 pub kernel-of-spec : {M : Type 1} → statement M
 kernel-of-spec =
     tie.close
-    (tie.spec plain-grid-requires wide-table-requires row-room-requires slice-aggregate-reduced slice-aggregate-reduced-2 reduced-requires slice-aggregate-rows-by-pivot rows-by-pivot-requires
-    slice-aggregate-kernel-vectors slice-aggregate-kernel-vectors-2 kernel-vectors-requires same-length returns)
+    (tie.spec plain-grid-requires wide-table-requires row-room-requires slice-aggregate-reduced slice-aggregate-reduced-2 reduced-requires
+    slice-aggregate-rows-by-pivot rows-by-pivot-requires slice-aggregate-kernel-vectors slice-aggregate-kernel-vectors-2 kernel-vectors-requires same-length returns)
