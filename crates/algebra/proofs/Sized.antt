@@ -21,7 +21,7 @@ by-size {P} i n f g = go (decLt i n)
 
 module _ (R : Ring) where
   -- entries that agree inside the sizes agree
-  pub sized-same : {m n : ℕ} {X Y : Matrix R} → Sized R m n X → Sized R m n Y → (i j : ℕ) → (i < m → j < n → X i j ≡ Y i j) → X i j ≡ Y i j
+  sized-same : {m n : ℕ} {X Y : Matrix R} → Sized R m n X → Sized R m n Y → (i j : ℕ) → (i < m → j < n → X i j ≡ Y i j) → X i j ≡ Y i j
   sized-same {m} {n} sX sY i j h =
       by-size i m
       (λ k. by-size j n (h k) (λ l. sX .columns-end i j l ∙ sym (sY .columns-end i j l)))

@@ -30,11 +30,11 @@ use Rattle.words.specs.Words.{Below, Blank}
 use Rattle.words.proofs.Parts.{taken-below, dropped-below}
 use Rattle.matrix_mul.specs.Rows.{Combinable, CombinedInto}
 use Rattle.matrix_mul.specs.Places.{place, matrixOf}
-use Rattle.matrix_check.specs.Rows.{Factors, rowTimes, Pair, RowKept, RowsKept}
+use Rattle.matrix_check.specs.Rows.{RowFactors, rowTimes, Pair, RowKept, RowsKept}
 
 -- ---- a row times a table
 
-module _ {p : ℕ} {row table out : List ℕ} (F : Factors p row table out) (cleared : List ℕ) (long : length cleared ≡ length out) where
+module _ {p : ℕ} {row table out : List ℕ} (F : RowFactors p row table out) (cleared : List ℕ) (long : length cleared ≡ length out) where
   -- the rows of the table can be combined to a row as long as out
   pub times-combinable : Combinable p row table (place 0 (length cleared)) cleared
   times-combinable =
@@ -91,7 +91,7 @@ module _ {p m n : ℕ} {a d : List ℕ} (P : Pair p m n a d) (i : ℕ) (h : i < 
   row-entry t l = part-line p a (i * n) n t l ∙ sym (row-line p a m n i t h l)
 
   -- it can be multiplied by D
-  pub first-factors : (through : List ℕ) → length through ≡ m → Factors p row d through
+  pub first-factors : (through : List ℕ) → length through ≡ m → RowFactors p row d through
   first-factors through long =
       record {
         positive = P .positive;
@@ -116,7 +116,7 @@ module _ {p m n : ℕ} {a d : List ℕ} (P : Pair p m n a d) (i : ℕ) (h : i < 
         ∙ mixed-same (residues p) n (line p row 0 1) (A i) D row-entry t
 
     -- and can be multiplied by A
-    pub second-factors : (back : List ℕ) → length back ≡ n → Factors p through a back
+    pub second-factors : (back : List ℕ) → length back ≡ n → RowFactors p through a back
     second-factors back long =
         record {
           positive = P .positive;

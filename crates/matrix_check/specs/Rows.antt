@@ -12,7 +12,7 @@ use Rattle.words.specs.Words.{Below}
 use Rattle.matrix_mul.specs.Places.{matrixOf}
 
 -- what a row times a table asks: the table has as many rows as the row has numbers, and they are as long as out
-pub record Factors (p : ℕ) (row table out : List ℕ) : Type 0 where
+pub record RowFactors (p : ℕ) (row table out : List ℕ) : Type 0 where
   pub positive : 0 < p
   pub in-range : p ≤ largestModulus
   pub few : length row ≤ longestRow

@@ -8,11 +8,11 @@ ghost use Rattle.algebra.specs.Quasiinverse.{Absorbs};
 ghost use Rattle.field.specs.Residue.{residues};
 ghost use Rattle.field.specs.Written.{numbers};
 ghost use Rattle.matrix_mul.specs.Places.{matrixOf};
-ghost use Rattle.matrix_check.specs.Rows.{Factors, rowTimes, Pair, Rooms, RowKept, RowsKept};
+ghost use Rattle.matrix_check.specs.Rows.{RowFactors, rowTimes, Pair, Rooms, RowKept, RowsKept};
 
 // The row times the table, whose rows are as long as `out`.
 fn times(p: u32, row: &[u32], table: &[u32], out: &mut [u32])
-    requires { ⌜ Factors p (now row) (now table) (now out) ⌝ }
+    requires { ⌜ RowFactors p (now row) (now table) (now out) ⌝ }
     ensures { λ _. ⌜ now (out .exit) ≡ numbers (length (now (out .entry))) (rowTimes p (now (row .entry)) (now (table .entry)) (length (now (out .entry)))) ⌝ }
 {
     words::clear(out);
