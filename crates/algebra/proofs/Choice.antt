@@ -49,3 +49,15 @@ all-below? P d (suc n) = go (all-below? P d n) (d n)
     go (no f) q = no (λ g. f (λ k h. g k (le-step h)))
     go (yes f) (no g) = no (λ a. g (a n (lt-suc-self n)))
     go (yes f) (yes q) = yes (λ k h. ⊎-elim (λ e. subst P (sym e) q) (λ l. f k l) (eq-or-lt-of-le (le-of-suc-le-suc h)))
+
+-- and where not all hold, one does not
+pub not-all-below : (P : ℕ → Type 0) → ((k : ℕ) → Dec (P k)) → (n : ℕ) → (((k : ℕ) → k < n → P k) → ⊥) → (k : ℕ) × ((k < n) × (P k → ⊥))
+not-all-below P d zero f = absurd (f (λ k h. absurd (not-suc-le-zero h)))
+not-all-below P d (suc n) f = go (d n) (not-all-below P d n)
+  where
+    go : Dec (P n) → ((((k : ℕ) → k < n → P k) → ⊥) → (k : ℕ) × ((k < n) × (P k → ⊥))) → (k : ℕ) × ((k < suc n) × (P k → ⊥))
+    go (no g) less = (n, (lt-suc-self n, g))
+    go (yes q) less =
+        let (k, (l, g)) =
+        less (λ all. f (λ k h. ⊎-elim (λ e. subst P (sym e) q) (λ l. all k l) (eq-or-lt-of-le (le-of-suc-le-suc h)))) in
+        (k, (le-step l, g))

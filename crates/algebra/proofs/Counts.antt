@@ -1,8 +1,9 @@
 -- How many members a set of positions has: sets that agree, that are put one behind the other, and that are disjoint.
 use mathlib.Core.Path.{_≡_, refl, sym, ap, _∙_}
 use mathlib.Core.Bool.{Bool, true, false}
+use mathlib.Core.Logic.{⊎-elim}
 use Prim.Native.Nat.{ℕ, suc, _+_, _-_, _<_}
-use native.Mathlib.Nat.{lt-suc-self, le-step, add-zero, add-suc, add-assoc}
+use native.Mathlib.Nat.{not-suc-le-zero, le-of-suc-le-suc, eq-or-lt-of-le, lt-suc-self, le-step, add-zero, add-suc, add-assoc}
 use native.Mathlib.Omega.{arith}
 use Rattle.algebra.specs.Choice.{choose}
 use Rattle.algebra.specs.Quasiinverse.{Marks, count, either, follow}
@@ -18,6 +19,15 @@ unfolding count
 count-same ℕ.zero I K h = refl
 count-same (suc n) I K h =
     λ i. count-same n I K (λ c l. h c (le-step l)) i + choose (h n (lt-suc-self n) i) 1 0
+
+-- a set with a member counts some
+pub count-some : (n : ℕ) (I : Marks) (c : ℕ) → c < n → I c ≡ true → 0 < count n I
+unfolding count
+count-some ℕ.zero I c h e = absurd (not-suc-le-zero h)
+count-some (suc n) I c h e =
+    ⊎-elim (λ d. let one : _≡_ {A = ℕ} (choose (I n) 1 0) 1 = ap (λ b. choose b 1 0) (ap I (sym d) ∙ e) in omega arith)
+    (λ l. omega (arith, count-some n I c l e))
+    (eq-or-lt-of-le (le-of-suc-le-suc h))
 
 -- one set behind the other
 pub count-follow : (m k : ℕ) (J K : Marks) → count (m + k) (follow m J K) ≡ count m J + count k K

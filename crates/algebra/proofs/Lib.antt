@@ -26,6 +26,8 @@ pub mod Decide
 pub mod Marked
 pub mod AnyInverse
 pub mod Settled
+pub mod First
+pub mod Clash
 pub mod Within
 pub mod NextRow
 pub mod Echelon

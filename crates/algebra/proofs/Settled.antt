@@ -1,6 +1,6 @@
 -- What all solutions of a system agree on: where it has one, x_j is the same in all of them exactly if row j of 1 - DA is
 -- zero, and then it is (Dw)_j. Otherwise adding a kernel vector gives two solutions that differ at j. The same of several right sides:
--- one row of 1 - DA decides for all of them.
+-- one row of 1 - DA decides for all of them. Whether there is a solution is decided too.
 use mathlib.Core.Path.{_≡_, refl, sym, ap, _∙_}
 use Prim.Native.Nat.{ℕ, _≤_, _<_}
 use native.Mathlib.Nat.{ne-of-lt, lt-of-lt-of-le}
@@ -118,7 +118,7 @@ module _ (R : Ring) (F : IsField R) where
 
   -- ---- several right sides: A X = W in s columns
 
-  module _ (m n s : ℕ) (A W : Matrix R) (j : ℕ) where
+  module _ (m n s : ℕ) (A W : Matrix R) where
     abbrev C : Matrix R
     C = cut R m n A
 
@@ -143,6 +143,19 @@ module _ (R : Ring) (F : IsField R) where
         solves-cut m n A (λ t. Z t w) (λ k. W k w)
         (candidate-solves R (F .ring) (S .holds .absorbs) (λ t. X t w) (λ k. W k w) (column X g w h)) i b
 
+    solves? : Dec (SolvesAll R m n s A Z W)
+    solves? =
+        all-below? (λ i. (w : ℕ) → w < s → apply R n A (λ t. Z t w) i ≡ W i w)
+        (λ i. all-below? (λ w. apply R n A (λ t. Z t w) i ≡ W i w) (λ w. F .equal? (apply R n A (λ t. Z t w) i) (W i w)) s) m
+
+    -- so whether there is a solution is decided
+    pub solvable? : Dec ((X : Matrix R) × SolvesAll R m n s A X W)
+    solvable? = go solves?
+      where
+        go : Dec (SolvesAll R m n s A Z W) → Dec ((X : Matrix R) × SolvesAll R m n s A X W)
+        go (yes g) = yes (Z, g)
+        go (no f) = no (λ (X, g). f (all-solved X g))
+
     -- D W with another solution in column u
     with-column : ℕ → Vector R → Matrix R
     with-column u x i w = choose (eqb u w) (x i) (Z i w)
@@ -155,49 +168,47 @@ module _ (R : Ring) (F : IsField R) where
         go (yes e) = rw (eq-eqb u w e) (h i b ∙ ap (W i) e)
         go (no f) = rw (ne-eqb u w f) (g i b w l)
 
-    own-column : (u : ℕ) (x : Vector R) → with-column u x j u ≡ x j
-    unfolding with-column
-    own-column u x = rw (eq-eqb u u refl)
+    -- ---- row j of the solutions
 
-    -- so what all solutions agree on in row j, those of one column agree on at j
-    pub agree-in-column : (X : Matrix R) → SolvesAll R m n s A X W → (v : Vector R) → AgreeInRow R m n s A W j v → (u : ℕ) → u < s
-        → AgreeAt R m n A (λ i. W i u) j (v u)
-    agree-in-column X g v a u h x e = sym (own-column u x) ∙ a (with-column u x) (with-solves u x (all-solved X g) e) u h
+    module _ (j : ℕ) where
+      own-column : (u : ℕ) (x : Vector R) → with-column u x j u ≡ x j
+      unfolding with-column
+      own-column u x = rw (eq-eqb u u refl)
 
-    -- row j of 1 - DA is zero: all solutions have row j of D W there, in every column
-    agree-in-row : j < n → ((c : ℕ) → c < n → kernelVector R m D C c j ≡ R .zero) → AgreeInRow R m n s A W j (Z j)
-    unfolding Z
-    agree-in-row b k X g w h = agree-if R (F .ring) (S .holds .absorbs) (λ i. W i w) j b k (λ t. X t w) (column X g w h)
+      -- so what all solutions agree on in row j, those of one column agree on at j
+      pub agree-in-column : (X : Matrix R) → SolvesAll R m n s A X W → (v : Vector R) → AgreeInRow R m n s A W j v → (u : ℕ) → u < s
+          → AgreeAt R m n A (λ i. W i u) j (v u)
+      agree-in-column X g v a u h x e = sym (own-column u x) ∙ a (with-column u x) (with-solves u x (all-solved X g) e) u h
 
-    -- whether all solutions agree in row j, and on what: one row of 1 - DA decides for every s
-    pub agree-row? : Dec ((v : Vector R) × AgreeInRow R m n s A W j v)
-    unfolding Z
-    agree-row? =
-        go (decLt 0 s) solves? (decLt j n)
-        (all-below? (λ c. kernelVector R m D C c j ≡ R .zero) (λ c. F .equal? (kernelVector R m D C c j) (R .zero)) n)
-      where
-        solves? : Dec (SolvesAll R m n s A Z W)
-        solves? =
-            all-below? (λ i. (w : ℕ) → w < s → apply R n A (λ t. Z t w) i ≡ W i w)
-            (λ i. all-below? (λ w. apply R n A (λ t. Z t w) i ≡ W i w) (λ w. F .equal? (apply R n A (λ t. Z t w) i) (W i w)) s) m
+      -- row j of 1 - DA is zero: all solutions have row j of D W there, in every column
+      agree-in-row : j < n → ((c : ℕ) → c < n → kernelVector R m D C c j ≡ R .zero) → AgreeInRow R m n s A W j (Z j)
+      unfolding Z
+      agree-in-row b k X g w h = agree-if R (F .ring) (S .holds .absorbs) (λ i. W i w) j b k (λ t. X t w) (column X g w h)
 
-        first : SolvesAll R m n s A Z W → (e : 0 < s) → Solves R m n C (λ t. Z t 0) (λ i. W i 0)
-        first g e = column Z g 0 e
+      -- whether all solutions agree in row j, and on what: one row of 1 - DA decides for every s
+      pub agree-row? : Dec ((v : Vector R) × AgreeInRow R m n s A W j v)
+      unfolding Z
+      agree-row? =
+          go (decLt 0 s) solves? (decLt j n)
+          (all-below? (λ c. kernelVector R m D C c j ≡ R .zero) (λ c. F .equal? (kernelVector R m D C c j) (R .zero)) n)
+        where
+          first : SolvesAll R m n s A Z W → (e : 0 < s) → Solves R m n C (λ t. Z t 0) (λ i. W i 0)
+          first g e = column Z g 0 e
 
-        go : Dec (0 < s) → Dec (SolvesAll R m n s A Z W) → Dec (j < n) → Dec ((c : ℕ) → c < n → kernelVector R m D C c j ≡ R .zero)
-            → Dec ((v : Vector R) × AgreeInRow R m n s A W j v)
-        go (no e) g b k = yes (Z j, λ X _ w h. absurd (omega arith))
-        go (yes e) (no f) b k = yes (Z j, λ X g. absurd (f (all-solved X g)))
-        go (yes e) (yes g) (yes b) (yes k) = yes (Z j, agree-in-row b k)
-        go (yes e) (yes g) (yes b) (no k) =
-            no
-            (λ (v, h).
-            k
-            (λ c l.
-            agree-only-if R (F .ring) (S .holds .absorbs) (λ i. W i 0) (λ t. Z t 0) (first g e) j c l (v 0)
-            (λ x q. agree-in-column Z g v h 0 e x (solves-cut m n A x (λ i. W i 0) q))))
-        go (yes e) (yes g) (no b) k =
-            no
-            (λ (v, h).
-            agree-beyond R (F .ring) (S .holds .absorbs) (λ i. W i 0) (F .one-not-zero) (λ t. Z t 0) (first g e) j (omega arith) (v 0)
-            (λ x q. agree-in-column Z g v h 0 e x (solves-cut m n A x (λ i. W i 0) q)))
+          go : Dec (0 < s) → Dec (SolvesAll R m n s A Z W) → Dec (j < n) → Dec ((c : ℕ) → c < n → kernelVector R m D C c j ≡ R .zero)
+              → Dec ((v : Vector R) × AgreeInRow R m n s A W j v)
+          go (no e) g b k = yes (Z j, λ X _ w h. absurd (omega arith))
+          go (yes e) (no f) b k = yes (Z j, λ X g. absurd (f (all-solved X g)))
+          go (yes e) (yes g) (yes b) (yes k) = yes (Z j, agree-in-row b k)
+          go (yes e) (yes g) (yes b) (no k) =
+              no
+              (λ (v, h).
+              k
+              (λ c l.
+              agree-only-if R (F .ring) (S .holds .absorbs) (λ i. W i 0) (λ t. Z t 0) (first g e) j c l (v 0)
+              (λ x q. agree-in-column Z g v h 0 e x (solves-cut m n A x (λ i. W i 0) q))))
+          go (yes e) (yes g) (no b) k =
+              no
+              (λ (v, h).
+              agree-beyond R (F .ring) (S .holds .absorbs) (λ i. W i 0) (F .one-not-zero) (λ t. Z t 0) (first g e) j (omega arith) (v 0)
+              (λ x q. agree-in-column Z g v h 0 e x (solves-cut m n A x (λ i. W i 0) q)))

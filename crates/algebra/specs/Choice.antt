@@ -1,6 +1,7 @@
 -- Choosing by a test or by a decision. A definition picks with these, and proofs go by the laws of `proofs/Choice.antt`,
 -- so that nothing computes a decision.
 use mathlib.Core.Bool.{Bool, true, false}
+use Prim.Native.Nat.{ℕ, zero, suc}
 
 -- the first of two where the test is true, else the second
 abbrev pub choose : {A : Type 0} → Bool → A → A → A
@@ -21,3 +22,8 @@ pickBy (no h) f b = b
 unfoldable pub pickType : {P : Type 0} → Dec P → (P → Type 0) → Type 0 → Type 0
 pickType (yes h) T B = T h
 pickType (no h) T B = B
+
+-- the first of k places, from t on, where the test is true, or t + k
+unfoldable pub firstFrom : (ℕ → Bool) → (t k : ℕ) → ℕ
+firstFrom f t zero = t
+firstFrom f t (suc k) = choose (f t) t (firstFrom f (suc t) k)

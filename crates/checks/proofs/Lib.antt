@@ -1,4 +1,5 @@
 pub mod InOrder
+pub mod TableSizes
 pub mod Refusals
 pub mod Trial
 pub mod Wrapped

@@ -1,7 +1,10 @@
 -- How vectors, matrices and sets of positions are written to memory: number after number, a matrix row by row. 01: entry
 -- (row i, column j) of a table stands at i × n + j; a mark is 1 for a member, else 0.
+use mathlib.Core.Bool.{not}
 use mathlib.Core.List.{List, [], _∷_}
 use Prim.Native.Nat.{ℕ, zero, suc, _*_, _/_, _%_}
+use lib.Dec.{eqb}
+use lib.ListN.{getD}
 use Rattle.algebra.specs.Choice.{choose}
 use Rattle.algebra.specs.Matrix.{Vector, Matrix}
 use Rattle.algebra.specs.Quasiinverse.{Marks}
@@ -23,3 +26,7 @@ rowsOf m n X = tabulate (m * n) (λ q. (X (q / n) (q % n)) .value)
 -- the marks of the first n positions
 abbrev pub marksOf : ℕ → Marks → List ℕ
 marksOf n I = tabulate n (λ c. choose (I c) 1 0)
+
+-- the positions that numbers mark: those whose number is not 0
+unfoldable pub marked : List ℕ → Marks
+marked xs c = not (eqb (getD xs c 0) 0)

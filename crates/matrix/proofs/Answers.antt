@@ -1,6 +1,6 @@
 -- What quasiinverse, kernel, solve, fit and check come to: the refusal by the first of their checks that fails, with all lent memory as it
 -- was, or, where the table and the memory pass, what the parts left in it.
-use mathlib.Core.Path.{_≡_, sym, subst}
+use mathlib.Core.Path.{_≡_, sym}
 use mathlib.Core.List.{List}
 use Prim.Native.Nat.{ℕ, _*_}
 use lib.ListN.{length}
@@ -9,35 +9,15 @@ use Rattle.checks.specs.declared.Refusal.the-variants.{Length, Number, NotInner
 use Rattle.checks.specs.Prime.{IsModulus}
 use Rattle.checks.specs.Told.{results}
 use Rattle.checks.specs.Outcome.{Outcome, outcome, untouched}
-use Rattle.checks.specs.declared.Verdict.{Verdict}
-use Rattle.checks.specs.declared.Verdict.the-variants as verdict
-use Rattle.checks.specs.InOrder.{Checks, Given, andThen, AllHold, FirstFailing}
-use Rattle.checks.specs.Sizes.{tableSizes, Judges}
-use Rattle.checks.proofs.InOrder.{none-left, _and-then_, _then_, fails-here, or-later, given, fails-in-front, hold-and-then, fails-then}
+use Rattle.checks.specs.InOrder.{Given, AllHold, FirstFailing}
+use Rattle.checks.specs.Sizes.{tableSizes}
+use Rattle.checks.proofs.InOrder.{none-left, _and-then_, _then_, fails-here, or-later, fails-in-front, hold-and-then, fails-then}
 use Rattle.checks.proofs.InOrder.{in-order-done, in-order-refused}
+use Rattle.checks.proofs.TableSizes.{past-sizes}
 use Rattle.words.specs.Words.{Below}
 use Rattle.matrix.specs.Calls.{tableRank, quasiinverseChecks, quasiinverseCall, kernelChecks, kernelCall, solution, systemChecks, solveCall, nearestFit, fitCall}
 use Rattle.matrix.specs.Calls.{IsInner, IsOuter, pairChecks, inverseChecks, checkCall}
 use Rattle.matrix.specs.Parts.{Checked, InverseRoom, StoresInverse, StoresBasis, System, StoresFit}
-
--- 1 and 2 hold, and then the first of the others that fails has the kind k
-pub past-sizes : {p m n : ℕ} {cs : Checks Refusal} {k : Refusal} → Given (tableSizes p m n) → FirstFailing cs k
-    → FirstFailing (andThen (tableSizes p m n) (λ _. cs)) k
-past-sizes s f = s .0 then s .1 .0 then f
-
--- 1 or 2 fails, before whatever else is checked
-pub sizes-first : {p m n : ℕ} {cs : Checks Refusal} {k : Refusal} → FirstFailing (tableSizes p m n) k
-    → FirstFailing (andThen (tableSizes p m n) (λ _. cs)) k
-sizes-first {p} {m} {n} {cs} f = fails-in-front (tableSizes p m n) (λ _. cs) f
-
--- what the function for 1 and 2 tells: they hold, or the kind of the first that fails
-module _ {p m n : ℕ} {v : Verdict} (told : Judges (tableSizes p m n) v) where
-  pub sizes-passed : v ≡ verdict.Passed → Given (tableSizes p m n)
-  sizes-passed e = given (subst (Judges (tableSizes p m n)) e told)
-
-  pub sizes-failed : {k : Refusal} {rest : Checks Refusal} → v ≡ verdict.Refused k
-      → FirstFailing (andThen (tableSizes p m n) (λ _. rest)) k
-  sizes-failed e = sizes-first (subst (Judges (tableSizes p m n)) e told)
 
 -- a table that has passed 1 to 4
 pub passes-all : {p m n : ℕ} {a : List ℕ} → Given (tableSizes p m n) → length a ≡ m * n → Below p a → Checked p m n a

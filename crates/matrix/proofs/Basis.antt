@@ -12,11 +12,11 @@ use Rattle.algebra.specs.Matrix.{Matrix}
 use Rattle.algebra.specs.Quasiinverse.{Marks, count, IsPivotInverse}
 use Rattle.checks.specs.Prime.{IsModulus}
 use Rattle.field.specs.Residue.{residues}
-use Rattle.field.specs.Written.{marksOf}
+use Rattle.field.specs.Written.{marksOf, marked}
 use Rattle.field.proofs.Totals.{total}
 use Rattle.field.proofs.Written.{length-tabulate, getD-tabulate}
 use Rattle.matrix.specs.Calls.{tableOf, columnsOf, tableRank, vectorsFrom}
-use Rattle.matrix.specs.Parts.{marked, StoresInverse, StoresBasis, KernelVectors}
+use Rattle.matrix.specs.Parts.{StoresInverse, StoresBasis, KernelVectors}
 use Rattle.matrix.proofs.Stored.{columns-are, rank-is, inverse-so, columns-many}
 use Rattle.matrix.proofs.Memory.{total-of-marks}
 use Rattle.matrix.proofs.KernelCall.{basis-parts}

@@ -24,9 +24,10 @@ use Rattle.words.specs.Words.{Below, LeastNonzero}
 use Rattle.field.proofs.Field.{residues-ring}
 use Rattle.field.proofs.Residues.{residue-path}
 use Rattle.field.proofs.Views.{table-sized}
+use Rattle.field.specs.Written.{marked}
+use Rattle.field.proofs.Written.{marked-no}
 use Rattle.matrix.specs.Calls.{tableOf, IsInner}
-use Rattle.matrix.specs.Parts.{Checked, StoresInverse, marked}
-use Rattle.matrix.proofs.Memory.{marked-no}
+use Rattle.matrix.specs.Parts.{Checked, StoresInverse}
 use Rattle.matrix.proofs.Stored.{inverted}
 use Rattle.matrix.proofs.Checker.{_and_, _implies_, everyBelow, everyPlace, isPivotInverse, both, implied, every-below, below-every, every-place, checked}
 

@@ -8,6 +8,7 @@ use Prim.Native.Nat.{ℕ, _+_, _*_}
 use lib.Dec.{eqb, ltb, leb}
 use lib.ListN.{length, getD, replicate}
 use borrow.Author.Tests.{eqb-true, ltb-true, leb-true}
+use Rattle.algebra.specs.Choice.{firstFrom}
 use Rattle.algebra.specs.Matrix.{Matrix, sum, unit, product, apply}
 use Rattle.algebra.specs.Quasiinverse.{count}
 use Rattle.algebra.specs.Kernel.{kernelVector}
@@ -15,14 +16,14 @@ use Rattle.algebra.specs.Solve.{mixOf, remainder}
 use Rattle.words.specs.Words.{Below, LeastNonzero}
 use Rattle.field.specs.Residue.{residues, reduce, _⊕_, _⊗_, negated}
 use Rattle.field.specs.View.{table}
-use Rattle.field.specs.Written.{numbers, tabulate}
+use Rattle.field.specs.Written.{numbers, tabulate, marked}
 use Rattle.checks.specs.Prime.{IsModulus}
 use Rattle.checks.specs.Told.{results}
 use Rattle.checks.specs.Outcome.{outcome}
 use Rattle.checks.specs.InOrder.{AllHold}
-use Rattle.matrix.specs.Calls.{tableOf, tableRank, vectorsFrom, firstFrom, quasiinverseCall, kernelCall, systemChecks, solveCall, fitCall, solution, vectorOf}
+use Rattle.matrix.specs.Calls.{tableOf, tableRank, vectorsFrom, quasiinverseCall, kernelCall, systemChecks, solveCall, fitCall, solution, vectorOf}
 use Rattle.matrix.specs.Calls.{pairChecks, checkCall}
-use Rattle.matrix.specs.Parts.{Checked, StoresInverse, InverseRoom, KernelVectors, StoresBasis, StoresFit, marked}
+use Rattle.matrix.specs.Parts.{Checked, StoresInverse, InverseRoom, KernelVectors, StoresBasis, StoresFit}
 use Rattle.matrix.specs.Examples.{Becomes, solvedBy, refusedBy, SystemExample, Judged, accepted, notInner, notOuter, SentExample}
 use Rattle.matrix.specs.Examples.{TableExample, tableExamples, systemOutcome, sentOutcome, Holds}
 use Rattle.matrix.proofs.Stored.{rank-is}

@@ -18,15 +18,17 @@ use Rattle.checks.specs.Largest.{largest}
 use Rattle.checks.specs.Prime.{IsModulus}
 use Rattle.field.specs.Residue.{residues, reduce}
 use Rattle.field.specs.View.{table}
+use Rattle.field.specs.Written.{marked}
 use Rattle.field.proofs.Field.{residues-ring}
+use Rattle.field.proofs.Written.{marked-no, marked-yes}
 use Rattle.matrix_echelon.specs.Grid.{gridOf, TableReadable, Readable}
 use Rattle.matrix_echelon.specs.Forward.{IsRank}
 use Rattle.matrix_echelon.specs.Reduced.{ReducedForm, RowsByPivot}
 use Rattle.matrix_echelon.proofs.Grids.{grid-table, grid-turned, readable-one}
 use Rattle.matrix_echelon.proofs.ReducedRows.{no-pivot-outside}
 use Rattle.matrix.specs.Calls.{tableOf, tableRank, inverseOf}
-use Rattle.matrix.specs.Parts.{Checked, plain, turned, marked, ReducedRows, KernelVectors, StoresBasis}
-use Rattle.matrix.proofs.Memory.{place-inside, marked-no, marked-yes}
+use Rattle.matrix.specs.Parts.{Checked, plain, turned, ReducedRows, KernelVectors, StoresBasis}
+use Rattle.matrix.proofs.Memory.{place-inside}
 use Rattle.matrix.proofs.Stored.{rank-is, inverse-so}
 use Rattle.matrix.proofs.Basis.{basis-stored}
 

@@ -22,15 +22,15 @@ use Rattle.checks.proofs.InOrder.{in-order-elim}
 use Rattle.checks.proofs.Modulus.{modulus-prop}
 use Rattle.checks.proofs.Refusals.{refusal-number}
 use Rattle.field.specs.Residue.{residues, reduce}
-use Rattle.field.specs.Written.{rowsOf, marksOf}
+use Rattle.field.specs.Written.{rowsOf, marksOf, marked}
 use Rattle.field.proofs.Residues.{reduce-value}
 use Rattle.field.proofs.Views.{table-entry, table-sized}
-use Rattle.field.proofs.Written.{length-tabulate, getD-tabulate}
+use Rattle.field.proofs.Written.{length-tabulate, getD-tabulate, marked-yes, marked-no}
 use Rattle.matrix.specs.Calls.{tableOf, columnsOf, rowMarksOf, tableRank, inverseOf, quasiinverseCall}
-use Rattle.matrix.specs.Parts.{Checked, marked}
+use Rattle.matrix.specs.Parts.{Checked}
 use Rattle.matrix.specs.Promises.{FreeMarks, QuasiinverseDone}
 use Rattle.field.proofs.Lines.{numbers-below}
-use Rattle.matrix.proofs.Memory.{marked-yes, marked-no, place-inside}
+use Rattle.matrix.proofs.Memory.{place-inside}
 use Rattle.matrix.proofs.Stored.{table-pivots}
 use Rattle.matrix.proofs.Theorems.{quasiinverse-table, inverse-table, inverse-only, rank-columns}
 use Rattle.matrix.proofs.Theorems.{chosen-columns-free, chosen-columns-depend, chosen-rows-free, chosen-rows-depend}

@@ -1,7 +1,6 @@
 pub mod Stored
 pub mod Memory
 pub mod Vectors
-pub mod First
 pub mod Theorems
 pub mod KernelCall
 pub mod Answers

@@ -2,13 +2,11 @@
 -- marks sums to the number of members, and a table times a vector, or what that leaves over of another, is made of sums of products
 -- along lines of memory.
 use mathlib.Core.Path.{_≡_, sym, ap, ap₂, _∙_, fun-ext}
-use mathlib.Core.Bool.{true, false, not}
 use mathlib.Core.List.{List}
 use Prim.Native.Nat.{ℕ, zero, suc, _+_, _*_, _-_, _/_, _%_, _≤_, _<_}
 use native.Mathlib.Nat.{zero-add, mul-zero, mod-lt, div-lt-iff-lt-mul, div-add-mod', pos-of-ne-zero, le-step, lt-suc-self, mul-le-mul}
 use native.Mathlib.Omega.{arith}
-use lib.ListN.{length, getD, take, drop, replicate, length-replicate, getD-replicate}
-use borrow.Author.Tests.{eq-eqb, ne-eqb}
+use lib.ListN.{length, getD, take, drop}
 use lib.Seq.{ext-getD}
 use Rattle.checks.specs.Largest.{largest}
 use Rattle.algebra.specs.Choice.{choose}
@@ -21,7 +19,7 @@ use Rattle.algebra.proofs.Fit.{remainder-same}
 use Rattle.field.specs.Residue.{residues, reduce, _⊕_, _⊗_, negated}
 use Rattle.field.specs.View.{line, table}
 use Rattle.field.specs.Products.{sumOfProducts}
-use Rattle.words.specs.Words.{Below, Blank}
+use Rattle.words.specs.Words.{Below}
 use Rattle.field.specs.Written.{tabulate, numbers, rowsOf, marksOf}
 use Rattle.field.proofs.Residues.{reduce-small, reduce-value}
 use Rattle.field.proofs.Totals.{total, total-zero, total-suc}
@@ -30,7 +28,6 @@ use Rattle.field.proofs.Lines.{row-inside, row-line, part-long, part-line, writ
 use Rattle.words.proofs.Walk.{Walked}
 use Rattle.field.proofs.Written.{getD-tabulate, is-tabulate}
 use Rattle.matrix.specs.Calls.{vectorOf}
-use Rattle.matrix.specs.Parts.{marked}
 
 -- numbers below p that read as the table D, n rows and m columns, are D written row by row
 pub rows-written : (p n m : ℕ) (d : List ℕ) (D : Matrix (residues p)) → Below p d → length d ≡ n * m → table p d 0 m n m ≡ D → d ≡ rowsOf n m D
@@ -45,12 +42,6 @@ rows-written p n m d D below long e = is-tabulate (n * m) _ d long (λ q h. at q
         ∙ ap (λ k. (reduce p (getD d k 0)) .value) (sym place)
         ∙ ap (λ x. x .value) (sym (table-entry p d 0 m n m (q / m) (q % m) row (mod-lt q wide)))
         ∙ ap (λ X. (X (q / m) (q % m)) .value) e
-
--- numbers that are all 0
-pub zeros-written : (k : ℕ) (xs : List ℕ) → length xs ≡ k → Blank xs → xs ≡ replicate k 0
-zeros-written k xs long z =
-    ext-getD 0 xs (replicate k 0) (long ∙ sym (length-replicate k 0))
-    (λ j h. z j ∙ sym (getD-replicate k j 0 0 (rw long at h)))
 
 -- numbers that were copied, all of them
 pub copied-whole : (n : ℕ) (xs zs : List ℕ) → length xs ≡ n → length zs ≡ n → ((j : ℕ) → j < n → getD zs j 0 ≡ getD xs (0 + j) 0) → zs ≡ xs
@@ -67,15 +58,6 @@ unfolding count
 total-of-marks zero f I h = total-zero f
 total-of-marks (suc n) f I h =
     total-suc n f ∙ ap₂ _+_ (total-of-marks n f I (λ c l. h c (le-step l))) (h n (lt-suc-self n))
-
--- a position is marked exactly if its number is not 0
-pub marked-no : (xs : List ℕ) (c : ℕ) → getD xs c 0 ≡ 0 → marked xs c ≡ false
-unfolding marked
-marked-no xs c e = ap not (eq-eqb (getD xs c 0) 0 e)
-
-pub marked-yes : (xs : List ℕ) (c : ℕ) → (getD xs c 0 ≡ 0 → ⊥) → marked xs c ≡ true
-unfolding marked
-marked-yes xs c e = ap not (ne-eqb (getD xs c 0) 0 e)
 
 -- the numbers of a list are a line of it
 pub vector-line : (p : ℕ) (w : List ℕ) → line p w 0 1 ≡ vectorOf p w

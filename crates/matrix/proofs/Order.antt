@@ -14,10 +14,11 @@ use Rattle.checks.specs.Refusal.{IsRefusal}
 use Rattle.checks.specs.Sizes.{tableSizes}
 use Rattle.checks.specs.Outcome.{Outcome, untouched}
 use Rattle.checks.proofs.InOrder.{fails-here, _then_, or-later, in-order-accepted}
+use Rattle.checks.proofs.TableSizes.{past-sizes, sizes-first}
 use Rattle.words.specs.Words.{Below}
 use Rattle.matrix.specs.Calls.{quasiinverseChecks, quasiinverseCall, kernelChecks, kernelCall, systemChecks, solveCall, nearestFit, fitCall, checkCall}
 use Rattle.matrix.specs.Parts.{InverseRoom}
-use Rattle.matrix.proofs.Answers.{past-sizes, sizes-first, system-length, system-number, quasiinverse-refused, kernel-refused, solve-refused, fit-refused}
+use Rattle.matrix.proofs.Answers.{system-length, system-number, quasiinverse-refused, kernel-refused, solve-refused, fit-refused}
 use Rattle.matrix.proofs.Answers.{pair-length, pair-number, check-refused}
 
 module _ (p m n : ℕ) (a : List ℕ) where

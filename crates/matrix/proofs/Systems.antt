@@ -16,7 +16,7 @@ use Rattle.checks.specs.Told.{results, refused}
 use Rattle.checks.specs.Outcome.{outcome}
 use Rattle.checks.specs.Prime.{IsModulus}
 use Rattle.words.specs.Words.{Blank, LeastNonzero}
-use Rattle.words.proofs.Zeros.{blank-inside}
+use Rattle.words.proofs.Zeros.{blank-inside, zeros-written}
 use Rattle.field.specs.Residue.{residues}
 use Rattle.field.specs.Written.{numbers}
 use Rattle.field.proofs.Written.{length-tabulate, is-tabulate}
@@ -27,7 +27,7 @@ use Rattle.matrix.specs.Calls.{tableOf, inverseOf, vectorOf, candidate, 
 use Rattle.matrix.specs.Parts.{plain, StoresFit}
 use Rattle.matrix.proofs.Theorems.{first-row-differs, first-row-first}
 use Rattle.matrix.proofs.SolveCall.{solution-found, solution-none}
-use Rattle.matrix.proofs.Memory.{vector-line, remainder-read, zero-written, written-zero, zeros-written}
+use Rattle.matrix.proofs.Memory.{vector-line, remainder-read, zero-written, written-zero}
 use Rattle.matrix.proofs.Grids.{plain-pivots, plain-inverse, plain-rank}
 
 -- ---- what is left over decides

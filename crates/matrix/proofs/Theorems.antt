@@ -21,11 +21,11 @@ use Rattle.algebra.proofs.Marked.{same-span-rank}
 use Rattle.algebra.proofs.Kernel.{kernel-vector-in, kernel-vector-own, kernel-spanned, kernel-spanned-once}
 use Rattle.algebra.proofs.Solve.{candidate-solves, mix-kills, mix-shows}
 use Rattle.algebra.proofs.Fit.{zero-remainder}
+use Rattle.algebra.proofs.First.{first-or-none, first-before, picked-true, picked-false}
 use Rattle.checks.specs.Prime.{IsModulus}
 use Rattle.field.specs.Residue.{residues, _⊗_}
 use Rattle.matrix.specs.Decide.{field, combinations, equal?}
 use Rattle.matrix.specs.Calls.{tableOf, columnsOf, rowMarksOf, tableRank, inverseOf, vectorOf, candidate, firstRow}
-use Rattle.matrix.proofs.First.{first-or-none, first-before, picked-true, picked-false}
 use Rattle.matrix.proofs.Stored.{table-pivots, columns-many}
 
 module _ (p : ℕ) (ok : IsModulus p) (m n : ℕ) (a : List ℕ) where

@@ -21,7 +21,7 @@ use Rattle.field.specs.Written.{numbers}
 use Rattle.field.proofs.Written.{length-tabulate}
 use Rattle.matrix.specs.Calls.{vectorsFrom}
 use Rattle.field.proofs.Lines.{row-inside}
-use Rattle.matrix.proofs.Memory.{zeros-written}
+use Rattle.words.proofs.Zeros.{zeros-written}
 
 module _ {p : ℕ} (m n : ℕ) (I : Marks) (D A : Matrix (residues p)) where
   -- the vector of column c, where it is not marked

@@ -1,10 +1,10 @@
 -- What quasiinverse, kernel, solve, fit and check answer and leave in lent memory, for every input: 01, "Quasiinverse, kernel,
 -- solution" and "What is handed back on refusal"; 02, #102 and #113.
-use mathlib.Core.Bool.{Bool, true, false}
+use mathlib.Core.Bool.{true, false}
 use mathlib.Core.List.{List, [], _++_}
 use Prim.Native.Nat.{ℕ, zero, suc, _*_, _-_}
 use lib.ListN.{getD, replicate}
-use Rattle.algebra.specs.Choice.{choose, pick}
+use Rattle.algebra.specs.Choice.{choose, pick, firstFrom}
 use Rattle.algebra.specs.Matrix.{Vector, Matrix, apply}
 use Rattle.algebra.specs.Quasiinverse.{Marks, Absorbs}
 use Rattle.algebra.specs.Chosen.{chosenColumns, chosenRows, rank}
@@ -109,11 +109,6 @@ abbrev pub systemChecks : (p m n : ℕ) (a w z u : List ℕ) → Checks Refusal
 systemChecks p m n a w z u =
     andThen (tableSizes p m n)
     (λ _. andThen (systemLengths m n a w z u) (λ _. below? p a else Number ⨾ below? p w else Number ⨾ passed))
-
--- the first of k places, from t on, where the test is true, or t + k
-unfoldable pub firstFrom : (ℕ → Bool) → (t k : ℕ) → ℕ
-firstFrom f t zero = t
-firstFrom f t (suc k) = choose (f t) t (firstFrom f (suc t) k)
 
 -- the numbers of a list as a vector
 unfoldable pub vectorOf : (p : ℕ) → List ℕ → Vector (residues p)

@@ -1,12 +1,10 @@
 -- What the parts of the calls ask and leave: leaves' contracts over tables in memory, not document 01's.
 use mathlib.Core.Path.{_≡_}
-use mathlib.Core.Bool.{not}
 use mathlib.Core.List.{List, _++_}
 use Prim.Native.Nat.{ℕ, suc, _+_, _*_, _-_, _≤_, _<_}
 use lib.ListN.{length, getD, replicate}
-use lib.Dec.{eqb}
 use Rattle.algebra.specs.Matrix.{Matrix, product}
-use Rattle.algebra.specs.Quasiinverse.{Marks, count}
+use Rattle.algebra.specs.Quasiinverse.{count}
 use Rattle.checks.specs.Largest.{largest}
 use Rattle.checks.specs.Prime.{IsModulus}
 use Rattle.checks.specs.Told.{Told}
@@ -15,7 +13,7 @@ use Rattle.words.specs.Lengths.{longestRow, widestTable}
 use Rattle.words.specs.Words.{Below}
 use Rattle.field.specs.Residue.{residues, reduce}
 use Rattle.field.specs.View.{table}
-use Rattle.field.specs.Written.{numbers, rowsOf, marksOf}
+use Rattle.field.specs.Written.{numbers, rowsOf, marksOf, marked}
 use Rattle.matrix_echelon.specs.declared.Grid.{Grid}
 use Rattle.matrix.specs.Calls.{columnsOf, rowMarksOf, tableRank, inverseOf, vectorsFrom, basisOf, candidate, leftOver, solution}
 
@@ -46,10 +44,6 @@ plain m n = record { start = 0; down = n; along = 1; rows = m; columns = n }
 
 abbrev pub turned : (m n : ℕ) → Grid
 turned m n = record { start = 0; down = 1; along = n; rows = n; columns = m }
-
--- the positions whose number is not 0
-unfoldable pub marked : List ℕ → Marks
-marked xs c = not (eqb (getD xs c 0) 0)
 
 -- e has rows of n numbers, the rows of D A that are not zeros: row j is row at[j] - 1 of e, or zeros where at[j] is 0
 pub record ReducedRows (p n : ℕ) (at e : List ℕ) : Type 0 where

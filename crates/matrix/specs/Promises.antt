@@ -18,9 +18,8 @@ use Rattle.checks.specs.Told.{results, refused}
 use Rattle.checks.specs.Outcome.{Outcome}
 use Rattle.checks.specs.Prime.{IsModulus}
 use Rattle.field.specs.Residue.{residues, _⊗_}
-use Rattle.field.specs.Written.{numbers}
+use Rattle.field.specs.Written.{numbers, marked}
 use Rattle.words.specs.Words.{Below, Blank}
-use Rattle.matrix.specs.Parts.{marked}
 use Rattle.matrix.specs.Calls.{tableOf, columnsOf, rowMarksOf, tableRank, inverseOf, vectorOf, candidate, IsInner, IsOuter}
 
 -- ---- quasiinverse

@@ -5,7 +5,7 @@ use Rattle.algebra.proofs.Answers.{guard-left, guard-taken}
 use Rattle.checks.specs.InOrder.{Given}
 use Rattle.checks.specs.Sizes.{tableSizes}
 use Rattle.checks.proofs.InOrder.{fails-here, _then_, none-left, _and-then_}
-use Rattle.matrix.proofs.Answers.{past-sizes, sizes-passed, sizes-failed}
+use Rattle.checks.proofs.TableSizes.{past-sizes, sizes-passed, sizes-failed}
 use Rattle.matrix.proofs.Memory.{table-most}
 use Rattle.matrix_calls.proofs.pair_checks.Statement.{statement}
 use Rattle.matrix_calls.proofs.pair_checks.Tie as tie

@@ -7,7 +7,8 @@ use Rattle.checks.specs.InOrder.{Given}
 use Rattle.checks.specs.Sizes.{tableSizes}
 use Rattle.checks.proofs.InOrder.{fails-here, _then_}
 use Rattle.matrix.specs.Parts.{Checked, InverseRoom}
-use Rattle.matrix.proofs.Answers.{past-sizes, passes-all, sizes-passed, sizes-failed, quasiinverse-refused, quasiinverse-done}
+use Rattle.checks.proofs.TableSizes.{past-sizes, sizes-passed, sizes-failed}
+use Rattle.matrix.proofs.Answers.{passes-all, quasiinverse-refused, quasiinverse-done}
 use Rattle.matrix.proofs.Memory.{table-most}
 use Rattle.matrix_calls.proofs.quasiinverse.Statement.{statement}
 use Rattle.matrix_calls.proofs.quasiinverse.Tie as tie

@@ -6,7 +6,8 @@ use Rattle.checks.specs.InOrder.{Given}
 use Rattle.checks.specs.Sizes.{tableSizes}
 use Rattle.checks.proofs.InOrder.{fails-here, _then_}
 use Rattle.matrix.specs.Parts.{Checked, System}
-use Rattle.matrix.proofs.Answers.{past-sizes, passes-all, sizes-passed, sizes-failed, system-hold}
+use Rattle.checks.proofs.TableSizes.{past-sizes, sizes-passed, sizes-failed}
+use Rattle.matrix.proofs.Answers.{passes-all, system-hold}
 use Rattle.matrix.proofs.Memory.{table-most}
 use Rattle.matrix_calls.proofs.system_checks.Statement.{statement}
 use Rattle.matrix_calls.proofs.system_checks.Tie as tie

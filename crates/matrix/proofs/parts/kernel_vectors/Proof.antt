@@ -7,9 +7,11 @@ use native.Mathlib.Omega.{arith}
 use lib.ListN.{length}
 use Rattle.checks.specs.Largest.{largest}
 use Rattle.algebra.specs.Quasiinverse.{count}
-use Rattle.matrix.specs.Parts.{marked, ReducedRows}
+use Rattle.matrix.specs.Parts.{ReducedRows}
+use Rattle.field.specs.Written.{marked}
+use Rattle.field.proofs.Written.{marked-no, marked-yes}
 use Rattle.field.proofs.Lines.{part-long}
-use Rattle.matrix.proofs.Memory.{table-most, marked-no, marked-yes}
+use Rattle.matrix.proofs.Memory.{table-most}
 use Rattle.matrix.proofs.Vectors.{Filled, filled-none, filled-skip, filled-vector, filled-room, filled-next, filled-long, filled-all}
 use Rattle.matrix.proofs.parts.kernel_vectors.Statement.{statement}
 use Rattle.matrix.proofs.parts.kernel_vectors.Tie as tie

@@ -5,10 +5,9 @@ use mathlib.Core.Logic.{_⊎_, inl, inr, ⊎-elim}
 use Prim.Native.Nat.{ℕ, zero, suc, _+_, _≤_, _<_}
 use native.Mathlib.Nat.{eq-or-lt-of-le}
 use native.Mathlib.Omega.{arith}
-use Rattle.algebra.specs.Choice.{choose, pick}
+use Rattle.algebra.specs.Choice.{choose, pick, firstFrom}
 use Rattle.algebra.proofs.Choice.{pick-yes, pick-no}
 use Rattle.algebra.proofs.Counts.{true-not-false}
-use Rattle.matrix.specs.Calls.{firstFrom}
 
 -- the test passes at its first place, or nowhere
 pub first-or-none : (f : ℕ → Bool) (t k : ℕ)
@@ -33,6 +32,26 @@ first-before f t (suc k) i h l = go (f t) refl l (first-before f (suc t) k i)
     go : (b : Bool) → f t ≡ b → i < choose b t (firstFrom f (suc t) k) → (suc t ≤ i → i < firstFrom f (suc t) k → f i ≡ false) → f i ≡ false
     go true e q r = absurd (omega arith)
     go false e q r = ⊎-elim (λ d. ap f (sym d) ∙ e) (λ d. r d q) (eq-or-lt-of-le h)
+
+-- it lies within the places, and the test passes there unless it is their end
+pub first-within : (f : ℕ → Bool) (t k : ℕ) → firstFrom f t k ≤ t + k
+unfolding firstFrom
+first-within f t zero = omega arith
+first-within f t (suc k) = go (f t) (first-within f (suc t) k)
+  where
+    go : (b : Bool) → firstFrom f (suc t) k ≤ suc t + k → choose b t (firstFrom f (suc t) k) ≤ t + suc k
+    go true h = omega arith
+    go false h = omega arith
+
+pub first-passes : (f : ℕ → Bool) (t k : ℕ) → firstFrom f t k < t + k → f (firstFrom f t k) ≡ true
+unfolding firstFrom
+first-passes f t zero h = absurd (omega arith)
+first-passes f t (suc k) h = go (f t) refl h (first-passes f (suc t) k)
+  where
+    go : (b : Bool) → f t ≡ b → choose b t (firstFrom f (suc t) k) < t + suc k
+        → (firstFrom f (suc t) k < suc t + k → f (firstFrom f (suc t) k) ≡ true) → f (choose b t (firstFrom f (suc t) k)) ≡ true
+    go true e l more = e
+    go false e l more = more (omega arith)
 
 -- what a test for the contrary tells
 pub picked-false : {P : Type 0} (d : Dec P) → pick d false true ≡ false → P
