@@ -65,7 +65,7 @@ module _ (p : ℕ) (ok : IsModulus p) (n s : ℕ) where
   L = residues-field p (ok .prime) .ring
 
   -- an assignment that meets the standing frames and a frame that they combine to: the combination of the values is its values
-  met-gives-values : (es : List Entry) (xs vs : List ℕ) (x : Assignment p) → MeetsAll p n s es x → Meets p n s (entry xs vs) x
+  pub met-gives-values : (es : List Entry) (xs vs : List ℕ) (x : Assignment p) → MeetsAll p n s es x → Meets p n s (entry xs vs) x
       → (c : InSpan p n es xs) → GivesValues p s es (c .0) vs
   unfolding apply multiplierRows valueTable
   met-gives-values es xs vs x all one c w b =

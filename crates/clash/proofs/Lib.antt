@@ -1,0 +1,10 @@
+pub mod Frames
+pub mod Clashes
+pub mod Selected
+pub mod ClashCall
+pub mod AfterConflict
+pub mod Rows
+pub mod Words
+pub mod Turned
+pub mod Answers
+pub mod Order

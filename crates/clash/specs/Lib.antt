@@ -1,0 +1,5 @@
+pub mod Decide
+pub mod Told
+pub mod Calls
+pub mod Parts
+pub mod Promises
