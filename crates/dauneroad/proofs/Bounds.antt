@@ -1,4 +1,4 @@
--- The numbers that the calls tell fit what C gets, so that `200 + k` does: k is at most 64 for tables and boards, 16 for reading and
+-- The numbers that the calls tell fit what C gets, so that `200 + k` does: k is at most 64 for tables, boards and logs, 16 for reading and
 -- sealing, and 328 for writing. Each call goes through its checks, and these laws go by whichever way.
 use mathlib.Core.Path.{_≡_, sym, subst}
 use mathlib.Core.List.{List}
@@ -7,6 +7,7 @@ use native.Mathlib.Omega.{arith}
 use lib.IntN.{ℤ}
 use lib.ListN.{length}
 use Rattle.algebra.proofs.Choice.{pick-elim}
+use Rattle.algebra.proofs.Independent.{count-most}
 use Rattle.checks.specs.declared.Refusal.{Refusal}
 use Rattle.checks.specs.declared.Refusal.the-variants.{Withdrawal}
 use Rattle.checks.specs.Told.{refused}
@@ -23,6 +24,7 @@ use Rattle.ledger.specs.Board.{modulusWord, sizeWord, valuesWord, ledgerOf, IsB
 use Rattle.ledger.specs.Calls.{withdrawCall, showCall}
 use Rattle.ledger.proofs.LedgerSteps.{Withdrew, dropped, overlong, withdrew, Showed, answered, unshown, showed}
 use Rattle.ledger.proofs.Parse.{words-count}
+use Rattle.clash.specs.Calls.{clashing, clashOf, clashCall}
 use Rattle.dauneroad.specs.Exports.{Small}
 
 -- a refusal's number is small, and so is that of an outcome equal to a small one
@@ -118,4 +120,15 @@ small-show ws low marks zs o =
     (λ hs.
     showed-small (sizeWord ws) (ledgerOf ws) _ (hs .0 .size .1)
     (showed (modulusWord ws) (hs .0 .prime) (sizeWord ws) (valuesWord ws) (ledgerOf ws) low marks zs))
+    (λ k f. small-refusal k))
+
+-- ---- logs
+
+pub small-clash : (p m n s : ℕ) (log marks : List ℕ) (o : Outcome (List ℕ)) → o ≡ clashCall p m n s log marks → Small (o .told)
+unfolding clashCall clashOf
+small-clash p m n s log marks o =
+    carried
+    (in-order-elim _ _ SmallOutcome
+    (λ hs.
+    pick-elim SmallOutcome _ _ _ (λ _. omega arith) (λ _. omega (arith, count-most m (clashing p (hs .0) m n s log), hs .1 .0 .0)))
     (λ k f. small-refusal k))

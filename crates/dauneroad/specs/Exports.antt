@@ -9,6 +9,7 @@ use Rattle.signed.specs.Calls.{signedCall, residueCall}
 use Rattle.matrix.specs.Calls.{quasiinverseCall, kernelCall, solveCall, fitCall, checkCall}
 use Rattle.frame.specs.Calls.{readCall, writeCall, sealCall}
 use Rattle.ledger.specs.Calls.{openCall, takeCall, withdrawCall, showCall}
+use Rattle.clash.specs.Calls.{clashCall}
 
 -- a number that fits what C gets
 abbrev pub Small : Told → Type 0
@@ -85,3 +86,8 @@ fitAnswer p m n a w z rest = exported (fitCall p m n a w z rest)
 
 abbrev pub checkAnswer : (p m n : ℕ) (a d : List ℕ) → Answer (Unit {0})
 checkAnswer p m n a d = exported (checkCall p m n a d)
+
+-- ---- logs of frames
+
+abbrev pub clashAnswer : (p m n s : ℕ) (log marks : List ℕ) → Answer (List ℕ)
+clashAnswer p m n s log marks = exported (clashCall p m n s log marks)

@@ -5,12 +5,14 @@ ghost use Rattle.matrix.specs.Told.{tableTold};
 ghost use Rattle.frame.specs.Told.{readTold, writeTold, sealTold};
 ghost use Rattle.board_solve.specs.Told.{takeTold};
 ghost use Rattle.board_calls.specs.Told.{openTold, answerTold};
+ghost use Rattle.clash.specs.Told.{clashTold};
 ghost use Rattle.dauneroad.specs.Exports.{Small, answer, openAnswer, takeAnswer, withdrawAnswer, showAnswer};
 ghost use Rattle.dauneroad.specs.Exports.{readAnswer, writeAnswer, sealAnswer, signedAnswer, residueAnswer};
-ghost use Rattle.dauneroad.specs.Exports.{quasiinverseAnswer, kernelAnswer, solveAnswer, fitAnswer, checkAnswer};
+ghost use Rattle.dauneroad.specs.Exports.{quasiinverseAnswer, kernelAnswer, solveAnswer, fitAnswer, checkAnswer, clashAnswer};
 use board_calls::CountAnswer;
 use board_calls::OpenAnswer;
 use board_calls::TakeAnswer;
+use clash_calls::ClashAnswer;
 use frame_calls::ReadAnswer;
 use frame_calls::SealAnswer;
 use frame_calls::WriteAnswer;
@@ -89,6 +91,17 @@ fn table_number(answer: TableAnswer) -> u32
     match answer {
         TableAnswer::Done(k) => 200 + k,
         TableAnswer::Refused(kind) => checks::number_of(kind),
+    }
+}
+
+// The number of what clash answers: 200 plus the number of frames that are selected, or the refusal's.
+fn clash_number(answer: ClashAnswer) -> u32
+    requires { ⌜ Small (clashTold answer) ⌝ }
+    ensures { λ r. ⌜ r ≡ clashTold answer .number ⌝ }
+{
+    match answer {
+        ClashAnswer::Selected(k) => 200 + k,
+        ClashAnswer::Refused(kind) => checks::number_of(kind),
     }
 }
 
@@ -258,4 +271,18 @@ pub extern "C" fn dauneroad_check(p: u32, m: u32, n: u32, a: &[u32], d: &[u32]) 
     ensures { λ r. ⌜ answer r tt ≡ checkAnswer p m n (now (a .entry)) (now (d .entry)) ⌝ }
 {
     table_number(matrix_calls::check(p, m, n, a, d))
+}
+
+#[no_mangle]
+pub extern "C" fn dauneroad_clash(
+    p: u32,
+    m: u32,
+    n: u32,
+    s: u32,
+    log: &[u32],
+    marks: &mut [u32],
+) -> u32
+    ensures { λ r. ⌜ answer r (now (marks .exit)) ≡ clashAnswer p m n s (now (log .entry)) (now (marks .entry)) ⌝ }
+{
+    clash_number(clash_calls::clash(p, m, n, s, log, marks))
 }
