@@ -9,8 +9,9 @@ What a log answers is worked out straight from document 02's #109, in up to thre
 - `known`, for logs that were built from independent rows and combinations of them, follows from the factors and the falsified values.
 
 Whether frames have a common assignment is told by ranks, and where there are few assignments also by trying them all. On longer logs
-the frames that are found are tested one by one for being needed. Then come calls that are refused, with each fault alone and with each
-two at a time. All numbers have four bytes, the most significant first:
+the frames that are found are tested one by one for being needed. The logs are all of three small sizes, empty ones, drawn ones of up to
+7 frames, and built ones: forty frames of which one is falsified, several falsified, early and late ones, none, and the largest. Then
+come calls that are refused, with each fault alone and with each two at a time. All numbers have four bytes, the most significant first:
 
     how many calls; for each p m n s, length of the log, log, length of the marks, marks; answer, the marks after
 
@@ -298,6 +299,7 @@ def first_and_last(rng, cases):
         for i in (0, 1, 19):
             built = Built(rng, p, 20, 9, s, some_places(rng, 18, 6) - {i} | {2})
             built.falsify(i, [s - 1])
+            assert built.known()[-1] == i
             built.store(cases, 'frame %d of 20 falsified' % i)
         built = Built(rng, p, 10, 9, s, set(range(9)), 1)
         built.falsify(9, [s - 1])
@@ -312,7 +314,8 @@ def first_and_last(rng, cases):
 
 
 def largest(rng, cases):
-    """64 frames: many repeats, one record with a word; 64 records with 16 words, of every rank that decides; a single frame of those."""
+    """64 frames of 64 multipliers and 16 values: all clash, some, none, by rank 63, 40 and 64. 64 frames of fewer numbers, of which the
+    last is falsified. A single frame of the most numbers, without multipliers and with the largest."""
     built = Built(rng, 2147483647, 64, 64, 16, set(range(63)), 1)
     built.falsify(63, [15])
     assert len(built.known()) == 64
@@ -328,7 +331,7 @@ def largest(rng, cases):
         built.falsify(63, [s - 1])
         built.store(cases, '64 frames')
     for values in ([0] * 16, [0] * 15 + [2147483646]):
-        cases.clash(2147483647, 64, 16, [[0] * 64 + values], [0] * any(values))
+        cases.clash(2147483647, 64, 16, [[0] * 64 + values], [0] if any(values) else [])
         cases.clash(2147483647, 64, 16, [[2147483646] * 64 + values], [])
 
 
