@@ -42,7 +42,7 @@ extern "C" {
 /* Refusals, by the numbers of documents 01 and 02. */
 enum {
     DAUNEROAD_MODULUS = 1,         /* p is no prime from 2 to 2147483647 */
-    DAUNEROAD_SIZE = 2,            /* m or n above 64; n of 0 for frames and open */
+    DAUNEROAD_SIZE = 2,            /* m or n above 64; n of 0 for frames, logs and open */
     DAUNEROAD_LENGTH = 3,          /* a lent slice's length is not the one named */
     DAUNEROAD_NUMBER = 4,          /* a number or a low end not below p, or a record out of range */
     DAUNEROAD_INSOLUBLE = 5,       /* solve: no solution; u says why */
@@ -121,6 +121,19 @@ uint32_t dauneroad_write(uint32_t p, uint32_t n, uint32_t s, const uint32_t *mul
  * (records_len is n * s, multipliers_len is n, values_len is s), 4 (the multipliers first, then low, then the records). */
 uint32_t dauneroad_seal(uint32_t p, uint32_t n, uint32_t s, uint32_t low, const int32_t *records, size_t records_len,
                         const uint32_t *multipliers, size_t multipliers_len, uint32_t *values, size_t values_len);
+
+/* ---- a log of frames ---- */
+
+/* Which frames of a log clash. The log has m frames (0 to 64; 0 is a log), in the order in which they came: the n multipliers and s
+ * values of frame i, counted from 0, as dauneroad_read gives them, begin at log[i * (n + s)]. An assignment gives each record s residues,
+ * and meets a frame if the frame's values are those that it gives. Let y be the first frame for which no assignment meets all of frames
+ * 0 to y. Marked by 1 are y and, of the earlier frames whose multipliers are no combination of those before them, the ones that y's
+ * multipliers combine from; all other marks become 0. So no assignment meets all marked frames, and leaving out any one of them, some
+ * assignment meets the others. Which of them is false this does not tell. A frame whose multipliers are all 0 and whose values are not
+ * clashes alone. 200 + the number of marked frames: 200, with all marks 0, where some assignment meets the whole log. Refuses 1, 2
+ * (m above 64, n of 0 or above 64), 12, 3 (log_len is m * (n + s), marks_len is m), 4 (a number of the log, in whichever frame). */
+uint32_t dauneroad_clash(uint32_t p, uint32_t m, uint32_t n, uint32_t s, const uint32_t *log, size_t log_len, uint32_t *marks,
+                         size_t marks_len);
 
 /* ---- signed readings ---- */
 
