@@ -4,6 +4,7 @@
 mod boards;
 mod calls;
 mod checks;
+mod clashes;
 mod draw;
 mod frames;
 mod histories;
@@ -15,6 +16,7 @@ mod tables;
 use boards::*;
 use calls::Group;
 use checks::*;
+use clashes::*;
 use draw::{BAD, PRIMES, SOME_S};
 use frames::*;
 use histories::*;
@@ -37,6 +39,9 @@ fn fenced(g: &mut Group) {
         table_refusals(g, 1500);
         checks(g, 120, 12);
         checks_largest(g, 1);
+        clashes(g, 120, 12);
+        clashes_largest(g, 1);
+        clash_refusals(g, 1500);
         histories(g, 40, 12, 20);
         tampering(g, 1500, 8);
         histories(g, 2, 64, 20);
@@ -66,6 +71,7 @@ fn at_once(g: &mut Group) {
                 histories(&mut g, 24, 12, 40);
                 tables(&mut g, 60, 12);
                 checks(&mut g, 60, 12);
+                clashes(&mut g, 60, 12);
                 (g.calls, g.wrong)
             })
         })
@@ -90,8 +96,9 @@ fn required() -> Vec<String> {
     required_of_frames(&mut of);
     required_of_boards(&mut of);
     required_of_tables(&mut of);
+    required_of_logs(&mut of);
     let calls = ["signed", "residue", "open", "take", "withdraw", "show", "read", "write", "seal"];
-    for call in calls.into_iter().chain(["quasiinverse", "kernel", "solve", "fit", "check"]) {
+    for call in calls.into_iter().chain(["quasiinverse", "kernel", "solve", "fit", "check", "clash"]) {
         PRIMES.iter().chain(&BAD).for_each(|p| of(call, &format!("p {p}")));
     }
     labels
@@ -206,8 +213,26 @@ fn required_of_tables(of: &mut impl FnMut(&str, &str)) {
     of("check", "nothing left over by another, left over by another");
 }
 
+/// Of clash.
+fn required_of_logs(of: &mut impl FnMut(&str, &str)) {
+    of("clash", "done, 1 alone, 2 alone, 12 alone, 3 alone, 4 alone, 1 before 2, 1 before 12, 1 before 3, 1 before 4, 2 before 12");
+    of("clash", "2 before 3, 2 before 4, 12 before 3, 12 before 4, 3 before 4, 3 marks before 4");
+    of("clash", "2 m, 2 n, 2 n of 0, 2 both, 12 of 0, 12 of 17, 12 of 4294967295");
+    of("clash", "told n 0, told n 64, told n 65, told n 4294967295, told m 0, told m 64, told m 65, told m 4294967295");
+    of("clash", "3 log below, 3 log above, 3 marks below, 3 marks above");
+    of("clash", "4 multiplier, 4 value, 4 first number, 4 last number, 4 of p, 4 behind a clash");
+    of("clash", "of 1, of 2, of 3, of 64, of all of several, at the first, at the last, in the middle");
+    of("clash", "first word alone, last word alone, middle word alone, all of several words");
+    of("clash", "one of J left out, a double left out, zeros left out, another behind it");
+    of("clash", "another behind it in the first word, another behind it in the last word");
+    of("clash", "none with zeros, none among repeats of lower rank, none among repeats of full rank, 64 by 64 s 1, 64 by 64 s 16");
+    (0..=64).for_each(|m| of("clash", &format!("m {m}")));
+    (1..=64).for_each(|n| of("clash", &format!("n {n}")));
+    (1..=16).for_each(|s| of("clash", &format!("s {s}, clash s {s}, no clash s {s}")));
+}
+
 fn main() {
-    let groups: [(&'static str, &dyn Fn(&mut Group)); 29] = [
+    let groups: [(&'static str, &dyn Fn(&mut Group)); 35] = [
         ("the prime test", &|g| moduli(g, 1500)),
         ("signed readings", &readings),
         ("frames, tiny ones all", &frames_exhaustive),
@@ -244,6 +269,12 @@ fn main() {
         ("checks, all sizes", &|g| checks(g, 120, 64)),
         ("checks, small sizes", &|g| checks(g, 3000, 9)),
         ("checks, 64 by 64", &|g| checks_largest(g, 12)),
+        ("clashes, tiny ones all", &clashes_exhaustive),
+        ("clashes, all sizes", &|g| clashes(g, 300, 64)),
+        ("clashes, small sizes", &|g| clashes(g, 6000, 9)),
+        ("clashes, one of forty frames falsified", &clashes_of_forty),
+        ("clashes, 64 by 64", &|g| clashes_largest(g, 16)),
+        ("clashes, refusals and their order", &|g| clash_refusals(g, 12_000)),
         ("slices at fences, read only where read", &fenced),
     ];
     let begin = Instant::now();

@@ -131,9 +131,10 @@ static void lay_frame(const uint32_t *multipliers, const uint32_t *last)
 }
 
 /* The combination of the first rows that `by` says, with this added to its last value. */
-static void lay_repeat(uint32_t count, uint32_t more)
+static void combine(uint32_t count, uint32_t more, uint32_t *sum, uint32_t *last)
 {
-    uint32_t sum[N] = {0}, last[S] = {0};
+    memset(sum, 0, N * sizeof *sum);
+    memset(last, 0, s * sizeof *last);
     last[s - 1] = more;
     for (uint32_t i = 0; i < count; i++) {
         for (int j = 0; j < N; j++)
@@ -141,6 +142,12 @@ static void lay_repeat(uint32_t count, uint32_t more)
         for (uint32_t word = 0; word < s; word++)
             last[word] = plus(last[word], times(by[i], values[i][word]));
     }
+}
+
+static void lay_repeat(uint32_t count, uint32_t more)
+{
+    uint32_t sum[N], last[S];
+    combine(count, more, sum, last);
     lay_frame(sum, last);
 }
 

@@ -7,6 +7,7 @@
 #define _GNU_SOURCE
 #include "dauneroad.h"
 #include "known.h"
+#include "known_logs.h"
 #include "known_tables.h"
 
 #include <pthread.h>
@@ -18,14 +19,14 @@
 #include <unistd.h>
 
 #define WORDS DAUNEROAD_BOARD_WORDS(N, s)
-#define BOARD_STACK 49152        /* the most bytes that take, withdraw, show, kernel, solve, fit and check may take */
+#define BOARD_STACK 49152        /* the most bytes that take, withdraw, show, kernel, solve, fit, check and clash may take */
 #define QUASIINVERSE_STACK 73728 /* the same for quasiinverse */
 #define OTHER_STACK 8192         /* and for the others */
 #define THREAD 8192              /* what the thread needs itself */
 #define LARGE 262144
 #define FENCE 1048576
 
-/* ---- the cases: what is made ready, the call, and what must then hold; those on tables are in known_tables.h ---- */
+/* ---- the cases: what is made ready, the call, and what must then hold; known_tables.h and known_logs.h have those on tables and logs ---- */
 
 static uint32_t call_open(void) { return dauneroad_open(P, N, s, board, WORDS); }
 static uint32_t call_take(void) { return dauneroad_take(board, WORDS, frame, frame_len, mix, N); }
@@ -161,6 +162,9 @@ static const Case cases[] = {
     {"seal", ready_frame, call_seal, after_seal, OTHER_STACK, 0},
     {"signed", ready_frame, call_signed, after_signed, OTHER_STACK, 1},
     {"residue", ready_frame, call_residue, after_residue, OTHER_STACK, 1},
+    {"clash-of-64", ready_clash_64, call_clash, after_clash_64, BOARD_STACK, 0},
+    {"clash-of-2", ready_clash_2, call_clash, after_clash_2, BOARD_STACK, 0},
+    {"clash-none", ready_no_clash, call_clash, after_no_clash, BOARD_STACK, 0},
     {"quasiinverse-rank-64", ready_full, call_quasiinverse, after_quasiinverse_full, QUASIINVERSE_STACK, 1},
     {"quasiinverse-rank-32", ready_half, call_quasiinverse, after_quasiinverse_half, QUASIINVERSE_STACK, 1},
     {"kernel-rank-64", ready_full, call_kernel, after_kernel_full, BOARD_STACK, 1},

@@ -1,4 +1,4 @@
-//! Each exported call on tables, made on guarded memory and compared with the model: the number, and every word lent, whole.
+//! Each exported call on tables and logs, made on guarded memory and compared with the model: the number, and every word lent, whole.
 
 use crate::calls::Group;
 use crate::lent::Lent;
@@ -20,6 +20,9 @@ extern "C" {
         rest: *mut u32, rest_len: usize,
     ) -> u32;
     fn dauneroad_check(p: u32, m: u32, n: u32, a: *const u32, a_len: usize, d: *const u32, d_len: usize) -> u32;
+    fn dauneroad_clash(
+        p: u32, m: u32, n: u32, s: u32, log: *const u32, log_len: usize, marks: *mut u32, marks_len: usize,
+    ) -> u32;
 }
 
 pub struct Quasi {
@@ -172,6 +175,30 @@ pub fn check_within(g: &mut Group, (p, m, n): (u32, u32, u32), words: &[u32], at
     got
 }
 
+/// A log that clash is given, with its sizes as the call is told them.
+#[derive(Clone, Debug)]
+pub struct Log {
+    pub p: u32,
+    pub m: u32,
+    pub n: u32,
+    pub s: u32,
+    pub words: Vec<u32>,
+}
+
+pub fn clash(g: &mut Group, t: &Log, marks_len: usize) -> (u32, Vec<u32>) {
+    let log = Lent::read_only(&mut g.rng, &t.words);
+    let mut marks = Lent::any(&mut g.rng, marks_len);
+    let mut want_marks = marks.entry().to_vec();
+    let want = model::clash(t.p, t.m, t.n, t.s, &t.words, &mut want_marks);
+    let got = unsafe { dauneroad_clash(t.p, t.m, t.n, t.s, log.ptr(), log.len(), marks.mut_ptr(), marks.len()) };
+    g.calls += 1;
+    g.demand(got == want && log.untouched() && marks.holds(&want_marks), || {
+        let (body, guards) = (marks.body(), (log.untouched(), marks.guarded()));
+        format!("clash of {t:?}, {marks_len} marks: library {got} {body:?} guards {guards:?}, document {want} {want_marks:?}")
+    });
+    (got, marks.body().to_vec())
+}
+
 /// Calls whose slices are all empty, with nothing behind their pointers.
 pub fn empty_slices(g: &mut Group) {
     let none = std::ptr::NonNull::<u32>::dangling().as_ptr();
@@ -187,9 +214,15 @@ pub fn empty_slices(g: &mut Group) {
             dauneroad_check(7, 1, 1, none, 0, none, 0),
             dauneroad_check(7, 65, 0, none, 0, none, 0),
             dauneroad_check(9, 0, 65, none, 0, none, 0),
+            dauneroad_clash(7, 0, 1, 1, none, 0, none, 0),
+            dauneroad_clash(7, 0, 64, 16, none, 0, none, 0),
+            dauneroad_clash(7, 1, 1, 1, none, 0, none, 0),
+            dauneroad_clash(7, 0, 1, 0, none, 0, none, 0),
+            dauneroad_clash(7, 0, 0, 1, none, 0, none, 0),
+            dauneroad_clash(9, 0, 1, 1, none, 0, none, 0),
         ]
     };
-    let want = [200, 200, 200, 200, 200, 200, 200, 3, 2, 1];
+    let want = [200, 200, 200, 200, 200, 200, 200, 3, 2, 1, 200, 200, 3, 12, 2, 1];
     g.calls += want.len() as u64;
     g.demand(got == want, || format!("empty slices: library {got:?}, document {want:?}"));
 }
