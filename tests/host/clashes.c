@@ -49,6 +49,9 @@ static void multiples(void)
     EXPECT(clash_is(7, 4, 2, 1, honest, 0, MARKS(0, 0, 0, 0)));
     static const uint32_t third[] = {1, 2, 5, 2, 4, 3, 3, 6, 2, 1, 2, 5};
     EXPECT(clash_is(7, 4, 2, 1, third, 2, MARKS(1, 0, 1, 0)));
+    /* of a frame that came twice the first one is chosen */
+    static const uint32_t doubled[] = {1, 2, 5, 1, 2, 5, 1, 2, 6, 1, 2, 6};
+    EXPECT(clash_is(7, 4, 2, 1, doubled, 2, MARKS(1, 0, 1, 0)));
     /* all but the first agree with each other; the first is the one in J */
     static const uint32_t first[] = {1, 2, 6, 2, 4, 3, 3, 6, 1, 1, 2, 5};
     EXPECT(clash_is(7, 4, 2, 1, first, 2, MARKS(1, 1, 0, 0)));
@@ -133,11 +136,12 @@ static int kept(uint32_t answer, uint32_t number)
     return answer == number;
 }
 
-/* (1 2) 5 5 and (1 2) 5 6 clash; 8 is 1 modulo 7, and is refused all the same. */
+/* (1 2) 5 5 and (1 2) 5 6 clash; 8 is 1 modulo 7, and is refused all the same. The last number is one too many. */
+static const uint32_t good[] = {1, 2, 5, 5, 1, 2, 5, 6, 1, 2, 5, 5, 0}, bad[] = {1, 2, 5, 5, 1, 2, 5, 6, 8, 2, 5, 5, 0};
+
 static void refusals(void)
 {
     static const uint32_t no_s[] = {0, 17, 65536, 4294967295};
-    static const uint32_t bad[] = {1, 2, 5, 5, 1, 2, 5, 6, 8, 2, 5, 5}, good[] = {1, 2, 5, 5, 1, 2, 5, 6, 1, 2, 5, 5};
     memset(marks, 0xee, sizeof marks);
     EXPECT(kept(dauneroad_clash(8, 65, 0, 0, bad, 1, marks, 1), DAUNEROAD_MODULUS));
     EXPECT(kept(dauneroad_clash(8, 3, 2, 2, good, 12, marks, 3), DAUNEROAD_MODULUS));
@@ -152,13 +156,26 @@ static void refusals(void)
         EXPECT(kept(dauneroad_clash(7, 3, 2, no_s[i], bad, 12, marks, 3), DAUNEROAD_WORDS));
         EXPECT(kept(dauneroad_clash(7, 3, 2, no_s[i], bad, 6, marks, 1), DAUNEROAD_WORDS));
     }
-    for (size_t log_len = 11; log_len <= 12; log_len++)
+    group("clash, the order of 1, 2, 12, and marks that stay as they were");
+}
+
+static void lengths_and_numbers(void)
+{
+    memset(marks, 0xee, sizeof marks);
+    for (size_t log_len = 11; log_len <= 13; log_len++)
         for (size_t marks_len = 2; marks_len <= 4; marks_len++) {
             int right = log_len == 12 && marks_len == 3;
             EXPECT(kept(dauneroad_clash(7, 3, 2, 2, bad, log_len, marks, marks_len), right ? DAUNEROAD_NUMBER : DAUNEROAD_LENGTH));
             EXPECT(right || kept(dauneroad_clash(7, 3, 2, 2, good, log_len, marks, marks_len), DAUNEROAD_LENGTH));
         }
-    group("clash, the order of 1, 2, 12, 3, 4, and marks that stay as they were");
+    for (size_t i = 0; i < 12; i++) {
+        uint32_t frames[12];
+        memcpy(frames, good, sizeof frames);
+        frames[i] = 7;
+        EXPECT(kept(dauneroad_clash(7, 3, 2, 2, frames, 12, marks, 3), DAUNEROAD_NUMBER));
+    }
+    EXPECT(clash_is(7, 3, 2, 2, good, 2, MARKS(1, 1, 0)));
+    group("clash, 3 before 4, whichever length is wrong, and a 7 in each place");
 }
 
 static void sizes(void)
@@ -181,6 +198,7 @@ int main(void)
     three_words();
     large_numbers();
     refusals();
+    lengths_and_numbers();
     sizes();
     printf("clashes: done\n");
     return failures != 0;

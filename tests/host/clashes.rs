@@ -226,7 +226,7 @@ pub fn clashes(g: &mut Group, rounds: usize, most: usize) {
 /// first word, of the last or of all changed. Without that frame nothing clashes.
 pub fn clashes_of_forty(g: &mut Group) {
     for (p, s) in [(257, 1), (65_537, 3), (2_147_483_647, 16)] {
-        let a: Vec<u32> = (0..40 * 8).map(|_| g.rng.under(p)).collect();
+        let a: Vec<u32> = (0..40).flat_map(|_| multipliers(&mut g.rng, p, 8)).collect();
         let (rows, values) = honest(&mut g.rng, p, 8, s, &a);
         for i in 0..40 {
             let mut falsified = values.clone();
@@ -281,7 +281,9 @@ pub fn clashes_exhaustive(g: &mut Group) {
     for (p, most) in [(2u32, 12), (3, 8), (5, 5), (7, 4)] {
         for m in 0..=5 {
             for (n, s) in (1..=3).flat_map(|n| (1..=3).map(move |s| (n, s))).filter(|(n, s)| m * (n + s) <= most) {
-                each(p, m * (n + s), |words| tiny_log(g, &Log { p, m: m as u32, n: n as u32, s: s as u32, words: words.to_vec() }));
+                each(p, m * (n + s), |words| {
+                    tiny_log(g, &Log { p, m: m as u32, n: n as u32, s: s as u32, words: words.to_vec() })
+                });
             }
         }
     }
@@ -308,7 +310,9 @@ fn tiny_log(g: &mut Group, log: &Log) {
     let least = |choice: &usize| !common(*choice) && (0..m).all(|i| choice >> i & 1 == 0 || common(choice - bit(i)));
     let found = first.map_or(vec![0], |y| (1..bit(m)).filter(|choice| choice & !allowed(y) == 0).filter(least).collect());
     let got = (0..m).filter(|&i| marks[i] == 1).map(bit).sum::<usize>();
-    g.demand(found == [got] && number == 200 + marks.iter().sum::<u32>(), || format!("{number} {marks:?}, by trial {found:?}, {log:?}"));
+    g.demand(found == [got] && number == 200 + marks.iter().sum::<u32>(), || {
+        format!("{number} {marks:?}, by trial {found:?}, {log:?}")
+    });
 }
 
 pub fn clash_refusals(g: &mut Group, rounds: usize) {

@@ -215,7 +215,10 @@ fn required_of_tables(of: &mut impl FnMut(&str, &str)) {
 
 /// Of clash.
 fn required_of_logs(of: &mut impl FnMut(&str, &str)) {
-    of("clash", "done, 1 alone, 2 alone, 12 alone, 3 alone, 4 alone, 1 before 2, 1 before 12, 1 before 3, 1 before 4, 2 before 12");
+    of(
+        "clash",
+        "done, 1 alone, 2 alone, 12 alone, 3 alone, 4 alone, 1 before 2, 1 before 12, 1 before 3, 1 before 4, 2 before 12",
+    );
     of("clash", "2 before 3, 2 before 4, 12 before 3, 12 before 4, 3 before 4, 3 marks before 4");
     of("clash", "2 m, 2 n, 2 n of 0, 2 both, 12 of 0, 12 of 17, 12 of 4294967295");
     of("clash", "told n 0, told n 64, told n 65, told n 4294967295, told m 0, told m 64, told m 65, told m 4294967295");
@@ -225,7 +228,10 @@ fn required_of_logs(of: &mut impl FnMut(&str, &str)) {
     of("clash", "first word alone, last word alone, middle word alone, all of several words");
     of("clash", "one of J left out, a double left out, zeros left out, another behind it");
     of("clash", "another behind it in the first word, another behind it in the last word");
-    of("clash", "none with zeros, none among repeats of lower rank, none among repeats of full rank, 64 by 64 s 1, 64 by 64 s 16");
+    of(
+        "clash",
+        "none with zeros, none among repeats of lower rank, none among repeats of full rank, 64 by 64 s 1, 64 by 64 s 16",
+    );
     (0..=64).for_each(|m| of("clash", &format!("m {m}")));
     (1..=64).for_each(|n| of("clash", &format!("n {n}")));
     (1..=16).for_each(|s| of("clash", &format!("s {s}, clash s {s}, no clash s {s}")));
@@ -270,10 +276,10 @@ fn main() {
         ("checks, small sizes", &|g| checks(g, 3000, 9)),
         ("checks, 64 by 64", &|g| checks_largest(g, 12)),
         ("clashes, tiny ones all", &clashes_exhaustive),
-        ("clashes, all sizes", &|g| clashes(g, 300, 64)),
+        ("clashes, all sizes", &|g| clashes(g, 600, 64)),
         ("clashes, small sizes", &|g| clashes(g, 6000, 9)),
         ("clashes, one of forty frames falsified", &clashes_of_forty),
-        ("clashes, 64 by 64", &|g| clashes_largest(g, 16)),
+        ("clashes, 64 by 64", &|g| clashes_largest(g, 32)),
         ("clashes, refusals and their order", &|g| clash_refusals(g, 12_000)),
         ("slices at fences, read only where read", &fenced),
     ];

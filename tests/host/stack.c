@@ -26,7 +26,7 @@
 #define LARGE 262144
 #define FENCE 1048576
 
-/* ---- the cases: what is made ready, the call, and what must then hold; known_tables.h and known_logs.h have those on tables and logs ---- */
+/* ---- the cases: what is made ready, the call, and what must then hold; known_tables.h and known_logs.h have more ---- */
 
 static uint32_t call_open(void) { return dauneroad_open(P, N, s, board, WORDS); }
 static uint32_t call_take(void) { return dauneroad_take(board, WORDS, frame, frame_len, mix, N); }
