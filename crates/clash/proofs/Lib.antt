@@ -6,5 +6,4 @@ pub mod AfterConflict
 pub mod Rows
 pub mod Words
 pub mod Turned
-pub mod Answers
 pub mod Order

@@ -23,7 +23,7 @@ abbrev start : tie.At-loop Inv-loop μ-loop → tie.Start Inv-loop μ-loop
 start c = c .before .before .before .before
 
 word-column-requires : tie.Need-word-column-requires Inv-loop μ-loop
-word-column-requires c κs = (start (c .before) .pre .1, c .loop-test .taken)
+word-column-requires c κs = let s = start (c .before) in (s .pre .1, omega (arith, s .pre .0 .s-count .0))
 
 array-share-prefix-x : tie.Need-array-share-prefix-x Inv-loop μ-loop
 array-share-prefix-x c = omega (arith, c .word-column .ensures .long, start (c .before .before) .pre .1 .n-most)
@@ -42,7 +42,7 @@ first-other-requires c κs =
         k-most = omega (arith, l .inv .1 .within, k .m-most);
         n-most = k .n-size .1;
         s-most = k .s-count .1;
-        w-word = b .loop-test .taken;
+        w-word = omega (arith, k .s-count .0);
         inside = omega (arith, k .log-long, mul-le-mul-right (s .args .n + s .args .s) (l .inv .1 .within));
       },
       sym (slice-aggregate-first-other c),

@@ -73,14 +73,12 @@ slice-write-marks c = let k = c .before .before in omega (arith, row (k .before 
 mark-nonzero-requires : tie.Need-mark-nonzero-requires
 mark-nonzero-requires c κs =
     let k = c .before .before .before in
-    omega (arith, long k, start (k .before .before .before) .pre .0 .m-most)
+    rw (length-set, many k) (start (k .before .before .before) .pre .0 .m-most)
 
 same-length-2 : tie.Need-same-length-2
 same-length-2 c =
     let k = c .before .before .before .before .before .before in
-    c .before .before .mark-nonzero .kept .0
-    ∙ length-set (multipliers k) (k .before .before .before .first-contradiction .result) 1
-    ∙ k .combination .kept .1 .1 .1 .1 .1 .1 .0
+    c .before .before .mark-nonzero .kept .0 ∙ length-set {A = ℕ} (multipliers k) _ _ ∙ k .combination .kept .1 .1 .1 .1 .1 .1 .0
 
 returns-2 : tie.Need-returns-2
 returns-2 c ok =

@@ -6,7 +6,7 @@ use Rattle.checks.specs.InOrder.{Checks, AllHold}
 use Rattle.checks.specs.Sizes.{Judges}
 use Rattle.checks.proofs.InOrder.{given}
 use Rattle.clash.specs.Calls.{clashChecks}
-use Rattle.clash.proofs.Answers.{log-given, clash-refused, clash-done}
+use Rattle.clash.proofs.Order.{log-given, clash-refused, clash-done}
 use Rattle.clash_calls.proofs.clash.Statement.{statement}
 use Rattle.clash_calls.proofs.clash.Tie as tie
 
