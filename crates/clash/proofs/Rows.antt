@@ -8,6 +8,7 @@ use Prim.Native.Nat.{ℕ, zero, suc, _+_, _*_, _-_, _≤_, _<_}
 use native.Mathlib.Nat.{zero-add, add-zero, mul-one, mul-le-mul, mul-le-mul-right, eq-or-lt-of-le}
 use native.Mathlib.Omega.{arith}
 use lib.ListN.{length, getD, take, drop, set}
+use lib.Seq.{ext-getD}
 use Rattle.algebra.specs.Choice.{choose}
 use Rattle.algebra.specs.Matrix.{sum}
 use Rattle.algebra.specs.Quasiinverse.{count}
@@ -15,6 +16,7 @@ use Rattle.algebra.proofs.Sums.{sum-same}
 use Rattle.algebra.proofs.Independent.{count-next, count-most}
 use Rattle.checks.specs.Largest.{largest, mostWords}
 use Rattle.words.specs.Lengths.{longestRow, widestTable}
+use Rattle.words.specs.Words.{PutAt}
 use Rattle.words.proofs.Walk.{Walked, walked-none, walked-more, walked-same}
 use Rattle.field.specs.Residue.{Residue, reduce, residues, _⊗_}
 use Rattle.field.specs.View.{line}
@@ -124,3 +126,8 @@ module _ (t : ℕ) (xs ys : List ℕ) (c : ℕ) (h : Marking t xs ys c) where
 
   pub marking-most : c ≤ t
   marking-most = rw (h .counted) (count-most t (marked xs))
+
+-- numbers that were put over a whole list
+pub put-whole : (xs before after : List ℕ) → length xs ≡ length before → PutAt xs 0 before after → after ≡ xs
+put-whole xs before after long put =
+    ext-getD 0 after xs (put .0 ∙ sym long) (λ j h. ap (λ q. getD after q 0) (sym (zero-add j)) ∙ put .1 j (omega (arith, put .0)))

@@ -1,6 +1,6 @@
--- The rows that a row combines from, by the turned system: row y of A D is the solution of the transpose of A with row y of A as its
--- right side, since the transpose of D is the pivot inverse of the transpose. With y itself, they are the frames that are selected.
-use mathlib.Core.Path.{_≡_, sym, ap, ap₂, _∙_, fun-ext, subst}
+-- The rows that a row combines from, by the turned system: row y of A D is the solution of the transpose of A with row y of A as its right
+-- side, since the transpose of D is the pivot inverse of the transpose. With y itself, they are the frames that are selected.
+use mathlib.Core.Path.{_≡_, sym, ap, ap₂, _∙_, subst}
 use mathlib.Core.Bool.{Bool, true, false}
 use mathlib.Core.List.{List}
 use Prim.Native.Nat.{ℕ, _+_, _*_, _-_, _<_}
@@ -9,7 +9,7 @@ use native.Mathlib.Decide.{ℕ-discrete}
 use native.Mathlib.Omega.{arith}
 use lib.Dec.{eqb}
 use lib.ListN.{length, getD, take, drop, replicate, set}
-use lib.Seq.{getD-set-same, getD-set-other}
+use lib.Seq.{getD-set-same, getD-set-other, length-take-le, getD-take}
 use borrow.Author.Tests.{eq-eqb, ne-eqb}
 use Rattle.algebra.specs.Choice.{choose, pick}
 use Rattle.algebra.specs.Ring.{IsCommutativeRing}
@@ -25,20 +25,20 @@ use Rattle.checks.specs.Outcome.{Outcome, outcome}
 use Rattle.checks.specs.Prime.{IsModulus}
 use Rattle.field.specs.Residue.{Residue, reduce, residues, _⊗_}
 use Rattle.field.specs.View.{line}
-use Rattle.field.specs.Written.{numbers, tabulate, marksOf, marked}
+use Rattle.field.specs.Written.{numbers, marksOf, marked}
 use Rattle.field.proofs.Lines.{part-long, part-line}
 use Rattle.field.proofs.Residues.{reduce-value, reduce-small}
 use Rattle.field.proofs.Written.{getD-tabulate, is-tabulate, length-tabulate, marked-yes, marked-no}
 use Rattle.matrix_echelon.specs.Grid.{Readable}
-use Rattle.matrix_echelon.specs.Reduced.{SolutionFound}
+use Rattle.matrix_echelon.specs.Reduced.{ReducedForm, RowsByPivot}
 use Rattle.matrix_echelon.proofs.Grids.{grid-turned, readable-one}
 use Rattle.ledger.specs.Decide.{combined?}
 use Rattle.clash.specs.Decide.{agree?, givenInverse, equal?}
 use Rattle.clash.specs.Calls.{framesOf, Agree, logTable, logInverse, contradiction, combinationOf, clashing, clashOf}
-use Rattle.clash.specs.Parts.{Logged, turnedGrid}
+use Rattle.clash.specs.Parts.{Logged, turnedGrid, WordRead}
 use Rattle.clash.proofs.Frames.{table-number}
 use Rattle.clash.proofs.Clashes.{F, FirstNotKept, contradiction-found, first-not-kept-once, kept-agree, unmet-contradicts}
-use Rattle.clash.proofs.Words.{number-inside}
+use Rattle.clash.proofs.Words.{number-inside, carried-made}
 
 -- row y, as the code lends it
 abbrev lentRow : (n s y : ℕ) → List ℕ → List ℕ
@@ -60,34 +60,41 @@ module _ {p m n s : ℕ} {log : List ℕ} (k : Logged p m n s log) (y : ℕ) (ro
       })
       (λ t h. omega (arith, part-long log (y * (n + s)) n (omega (arith, row-fits))))
 
-  -- the solution is row y of A D
-  pub turned-combination : {r : ℕ} {u : List ℕ} → SolutionFound p (turnedGrid m n s) log (lentRow n s y log) 1 r u → (ok : IsModulus p)
-      → u ≡ numbers m (combinationOf p ok m n s log y)
-  unfolding apply product transpose combinationOf line
-  turned-combination f ok =
-      f .is-solution
-      ∙ ap (tabulate m)
-      (fun-ext
-      (λ t.
-      ap (λ (a : Residue p). a .value)
-      (sum-same (residues p) n _ _
-      (λ j l.
-      ring .times-comm _ _
-      ∙ ap₂ _⊗_
-      (part-line p log (y * (n + s)) n j l
-      ∙ ap (λ q. reduce p (getD log (y * (n + s) + q) 0)) (mul-one j)
-      ∙ sym (table-number p m n s log y row j l))
-      (λ q. same q j t)))))
-    where
-      ring : IsCommutativeRing (residues p)
-      ring = F p ok m n s log .ring
+  -- what the worked rows carry is row y of A D
+  module _ {r : ℕ} {e pivots at x : List ℕ} (f : ReducedForm p (turnedGrid m n s) log (lentRow n s y log) 1 1 r e pivots)
+      (b : RowsByPivot r pivots at) (read : WordRead m 1 0 at e x) (ok : IsModulus p) where
+    ring : IsCommutativeRing (residues p)
+    ring = F p ok m n s log .ring
 
-      same : transpose (residues p) (f .rank .D) ≡ logInverse p ok m n s log
-      same =
-          inverse-is (residues p) (F p ok m n s log) (combined? p ok) (givenInverse p ok n s m log)
-          (transposed (residues p) ring
-          (subst (λ X. IsPivotInverse (residues p) n m X (f .rank .D) (f .rank .I) (f .rank .J))
-          (grid-turned p (turnedGrid m n s) log 0 (n + s) (λ i j. omega arith)) (f .rank .inverse)))
+    same-inverse : transpose (residues p) (f .rank .D) ≡ logInverse p ok m n s log
+    unfolding transpose
+    same-inverse =
+        inverse-is (residues p) (F p ok m n s log) (combined? p ok) (givenInverse p ok n s m log)
+        (transposed (residues p) ring
+        (subst (λ X. IsPivotInverse (residues p) n m X (f .rank .D) (f .rank .I) (f .rank .J))
+        (grid-turned p (turnedGrid m n s) log 0 (n + s) (λ i j. omega arith)) (f .rank .inverse)))
+
+    -- the turned D applied to row y is row y times D
+    turned-row : (t : ℕ) → apply (residues p) n (f .rank .D) (line p (lentRow n s y log) 0 1) t ≡ combinationOf p ok m n s log y t
+    unfolding apply product transpose combinationOf line
+    turned-row t =
+        sum-same (residues p) n _ _
+        (λ j l.
+        ring .times-comm _ _
+        ∙ ap₂ _⊗_
+        (part-line p log (y * (n + s)) n j l
+        ∙ ap (λ q. reduce p (getD log (y * (n + s) + q) 0)) (mul-one j)
+        ∙ sym (table-number p m n s log y row j l))
+        (λ q. same-inverse q j t))
+
+    pub turned-combination : take m x ≡ numbers m (combinationOf p ok m n s log y)
+    turned-combination =
+        is-tabulate m _ (take m x) (length-take-le m x (omega (arith, read .long, k .m-most)))
+        (λ t l.
+        getD-take m x t 0 l
+        ∙ read .each t l
+        ∙ carried-made ok (k .m-most) (omega arith) f b 0 t (omega arith)
+        ∙ ap (λ (a : Residue p). a .value) (turned-row t))
 
 -- ---- what is selected
 

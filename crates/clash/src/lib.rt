@@ -1,9 +1,10 @@
 // The first clash among the frames of a log. A is the table of their multipliers, V that of their values, and D the quasiinverse of A:
 // the first frame that contradicts the earlier ones is the first row where A (D V) is not V, and the rows that it combines from are
-// those where its row of A D is not 0. Neither D nor a copy of A is made; the log is read in place. Leaves for `clash_calls`.
+// those where its row of A D is not 0. Neither D nor a copy of A is made; the log is read in place, and both eliminations use one room.
+// Leaves for `clash_calls`.
 ghost use mathlib.Core.Path.{_≡_};
 ghost use Prim.Native.Nat.{_≤_, _<_};
-ghost use lib.ListN.{length, getD};
+ghost use lib.ListN.{length, getD, take};
 ghost use Rattle.algebra.specs.Quasiinverse.{count};
 ghost use Rattle.checks.specs.Outcome.{outcome};
 ghost use Rattle.checks.specs.Told.{results};
@@ -11,6 +12,7 @@ ghost use Rattle.checks.specs.Largest.{largest, mostWords};
 ghost use Rattle.checks.specs.Prime.{IsModulus};
 ghost use Rattle.words.specs.Lengths.{longestRow, widestTable};
 ghost use Rattle.field.specs.Written.{numbers, marksOf, marked};
+ghost use Rattle.matrix_echelon.specs.Forward.{Room};
 ghost use Rattle.clash.specs.Calls.{contradiction, combinationOf, clashOf};
 ghost use Rattle.clash.specs.Parts.{Logged, WorkedRows, carriedNumber, wordNumber, WordRead};
 ghost use Rattle.clash.specs.Parts.{WordLooked, FirstOther, FirstByWords};
@@ -36,7 +38,7 @@ fn carried_number(n: usize, s: usize, w: usize, row: usize, e: &[u32]) -> u32
     e[(row - 1) * (n + s) + (n + w)]
 }
 
-// Word w of D V, a column of n numbers: the worked rows carry it.
+// A carried column of n numbers, times D: column w of the s that the worked rows carry.
 fn word_column(n: usize, s: usize, w: usize, at: &[u32], e: &[u32]) -> [u32; ROW]
     requires { ⌜ WorkedRows n s (now at) (now e) × (w < s) ⌝ }
     ensures { λ r. ⌜ WordRead n s w (now (at .entry)) (now (e .entry)) r ⌝ }
@@ -82,10 +84,18 @@ fn first_by_words(p: u32, m: usize, n: usize, s: usize, log: &[u32], at: &[u32],
     y
 }
 
-// The first frame that contradicts the earlier ones, or m. The worked rows of the multipliers carry the values.
-pub fn first_contradiction(p: u32, m: usize, n: usize, s: usize, log: &[u32]) -> usize
-    requires { ⌜ Logged p m n s (now log) ⌝ }
-    ensures { λ r. ⌜ ((ok : IsModulus p) → r ≡ contradiction p ok m n s (now (log .entry))) ⌝ }
+// The first frame that contradicts the earlier ones, or m. The worked rows of the multipliers carry the values. e and pivots are room.
+pub fn first_contradiction(
+    p: u32,
+    m: usize,
+    n: usize,
+    s: usize,
+    log: &[u32],
+    e: &mut [u32],
+    pivots: &mut [u32],
+) -> usize
+    requires { ⌜ Logged p m n s (now log) × Room p (now e) (now pivots) ⌝ }
+    ensures { λ r. ⌜ ((ok : IsModulus p) → r ≡ contradiction p ok m n s (now (log .entry))) × Room p (now (e .exit)) (now (pivots .exit)) ⌝ }
 {
     if m == 0 {
         return 0;
@@ -98,17 +108,25 @@ pub fn first_contradiction(p: u32, m: usize, n: usize, s: usize, log: &[u32]) ->
         rows: m,
         columns: n,
     };
-    let mut e = words::wide_table();
-    let mut pivots = words::row_room();
-    let rank = reduced::reduced(p, rows, log, &log[n..], width, s, &mut e, &mut pivots);
-    let at = reduced::rows_by_pivot(rank, &pivots);
-    first_by_words(p, m, n, s, log, &at, &e)
+    let rank = reduced::reduced(p, rows, log, &log[n..], width, s, e, pivots);
+    let at = reduced::rows_by_pivot(rank, pivots);
+    first_by_words(p, m, n, s, log, &at, e)
 }
 
-// u becomes row y of A D: where row y is a combination of rows of J, the multipliers of these.
-pub fn combination(p: u32, m: usize, n: usize, s: usize, log: &[u32], y: usize, u: &mut [u32])
-    requires { ⌜ Logged p m n s (now log) × (y < m) × (length (now u) ≡ m) ⌝ }
-    ensures { λ _. ⌜ ((ok : IsModulus p) → now (u .exit) ≡ numbers m (combinationOf p ok m n s (now (log .entry)) y)) ⌝ }
+// Row y of A D: where row y is a combination of rows of J, the multipliers of these. It is the solution of the turned system that has row y
+// as its right side, and the worked rows carry it. e and pivots are room.
+pub fn combination(
+    p: u32,
+    m: usize,
+    n: usize,
+    s: usize,
+    log: &[u32],
+    y: usize,
+    e: &mut [u32],
+    pivots: &mut [u32],
+) -> [u32; ROW]
+    requires { ⌜ Logged p m n s (now log) × (y < m) × Room p (now e) (now pivots) ⌝ }
+    ensures { λ r. ⌜ (length r ≡ longestRow) × ((ok : IsModulus p) → take m r ≡ numbers m (combinationOf p ok m n s (now (log .entry)) y)) ⌝ }
 {
     let width = n + s;
     let turned = Grid {
@@ -120,7 +138,9 @@ pub fn combination(p: u32, m: usize, n: usize, s: usize, log: &[u32], y: usize, 
     };
     let from = y * width;
     let end = from + n;
-    reduced::solution(p, turned, log, &log[from..end], 1, u);
+    let rank = reduced::reduced(p, turned, log, &log[from..end], 1, 1, e, pivots);
+    let at = reduced::rows_by_pivot(rank, pivots);
+    word_column(m, 1, 0, &at, e)
 }
 
 // Makes each number that is not 0 a mark, 1. Answers how many they are.
@@ -146,12 +166,15 @@ pub fn select(p: u32, m: usize, n: usize, s: usize, log: &[u32], marks: &mut [u3
     requires { ⌜ Logged p m n s (now log) × (length (now marks) ≡ m) ⌝ }
     ensures { λ r. ⌜ ((ok : IsModulus p) → outcome (results r) (now (marks .exit)) ≡ clashOf p ok m n s (now (log .entry))) ⌝ }
 {
-    let y = first_contradiction(p, m, n, s, log);
+    let mut e = words::wide_table();
+    let mut pivots = words::row_room();
+    let y = first_contradiction(p, m, n, s, log, &mut e, &mut pivots);
     if y == m {
         words::clear(marks);
         return 0;
     }
-    combination(p, m, n, s, log, y, marks);
+    let by = combination(p, m, n, s, log, y, &mut e, &mut pivots);
+    words::put(&by[..m], marks, 0);
     marks[y] = 1;
     mark_nonzero(marks)
 }

@@ -1,20 +1,21 @@
--- `clash::combination` meets its contract: the turned table is read in place, and its solution is row y of A D.
-use mathlib.Core.Path.{_∙_}
+-- `clash::combination` meets its contract: the turned table is read in place, and what its worked rows carry is row y of A D.
 use Prim.Native.Nat.{_+_, _*_, _<_, _≤_}
 use native.Mathlib.Omega.{arith}
 use lib.ListN.{length}
 use borrow.Author.Needs.{needs}
+use Rattle.matrix_echelon.proofs.ReducedRows.{reduced-pivoting}
 use Rattle.clash.proofs.Rows.{rows-most}
+use Rattle.clash.proofs.Words.{worked-rows}
 use Rattle.clash.proofs.Turned.{row-fits, turned-readable, turned-combination}
 use Rattle.clash.proofs.combination.Statement.{statement}
 use Rattle.clash.proofs.combination.Tie as tie
 
 -- the entry, from where the row is lent
-abbrev start : tie.After-slice-known → tie.Start
-start c = c .before .before
+abbrev start : tie.After-slice-known2 → tie.Start
+start c = c .before .before .before
 
 -- the row lies in the log, which is not long
-inside : (c : tie.After-slice-known)
+inside : (c : tie.After-slice-known2)
     → let a = start c .args in (a .y * (a .n + a .s) + a .n < length (a .log .now)) × (length (a .log .now) ≤ 5120)
 inside c =
     let a = start c .args in
@@ -32,33 +33,61 @@ mul-from c = omega (arith, inside c .0, inside c .1)
 add-end : tie.Need-add-end
 add-end c = omega (arith, inside c .0, inside c .1)
 
-mul-solution : tie.Need-mul-solution
-mul-solution c = omega (arith, inside c .0, inside c .1)
+mul-reduced : tie.Need-mul-reduced
+mul-reduced c = omega (arith, inside c .0, inside c .1)
 
-sub-solution : tie.Need-sub-solution
-sub-solution c = omega arith
+sub-reduced : tie.Need-sub-reduced
+sub-reduced c = search needs
 
-part-solution-start : tie.Need-part-solution-start
-part-solution-start c = omega arith
+part-reduced-start : tie.Need-part-reduced-start
+part-reduced-start c = search needs
 
-part-solution-end : tie.Need-part-solution-end
-part-solution-end c = omega (arith, inside c .0)
+part-reduced-end : tie.Need-part-reduced-end
+part-reduced-end c = omega (arith, inside c .0)
 
-solution-requires : tie.Need-solution-requires
-solution-requires c κs =
-    let s = start (c .before .before) in
+reduced-requires : tie.Need-reduced-requires
+reduced-requires c κs =
+    let s = start (c .before .before .before) in
     (turned-readable (s .pre .0) (s .args .y) (s .pre .1), s .pre .2)
+
+-- the entry, from where the turned rows are reduced
+abbrev begun : tie.After-reduced → tie.Start
+begun c = start (c .before .before .before .before)
+
+rows-by-pivot-requires : tie.Need-rows-by-pivot-requires
+rows-by-pivot-requires c κs =
+    let r = c .before .before .before .before .before in
+    reduced-pivoting (r .reduced .ensures) (begun r .pre .0 .m-most)
+
+-- the reduced form, from where its rows are known by their pivots
+abbrev form : tie.After-rows-by-pivot → tie.After-reduced
+form c = c .before .before .before .before .before .before
+
+slice-aggregate-word-column : tie.Need-slice-aggregate-word-column
+slice-aggregate-word-column c = search needs
+
+word-column-requires : tie.Need-word-column-requires
+word-column-requires c κs =
+    let q = c .before .before in
+    let k = begun (form q) .pre .0 in
+    (worked-rows (k .is-modulus) (k .m-most) (omega arith) (form q .reduced .ensures) (q .rows-by-pivot .ensures), omega arith)
 
 same-length : tie.Need-same-length
 same-length c = search needs
 
+same-length-2 : tie.Need-same-length-2
+same-length-2 c = search needs
+
 returns : tie.Need-returns
-returns c ok =
-    let b = c .before .before in
-    let s = start (b .before .before .before) in
-    turned-combination (s .pre .0) (s .args .y) (s .pre .1) (b .solution .ensures) ok
+returns c =
+    let q = c .before .before .before in
+    let s = begun (form q) in (
+      c .word-column .ensures .long,
+      turned-combination (s .pre .0) (s .args .y) (s .pre .1) (form q .reduced .ensures) (q .rows-by-pivot .ensures) (c .word-column .ensures),
+    )
 
 pub combination-spec : {M : Type 1} → statement M
 combination-spec =
     tie.close
-    (tie.spec add-width mul-from add-end mul-solution sub-solution part-solution-start part-solution-end solution-requires same-length returns)
+    (tie.spec add-width mul-from add-end mul-reduced sub-reduced part-reduced-start part-reduced-end reduced-requires rows-by-pivot-requires
+    slice-aggregate-word-column word-column-requires same-length same-length-2 returns)
