@@ -139,6 +139,19 @@ fn beside_board(g: &mut Group, log: &Log, marks: &[u32]) {
     g.demand(first == last, || format!("take's first 9 is at {first:?}, the last mark at {last:?}, {log:?}"));
 }
 
+/// Repeats in front of the contradiction do not count: without them the same frames are marked.
+fn without_repeats(g: &mut Group, log: &Log, marks: &[u32]) {
+    let (_, n, s) = log.sizes();
+    let frames = log.frames();
+    let said = one_by_one(log, frames.iter());
+    let last = marks.iter().rposition(|x| *x != 0);
+    let kept: Vec<usize> = (0..frames.len()).filter(|&i| said[i] != Says::Repeat || last.is_some_and(|y| i > y)).collect();
+    let shorter = Log::of(log.p, n, s, &kept.iter().map(|&i| frames[i].clone()).collect::<Vec<_>>());
+    let (_, found) = table_calls::clash(g, &shorter, kept.len());
+    let told: Vec<u32> = kept.iter().map(|&i| marks[i]).collect();
+    g.demand(found == told, || format!("without repeats clash marks {found:?}, with them {told:?}, {log:?}"));
+}
+
 // ---- logs ----
 
 /// Puts frames of before in some rows of multipliers: the same again, the sum of two, or zeros.
@@ -218,6 +231,7 @@ pub fn clashes(g: &mut Group, rounds: usize, most: usize) {
         if round % 4 == 0 {
             beside_solve(g, &log, &marks);
             beside_board(g, &log, &marks);
+            without_repeats(g, &log, &marks);
         }
     }
 }
