@@ -1,11 +1,12 @@
 -- What document 02, #109, promises of clash is kept by `clashCall` itself: no mark exactly if the whole log has a common assignment, and
--- else the frames of the first clash. There is one such clash only.
+-- else the frames of the first clash; and no other choice of the first frame contradicting the earlier ones and earlier ones of J clashes
+-- with none to spare.
 use mathlib.Core.Path.{_≡_, refl, sym, ap, _∙_, subst}
 use mathlib.Core.Bool.{Bool, true, false}
 use mathlib.Core.List.{List, []}
 use mathlib.Core.Logic.{_⊎_, inl, inr, ⊎-elim, _↔_}
 use Prim.Native.Nat.{ℕ, suc, _≤_, _<_}
-use native.Mathlib.Decide.{decLt}
+use native.Mathlib.Decide.{decLt, ℕ-discrete}
 use native.Mathlib.Omega.{arith}
 use lib.Dec.{eqb}
 use lib.ListN.{length, getD, replicate, length-replicate, List·getD-eq-default}
@@ -25,13 +26,13 @@ use Rattle.words.proofs.Zeros.{zeros-at}
 use Rattle.field.specs.Residue.{reduce, residues}
 use Rattle.field.specs.Written.{marksOf}
 use Rattle.field.proofs.Written.{length-tabulate, getD-tabulate}
-use Rattle.ledger.specs.Ledger.{Assignment, MeetsAll}
+use Rattle.ledger.specs.Ledger.{Entry, Assignment, MeetsAll}
 use Rattle.clash.specs.Decide.{agree?, equal?}
 use Rattle.clash.specs.Calls.{framesOf, Agree, contradiction, combinationOf, clashing, clashOf, clashChecks, clashCall}
-use Rattle.clash.specs.Promises.{FromJ, IsClash, Selected, ClashDone}
+use Rattle.clash.specs.Promises.{Outside, IsClash, IsQuarrel, Selected, ClashDone}
 use Rattle.clash.proofs.Frames.{frames-many}
-use Rattle.clash.proofs.Clashes.{FirstNotKept, contradiction-found, kept-agree}
-use Rattle.clash.proofs.Selected.{ChosenWith, found-clash, clash-same}
+use Rattle.clash.proofs.Clashes.{FirstNotKept, contradiction-found, kept-agree, unmet-contradicts}
+use Rattle.clash.proofs.Selected.{ChosenWith, found-clash, clash-same, quarrel-selected}
 
 -- ---- marks in memory
 
@@ -75,6 +76,15 @@ unfolding count
 none-counted m ℕ.zero = refl
 none-counted m (suc k) = omega (arith, none-counted m k, ap {B = ℕ} (λ v. choose (eqb v 1) 1 0) (zeros-at m k))
 
+-- ---- the first frame that contradicts the earlier ones is one only
+
+first-once : (p n s : ℕ) (es : List Entry) {y z : ℕ} → Agree p n s es (λ i. i < y) → (Agree p n s es (λ i. i < suc y) → ⊥)
+    → Agree p n s es (λ i. i < z) → (Agree p n s es (λ i. i < suc z) → ⊥) → y ≡ z
+first-once p n s es {y} {z} (x, met) f (v, meets) g =
+    let early : y < z → ⊥ = λ l. f (v, λ t b. meets t (omega arith)) in
+    let late : z < y → ⊥ = λ l. g (x, λ t b. met t (omega arith)) in
+    omega (arith, early, late)
+
 module _ (p : ℕ) (ok : IsModulus p) (m n s : ℕ) (log : List ℕ) where
   -- some assignment meets all frames of the log
   abbrev Common : Type 0
@@ -98,6 +108,7 @@ module _ (p : ℕ) (ok : IsModulus p) (m n s : ℕ) (log : List ℕ) where
         none-exactly = (λ _. c, λ _. refl);
         zero-exactly = (λ _. c, λ _. refl);
         else-clash = λ f. absurd (f c);
+        only = λ other q i. absurd (q .contradicts (let (x, met) = all-first c in (x, λ t h. met t (omega (arith, q .y-row)))));
       }
 
   -- ---- with one
@@ -150,6 +161,20 @@ module _ (p : ℕ) (ok : IsModulus p) (m n s : ℕ) (log : List ℕ) where
         (λ c. h (f c), λ e. g (k e)))
         (found-clash p ok m n s log y found row)
 
+    -- the same first contradiction, so the same frames
+    quarrel-exactly : (C : ℕ → Type 0) → ((i : ℕ) → Dec (C i)) → IsQuarrel p m n s log C
+        → (i : ℕ) → C i ↔ ((i < m) × (clashing p ok m n s log i ≡ true))
+    quarrel-exactly C decide q i =
+        let (w, (l, unmet)) = found .differs row in
+        let same : q .y ≡ y =
+        first-once p n s (framesOf m n s log) (q .earlier-agree) (q .contradicts)
+        (kept-agree p ok m n s log y (omega (arith, found .within)) (found .before)) (unmet-contradicts p ok m n s log y w row l unmet) in
+        let (f, g) =
+        quarrel-selected p ok m n s log y found row C decide (q .none-common)
+        (subst (λ k. (t : ℕ) → C t → (t ≡ k) ⊎ ((t < k) × (Outside p m n s log t → ⊥))) same (q .members)) (q .none-to-spare) i in
+        let (h, k) = clashing-exactly i in
+        (λ c. h (f c), λ e. g (k e))
+
     some-marked : getD marks y 0 ≡ 1
     some-marked = marked-exactly m (clashing p ok m n s log) y .0 (clashing-exactly y .0 (row, inl refl))
 
@@ -171,6 +196,10 @@ module _ (p : ℕ) (ok : IsModulus p) (m n s : ℕ) (log : List ℕ) where
             λ c. absurd (none c),
           );
           else-clash = λ _. selected;
+          only = λ other q i.
+              let (f, g) = quarrel-exactly (Selected p m n s log other) (λ t. ℕ-discrete (getD other t 0) 1) q i in
+              let (h, k) = marked-exactly m (clashing p ok m n s log) i in
+              (λ c. h (f c), λ e. g (k e));
         }
 
   pub clash-of-done : ClashDone p m n s log (clashOf p ok m n s log)
@@ -193,22 +222,3 @@ clash-no-rows p n s log marks all =
     let d = clash-call-done p 0 n s log marks all in
     let common : (x : Assignment p) × MeetsAll p n s (framesOf 0 n s log) x = (λ j w. reduce p 0, λ i h. absurd (omega (arith, frames-many p 0 n s log))) in
     λ i. outcome (d .zero-exactly .1 common i) (d .none-exactly .1 common i)
-
--- a log has one such clash only: frames that clash as the request says are the same frames
-pub clash-once : (p m n s : ℕ) (log : List ℕ) {C E : ℕ → Type 0} → (c : IsClash p m n s log C) (e : IsClash p m n s log E)
-    → (i : ℕ) → C i → E i
-clash-once p m n s log {C} {E} c e i h = go (decLt i (e .y))
-  where
-    same-y : c .y ≡ e .y
-    same-y =
-        let early : c .y < e .y → ⊥ = λ l. c .contradicts (let (x, met) = e .earlier-agree in (x, λ t b. met t (omega arith))) in
-        let late : e .y < c .y → ⊥ = λ l. e .contradicts (let (x, met) = c .earlier-agree in (x, λ t b. met t (omega arith))) in
-        omega (arith, early, late)
-
-    go : Dec (i < e .y) → E i
-    go (no f) = subst E (let q : e .y ≡ i = omega (arith, c .y-last i h, same-y) in q) (e .y-chosen)
-    go (yes l) =
-        e .others-exactly i l .1
-        (λ z.
-        c .others-exactly i (omega (arith, same-y)) .0 h
-        (sym (c .from-J-only (e .by) (subst (λ k. FromJ p m n s log k (e .by)) (sym same-y) (e .from-J)) i (omega (arith, same-y))) ∙ z))

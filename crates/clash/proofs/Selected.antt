@@ -1,12 +1,13 @@
 -- The frames that are selected clash as the request says: the first frame that D V does not meet, and the frames of J that it combines
 -- from. By the rows that contradict each other (algebra/proofs/Clash.antt), in each word.
-use mathlib.Core.Path.{_≡_, refl, sym, ap, _∙_}
+use mathlib.Core.Path.{_≡_, refl, sym, _∙_, subst}
 use mathlib.Core.Bool.{true, false}
 use mathlib.Core.List.{List}
 use mathlib.Core.Logic.{_⊎_, inl, inr, ⊎-elim, _↔_}
 use Prim.Native.Nat.{ℕ, _<_}
+use native.Mathlib.Decide.{ℕ-discrete}
 use native.Mathlib.Omega.{arith}
-use Rattle.algebra.specs.Matrix.{Matrix, product}
+use Rattle.algebra.specs.Matrix.{Vector, Matrix, product}
 use Rattle.algebra.proofs.Marks.{is-true, is-false}
 use Rattle.algebra.proofs.Chosen.{zero-column, row-depends, row-free}
 use Rattle.algebra.proofs.Fit.{rows-fit}
@@ -14,6 +15,7 @@ use Rattle.algebra.proofs.Clash.{row-combined, row-combined-once, moved, moved-
 use Rattle.checks.specs.Prime.{IsModulus}
 use Rattle.field.specs.Residue.{residues}
 use Rattle.ledger.specs.Ledger.{Assignment}
+use Rattle.clash.specs.Decide.{equal?}
 use Rattle.clash.specs.Calls.{framesOf, Agree, logTable, logRows, logInverse}
 use Rattle.clash.specs.Parts.{logValue}
 use Rattle.clash.specs.Promises.{Outside, FromJ, IsClash}
@@ -23,19 +25,22 @@ use Rattle.clash.proofs.Clashes.{F, log-pivots, own, Kept, FirstNotKept
 -- which frames are chosen is all that counts
 pub clash-same : (p m n s : ℕ) (log : List ℕ) {C E : ℕ → Type 0} → ((i : ℕ) → C i ↔ E i) → IsClash p m n s log C → IsClash p m n s log E
 clash-same p m n s log same c =
+    let q = c .quarrel in
     record {
-      none-common = λ (x, met). c .none-common (x, λ i h. met i (same i .0 h));
-      none-to-spare = λ k h.
-          let (x, met) = c .none-to-spare k (same k .1 h) in (x, λ i (e, d). met i (same i .1 e, d));
-      y = c .y;
-      y-chosen = same (c .y) .0 (c .y-chosen);
-      y-last = λ i h. c .y-last i (same i .1 h);
-      earlier-agree = c .earlier-agree;
-      contradicts = c .contradicts;
+      quarrel =
+          record {
+            none-common = λ (x, met). q .none-common (x, λ i h. met i (same i .0 h));
+            none-to-spare = λ k h. let (x, met) = q .none-to-spare k (same k .1 h) in (x, λ i (e, d). met i (same i .1 e, d));
+            y = q .y;
+            y-row = q .y-row;
+            earlier-agree = q .earlier-agree;
+            contradicts = q .contradicts;
+            members = λ i h. q .members i (same i .1 h);
+          };
+      y-chosen = same (q .y) .0 (c .y-chosen);
       by = c .by;
       from-J = c .from-J;
       from-J-only = c .from-J-only;
-      others-in-J = λ t h. c .others-in-J t (same t .1 h);
       others-exactly = λ t l. let (f, g) = c .others-exactly t l in (λ h. f (same t .1 h), λ h. same t .0 (g h));
     }
 
@@ -73,24 +78,32 @@ module _ (p : ℕ) (ok : IsModulus p) (m n s : ℕ) (log : List ℕ) where
     own-meets i e w =
         rows-fit (residues p) (F p ok m n s log .ring) (log-pivots p ok m n s log) (λ t. logValue p n s log t w) i e
 
-    -- without frame y, D V meets the rest; without frame k, D V moved by column k of D
-    spared : (k : ℕ) → ChosenWith y k → Agree p n s (framesOf m n s log) (λ i. ChosenWith y i × (i ≡ k → ⊥))
-    spared k (_, inl e) = (
-      own p ok m n s log,
-      λ i ((l, c), d) w h.
-          solves-met p m n s log i l (own p ok m n s log) w h
-          (⊎-elim (λ q. absurd (d (q ∙ sym e))) (λ f. own-meets i (in-J i f) w) c),
-    )
-    spared k (_, inr used) = (
+    -- D V meets the frames of J; moved by column k of D it meets frame y and those of J but k
+    own-agree : Agree p n s (framesOf m n s log) (λ i. (i < m) × (logRows p ok m n s log i ≡ true))
+    own-agree = (own p ok m n s log, λ i (l, e) w h. solves-met p m n s log i l (own p ok m n s log) w h (own-meets i e w))
+
+    moved-agree : (k : ℕ) → (product (residues p) n A D y k ≡ residues p .zero → ⊥)
+        → Agree p n s (framesOf m n s log) (λ i. (i < m) × ((i ≡ y) ⊎ ((logRows p ok m n s log i ≡ true) × (i ≡ k → ⊥))))
+    moved-agree k used = (
       x,
-      λ i ((l, c), d) w h.
+      λ i (l, c) w h.
+          let v : Vector (residues p) = λ t. logValue p n s log t w in
           solves-met p m n s log i l x w h
-          (⊎-elim (λ q. rw q (moved-solves (residues p) (F p ok m n s log) (log-pivots p ok m n s log) y k used (λ t. logValue p n s log t w)))
-          (λ f. moved-keeps (residues p) (F p ok m n s log) (log-pivots p ok m n s log) y k used (λ t. logValue p n s log t w) i (in-J i f) d) c),
+          (⊎-elim (λ q. rw q (moved-solves (residues p) (F p ok m n s log) (log-pivots p ok m n s log) y k used v))
+          (λ (e, d). moved-keeps (residues p) (F p ok m n s log) (log-pivots p ok m n s log) y k used v i e d) c),
     )
       where
         x : Assignment p
         x t w = moved (residues p) (F p ok m n s log) (log-pivots p ok m n s log) y k used (λ i. logValue p n s log i w) t
+
+    -- so, without any one of them, the chosen frames have a common assignment
+    spared : (k : ℕ) → ChosenWith y k → Agree p n s (framesOf m n s log) (λ i. ChosenWith y i × (i ≡ k → ⊥))
+    spared k (_, inl e) =
+        let (x, met) = own-agree in
+        (x, λ i ((l, c), d). met i (l, ⊎-elim (λ q. absurd (d (q ∙ sym e))) (λ f. in-J i f) c))
+    spared k (_, inr used) =
+        let (x, met) = moved-agree k used in
+        (x, λ i ((l, c), d). met i (l, ⊎-elim inl (λ f. inr (in-J i f, d)) c))
 
     -- a row outside J gives nothing
     outside-zero : (t : ℕ) → Outside p m n s log t → product (residues p) n A D y t ≡ residues p .zero
@@ -102,13 +115,18 @@ module _ (p : ℕ) (ok : IsModulus p) (m n s : ℕ) (log : List ℕ) where
     pub found-clash : IsClash p m n s log (ChosenWith y)
     found-clash =
         record {
-          none-common = unmet-clash p ok m n s log y word row in-words unmet;
-          none-to-spare = spared;
-          y = y;
+          quarrel =
+              record {
+                none-common = unmet-clash p ok m n s log y word row in-words unmet;
+                none-to-spare = spared;
+                y = y;
+                y-row = row;
+                earlier-agree = kept-agree p ok m n s log y (omega arith) (found .before);
+                contradicts = unmet-contradicts p ok m n s log y word row in-words unmet;
+                members = λ i (l, c).
+                    ⊎-elim inl (λ f. inr (combines-before p ok m n s log y word row in-words unmet i f, λ h. f (outside-zero i h))) c;
+              };
           y-chosen = (row, inl refl);
-          y-last = λ i (l, c). ⊎-elim (λ e. omega arith) (λ f. omega (arith, combines-before p ok m n s log y word row in-words unmet i f)) c;
-          earlier-agree = kept-agree p ok m n s log y (omega arith) (found .before);
-          contradicts = unmet-contradicts p ok m n s log y word row in-words unmet;
           by = product (residues p) n A D y;
           from-J =
               record {
@@ -120,9 +138,57 @@ module _ (p : ℕ) (ok : IsModulus p) (m n s : ℕ) (log : List ℕ) where
               (λ t l e.
               f .outside-zero t l (row-depends (residues p) (F p ok m n s log .ring) (log-pivots p ok m n s log) t (omega arith) e))
               (f .combines);
-          others-in-J = λ t (l, c) d h. ⊎-elim d (λ f. f (outside-zero t h)) c;
-          others-exactly = λ t l. (
-            λ (_, c). ⊎-elim (λ e. absurd (omega arith)) (λ f. f) c,
-            λ f. (omega arith, inr f),
-          );
+          others-exactly = λ t l. (λ (_, c). ⊎-elim (λ e. absurd (omega arith)) (λ f. f) c, λ f. (omega arith, inr f));
         }
+
+    -- ---- no other frames of these have no common assignment and none to spare
+
+    module _ (C : ℕ → Type 0) (decide : (i : ℕ) → Dec (C i)) (none : Agree p n s (framesOf m n s log) C → ⊥)
+        (members : (i : ℕ) → C i → (i ≡ y) ⊎ ((i < y) × (Outside p m n s log i → ⊥))) where
+      -- an earlier one of J, in J's marks
+      member-in-J : (i : ℕ) → i < y → (Outside p m n s log i → ⊥) → logRows p ok m n s log i ≡ true
+      member-in-J i l f =
+          is-true (logRows p ok m n s log i)
+          (λ e. f (row-depends (residues p) (F p ok m n s log .ring) (log-pivots p ok m n s log) i (omega arith) e))
+
+      -- all frames that are selected are among them, since without one of these the rest of J and y have a common assignment
+      selected-member : (k : ℕ) → ChosenWith y k → C k
+      selected-member k (l, c) = go (decide k)
+        where
+          go : Dec (C k) → C k
+          go (yes h) = h
+          go (no f) = absurd (none (⊎-elim without-y without c))
+            where
+              without-y : k ≡ y → Agree p n s (framesOf m n s log) C
+              without-y e =
+                  let (x, met) = own-agree in (
+                    x,
+                    λ i h.
+                        ⊎-elim (λ q. absurd (f (subst C (q ∙ sym e) h)))
+                        (λ (b, o). met i (omega arith, member-in-J i b o)) (members i h),
+                  )
+
+              without : (product (residues p) n A D y k ≡ residues p .zero → ⊥) → Agree p n s (framesOf m n s log) C
+              without used =
+                  let (x, met) = moved-agree k used in (
+                    x,
+                    λ i h.
+                        ⊎-elim (λ q. met i (omega arith, inl q))
+                        (λ (b, o). met i (omega arith, inr (member-in-J i b o, λ q. f (subst C q h)))) (members i h),
+                  )
+
+      -- and these are all, since any other could be spared
+      pub quarrel-selected : ((k : ℕ) → C k → Agree p n s (framesOf m n s log) (λ i. C i × (i ≡ k → ⊥))) → (i : ℕ) → C i ↔ ChosenWith y i
+      quarrel-selected spare i = (λ h. go h (ℕ-discrete i y) (equal? (product (residues p) n A D y i) (residues p .zero)), selected-member i)
+        where
+          inside : C i → i < m
+          inside h = ⊎-elim (λ e. omega arith) (λ (b, o). omega arith) (members i h)
+
+          go : C i → Dec (i ≡ y) → Dec (product (residues p) n A D y i ≡ residues p .zero) → ChosenWith y i
+          go h (yes e) _ = (inside h, inl e)
+          go h (no d) (no f) = (inside h, inr f)
+          go h (no d) (yes z) =
+              let (x, met) = spare i h in
+              let other : (k : ℕ) → ChosenWith y k → k ≡ i → ⊥ = λ k (l, c) e.
+              ⊎-elim (λ q. d (sym e ∙ q)) (λ f. f (subst (λ t. product (residues p) n A D y t ≡ residues p .zero) (sym e) z)) c in
+              absurd (found-clash .quarrel .none-common (x, λ k c. met k (selected-member k c, other k c)))

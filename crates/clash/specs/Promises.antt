@@ -3,7 +3,7 @@
 use mathlib.Core.Path.{_≡_}
 use mathlib.Core.Logic.{_⊎_, _↔_}
 use mathlib.Core.List.{List}
-use Prim.Native.Nat.{ℕ, suc, _≤_, _<_}
+use Prim.Native.Nat.{ℕ, suc, _<_}
 use lib.Dec.{eqb}
 use lib.ListN.{length, getD, replicate}
 use Rattle.algebra.specs.Matrix.{Vector}
@@ -25,24 +25,28 @@ module _ (p m n s : ℕ) (log : List ℕ) where
     pub combines : Combines (residues p) y n (logTable p m n s log) u (logTable p m n s log y)
     pub outside-zero : (t : ℕ) → t < y → Outside t → u t ≡ residues p .zero
 
-  -- the chosen frames clash, and as the request says
-  pub record IsClash (Chosen : ℕ → Type 0) : Type 0 where
+  -- what the request asks of a choice of frames
+  pub record IsQuarrel (Chosen : ℕ → Type 0) : Type 0 where
     -- "the chosen frames have no common assignment and leaving out any single one gives them one"
     pub none-common : Agree p n s (framesOf m n s log) Chosen → ⊥
     pub none-to-spare : (k : ℕ) → Chosen k → Agree p n s (framesOf m n s log) (λ i. Chosen i × (i ≡ k → ⊥))
-    -- the last of them is "the first frame contradicting the earlier ones"
+    -- "the first frame contradicting the earlier ones"
     pub y : ℕ
-    pub y-chosen : Chosen y
-    pub y-last : (i : ℕ) → Chosen i → i ≤ y
+    pub y-row : y < m
     pub earlier-agree : Agree p n s (framesOf m n s log) (λ i. i < y)
     pub contradicts : Agree p n s (framesOf m n s log) (λ i. i < suc y) → ⊥
-    -- the others are "the earlier ones in the multiplier rows' J that it combines from": row y is one combination of rows of J before it,
-    -- and one only; the others are those rows whose multiplier is not 0
+    -- all of them are that frame or "earlier ones in the multiplier rows' J"
+    pub members : (i : ℕ) → Chosen i → (i ≡ y) ⊎ ((i < y) × (Outside i → ⊥))
+
+  -- the clash: that frame is one of them, the last, and the others are those "that it combines from": its row is one combination of rows of
+  -- J before it, and one only; the others are those rows whose multiplier is not 0
+  pub record IsClash (Chosen : ℕ → Type 0) : Type 0 where
+    pub quarrel : IsQuarrel Chosen
+    pub y-chosen : Chosen (quarrel .y)
     pub by : Vector (residues p)
-    pub from-J : FromJ y by
-    pub from-J-only : (u : Vector (residues p)) → FromJ y u → (t : ℕ) → t < y → u t ≡ by t
-    pub others-in-J : (t : ℕ) → Chosen t → (t ≡ y → ⊥) → Outside t → ⊥
-    pub others-exactly : (t : ℕ) → t < y → Chosen t ↔ (by t ≡ residues p .zero → ⊥)
+    pub from-J : FromJ (quarrel .y) by
+    pub from-J-only : (u : Vector (residues p)) → FromJ (quarrel .y) u → (t : ℕ) → t < quarrel .y → u t ≡ by t
+    pub others-exactly : (t : ℕ) → t < quarrel .y → Chosen t ↔ (by t ≡ residues p .zero → ⊥)
 
   -- the frames that marks select
   abbrev pub Selected : List ℕ → ℕ → Type 0
@@ -57,3 +61,5 @@ module _ (p m n s : ℕ) (log : List ℕ) where
     pub none-exactly : (o .lent ≡ replicate m 0) ↔ ((x : Assignment p) × MeetsAll p n s (framesOf m n s log) x)
     pub zero-exactly : (o .told ≡ results 0) ↔ ((x : Assignment p) × MeetsAll p n s (framesOf m n s log) x)
     pub else-clash : (((x : Assignment p) × MeetsAll p n s (framesOf m n s log) x) → ⊥) → IsClash (Selected (o .lent))
+    -- and no other frames are such a choice: whatever marks select one select these
+    pub only : (other : List ℕ) → IsQuarrel (Selected other) → (i : ℕ) → Selected other i ↔ Selected (o .lent) i
