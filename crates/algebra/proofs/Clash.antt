@@ -13,7 +13,7 @@ use lib.Dec.{ltb}
 use borrow.Author.Tests.{lt-ltb, le-ltb}
 use Rattle.algebra.specs.Choice.{choose}
 use Rattle.algebra.specs.Ring.{Ring, IsCommutativeRing, IsField}
-use Rattle.algebra.specs.Matrix.{Vector, Matrix, sum, unit, product, apply, mixed}
+use Rattle.algebra.specs.Matrix.{Vector, Matrix, unit, product, apply, mixed}
 use Rattle.algebra.specs.Span.{Combines}
 use Rattle.algebra.specs.Quasiinverse.{Marks, IsPivotInverse}
 use Rattle.algebra.specs.Solve.{mixOf, remainder}

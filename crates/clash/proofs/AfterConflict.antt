@@ -1,7 +1,7 @@
 -- Clash after a 9. A frame that take answers 9 has no common assignment with the frames that stand; so a log that has all of these is
 -- never answered 0, whatever else it has and in whatever order. And a log of frames that one assignment meets, as those of one console do,
 -- is always answered 0.
-use mathlib.Core.Path.{_≡_, refl, sym, ap, subst}
+use mathlib.Core.Path.{_≡_, subst}
 use mathlib.Core.List.{List}
 use Prim.Native.Nat.{ℕ, _<_}
 use native.Mathlib.Omega.{arith}
@@ -12,24 +12,17 @@ use Rattle.checks.specs.Prime.{IsModulus}
 use Rattle.checks.specs.Told.{results}
 use Rattle.checks.specs.Refusal.{refusalNumber}
 use Rattle.checks.proofs.InOrder.{in-order-elim, kind-of-list}
-use Rattle.frame.specs.Reading.{accepted, readFrame}
 use Rattle.ledger.specs.Ledger.{Entry, entry, noEntry, Ledger, Assignment, Meets, MeetsAll}
 use Rattle.ledger.specs.Board.{modulusWord, sizeWord, valuesWord, entriesOf, ledgerOf}
 use Rattle.ledger.specs.Calls.{takeCall}
 use Rattle.ledger.proofs.LedgerSteps.{Took, new, repeat, conflict, refusal, took}
 use Rattle.ledger.proofs.Honest.{met-gives-values}
 use Rattle.clash.specs.Calls.{framesOf, clashChecks, clashCall}
-use Rattle.clash.specs.Promises.{ClashDone}
+use Rattle.clash.specs.Referee.{Conflicts, Logs}
 use Rattle.clash.proofs.Frames.{frames-many}
 use Rattle.clash.proofs.ClashCall.{clash-call-done}
 
--- what a 9 says: the frame was read, and no assignment meets it and all standing frames
-pub record Conflicts (p n s : ℕ) (es : List Entry) (frame : List ℕ) : Type 0 where
-  pub multipliers : List ℕ
-  pub values : List ℕ
-  pub read : readFrame p n s frame ≡ accepted multipliers values
-  pub none : (x : Assignment p) → MeetsAll p n s es x → Meets p n s (entry multipliers values) x → ⊥
-
+-- a 9 says that the frame was read, and that no assignment meets it and all standing frames
 took-conflict : (p : ℕ) (ok : IsModulus p) (n s : ℕ) (l : Ledger) (frame mix : List ℕ) {r : Outcome (Ledger × List ℕ)}
     → Took p ok n s l frame mix r → r .told .number ≡ 9 → Conflicts p n s (l .entries) frame
 took-conflict p ok n s l frame mix (new xs vs e f) h = absurd (omega arith)
@@ -54,10 +47,6 @@ nine-conflicts ws frame mix =
     took-conflict (modulusWord ws) (hs .0 .prime) (sizeWord ws) (valuesWord ws) (ledgerOf ws) frame mix
     (took (modulusWord ws) (hs .0 .prime) (sizeWord ws) (valuesWord ws) (ledgerOf ws) frame mix) h)
     (λ k f h. absurd (kind-of-list (λ q. refusalNumber q ≡ 9 → ⊥) ((λ e. omega arith), λ _. tt) f h))
-
--- a frame is in a log
-abbrev pub Logs : (m n s : ℕ) (log : List ℕ) → Entry → Type 0
-Logs m n s log e = (i : ℕ) × ((i < m) × (getD (framesOf m n s log) i noEntry ≡ e))
 
 -- "after a 9, hand the log over": with the standing frames and the refused one in it, clash selects some
 pub clash-after-nine : (ws frame mix : List ℕ) (c : takeCall ws frame mix .told .number ≡ 9) (m : ℕ) (log marks : List ℕ)

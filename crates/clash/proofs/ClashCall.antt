@@ -9,16 +9,16 @@ use Prim.Native.Nat.{ℕ, suc, _≤_, _<_}
 use native.Mathlib.Decide.{decLt, ℕ-discrete}
 use native.Mathlib.Omega.{arith}
 use lib.Dec.{eqb}
-use lib.ListN.{length, getD, replicate, length-replicate, List·getD-eq-default}
-use borrow.Author.Tests.{eq-eqb, ne-eqb, eqb-true}
+use lib.ListN.{getD, replicate, length-replicate, List·getD-eq-default}
+use borrow.Author.Tests.{eq-eqb, eqb-true}
 use Rattle.algebra.specs.Choice.{choose, pick}
 use Rattle.algebra.specs.Quasiinverse.{Marks, count}
-use Rattle.algebra.proofs.Choice.{pick-elim, pick-yes, pick-no}
-use Rattle.algebra.proofs.Counts.{true-not-false, count-same, count-some}
+use Rattle.algebra.proofs.Choice.{pick-elim, pick-no}
+use Rattle.algebra.proofs.Counts.{count-same, count-some}
 use Rattle.algebra.proofs.Marks.{by-test}
-use Rattle.algebra.proofs.First.{picked-true, picked-false}
+use Rattle.algebra.proofs.First.{picked-true}
 use Rattle.checks.specs.Told.{results}
-use Rattle.checks.specs.Outcome.{Outcome, outcome}
+use Rattle.checks.specs.Outcome.{outcome}
 use Rattle.checks.specs.InOrder.{AllHold}
 use Rattle.checks.specs.Prime.{IsModulus}
 use Rattle.checks.proofs.InOrder.{in-order-accepted}
@@ -26,13 +26,13 @@ use Rattle.words.proofs.Zeros.{zeros-at}
 use Rattle.field.specs.Residue.{reduce, residues}
 use Rattle.field.specs.Written.{marksOf}
 use Rattle.field.proofs.Written.{length-tabulate, getD-tabulate}
-use Rattle.ledger.specs.Ledger.{Entry, Assignment, MeetsAll}
+use Rattle.ledger.specs.Ledger.{Assignment, MeetsAll}
 use Rattle.clash.specs.Decide.{agree?, equal?}
 use Rattle.clash.specs.Calls.{framesOf, Agree, contradiction, combinationOf, clashing, clashOf, clashChecks, clashCall}
 use Rattle.clash.specs.Promises.{Outside, IsClash, IsQuarrel, Selected, ClashDone}
 use Rattle.clash.proofs.Frames.{frames-many}
-use Rattle.clash.proofs.Clashes.{FirstNotKept, contradiction-found, kept-agree, unmet-contradicts}
-use Rattle.clash.proofs.Selected.{ChosenWith, found-clash, clash-same, quarrel-selected}
+use Rattle.clash.proofs.Clashes.{FirstNotKept, contradiction-found, kept-agree}
+use Rattle.clash.proofs.Selected.{ChosenWith, found-clash, clash-same, quarrel-contradiction, quarrel-selected}
 
 -- ---- marks in memory
 
@@ -75,15 +75,6 @@ none-counted : (m k : ℕ) → count k (λ i. eqb (getD (replicate m 0) i 0) 1) 
 unfolding count
 none-counted m ℕ.zero = refl
 none-counted m (suc k) = omega (arith, none-counted m k, ap {B = ℕ} (λ v. choose (eqb v 1) 1 0) (zeros-at m k))
-
--- ---- the first frame that contradicts the earlier ones is one only
-
-first-once : (p n s : ℕ) (es : List Entry) {y z : ℕ} → Agree p n s es (λ i. i < y) → (Agree p n s es (λ i. i < suc y) → ⊥)
-    → Agree p n s es (λ i. i < z) → (Agree p n s es (λ i. i < suc z) → ⊥) → y ≡ z
-first-once p n s es {y} {z} (x, met) f (v, meets) g =
-    let early : y < z → ⊥ = λ l. f (v, λ t b. meets t (omega arith)) in
-    let late : z < y → ⊥ = λ l. g (x, λ t b. met t (omega arith)) in
-    omega (arith, early, late)
 
 module _ (p : ℕ) (ok : IsModulus p) (m n s : ℕ) (log : List ℕ) where
   -- some assignment meets all frames of the log
@@ -165,10 +156,7 @@ module _ (p : ℕ) (ok : IsModulus p) (m n s : ℕ) (log : List ℕ) where
     quarrel-exactly : (C : ℕ → Type 0) → ((i : ℕ) → Dec (C i)) → IsQuarrel p m n s log C
         → (i : ℕ) → C i ↔ ((i < m) × (clashing p ok m n s log i ≡ true))
     quarrel-exactly C decide q i =
-        let (w, (l, unmet)) = found .differs row in
-        let same : q .y ≡ y =
-        first-once p n s (framesOf m n s log) (q .earlier-agree) (q .contradicts)
-        (kept-agree p ok m n s log y (omega (arith, found .within)) (found .before)) (unmet-contradicts p ok m n s log y w row l unmet) in
+        let same = quarrel-contradiction p ok m n s log q in
         let (f, g) =
         quarrel-selected p ok m n s log y found row C decide (q .none-common)
         (subst (λ k. (t : ℕ) → C t → (t ≡ k) ⊎ ((t < k) × (Outside p m n s log t → ⊥))) same (q .members)) (q .none-to-spare) i in

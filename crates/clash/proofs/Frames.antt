@@ -1,10 +1,10 @@
 -- The frames of a log in memory: what stands in row i of the log is frame i, so that an assignment meets a frame in a word exactly if
 -- the row of the table applied to that word is the value in the log.
-use mathlib.Core.Path.{_≡_, sym, ap, ap₂, _∙_}
+use mathlib.Core.Path.{_≡_, sym, ap, _∙_}
 use mathlib.Core.List.{List}
 use Prim.Native.Nat.{ℕ, _+_, _*_, _<_}
 use native.Mathlib.Omega.{arith}
-use lib.ListN.{length, getD, take, drop}
+use lib.ListN.{length, getD, drop}
 use lib.Seq.{getD-take, getD-drop}
 use Rattle.algebra.specs.Matrix.{Vector, sum, apply}
 use Rattle.algebra.proofs.Sums.{sum-same}
@@ -26,14 +26,14 @@ module _ (p m n s : ℕ) (log : List ℕ) where
     frame = getD (framesOf m n s log) i noEntry
 
     -- frame i's multipliers and values stand in row i
-    frame-multiplier : (j : ℕ) → j < n → getD (frame .multipliers) j 0 ≡ getD log (i * (n + s) + j) 0
+    pub frame-multiplier : (j : ℕ) → j < n → getD (frame .multipliers) j 0 ≡ getD log (i * (n + s) + j) 0
     unfolding rowLength
     frame-multiplier j l =
         ap (λ e. getD (e .multipliers) j 0) (entries-at n s m log i row)
         ∙ getD-take n (drop (i * (n + s)) log) j 0 l
         ∙ getD-drop (i * (n + s)) log j 0
 
-    frame-value : (w : ℕ) → w < s → getD (frame .values) w 0 ≡ getD log (i * (n + s) + n + w) 0
+    pub frame-value : (w : ℕ) → w < s → getD (frame .values) w 0 ≡ getD log (i * (n + s) + n + w) 0
     unfolding rowLength
     frame-value w l =
         ap (λ e. getD (e .values) w 0) (entries-at n s m log i row)

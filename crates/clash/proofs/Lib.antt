@@ -7,3 +7,4 @@ pub mod Rows
 pub mod Words
 pub mod Turned
 pub mod Order
+pub mod FreshBoard

@@ -4,8 +4,8 @@ use mathlib.Core.Path.{_≡_, refl, sym, _∙_, subst}
 use mathlib.Core.Bool.{true, false}
 use mathlib.Core.List.{List}
 use mathlib.Core.Logic.{_⊎_, inl, inr, ⊎-elim, _↔_}
-use Prim.Native.Nat.{ℕ, _<_}
-use native.Mathlib.Decide.{ℕ-discrete}
+use Prim.Native.Nat.{ℕ, suc, _<_}
+use native.Mathlib.Decide.{decLt, ℕ-discrete}
 use native.Mathlib.Omega.{arith}
 use Rattle.algebra.specs.Matrix.{Vector, Matrix, product}
 use Rattle.algebra.proofs.Marks.{is-true, is-false}
@@ -14,13 +14,13 @@ use Rattle.algebra.proofs.Fit.{rows-fit}
 use Rattle.algebra.proofs.Clash.{row-combined, row-combined-once, moved, moved-keeps, moved-solves}
 use Rattle.checks.specs.Prime.{IsModulus}
 use Rattle.field.specs.Residue.{residues}
-use Rattle.ledger.specs.Ledger.{Assignment}
+use Rattle.ledger.specs.Ledger.{Entry, Assignment}
 use Rattle.clash.specs.Decide.{equal?}
-use Rattle.clash.specs.Calls.{framesOf, Agree, logTable, logRows, logInverse}
+use Rattle.clash.specs.Calls.{framesOf, Agree, logTable, logRows, logInverse, contradiction}
 use Rattle.clash.specs.Parts.{logValue}
-use Rattle.clash.specs.Promises.{Outside, FromJ, IsClash}
+use Rattle.clash.specs.Promises.{Outside, IsQuarrel, IsClash}
 use Rattle.clash.proofs.Frames.{solves-met}
-use Rattle.clash.proofs.Clashes.{F, log-pivots, own, Kept, FirstNotKept, kept-agree, unmet-outside, combines-before, unmet-clash, unmet-contradicts}
+use Rattle.clash.proofs.Clashes.{F, log-pivots, own, Kept, FirstNotKept, contradiction-found, kept-agree, unmet-outside, combines-before, unmet-clash, unmet-contradicts}
 
 -- which frames are chosen is all that counts
 pub clash-same : (p m n s : ℕ) (log : List ℕ) {C E : ℕ → Type 0} → ((i : ℕ) → C i ↔ E i) → IsClash p m n s log C → IsClash p m n s log E
@@ -43,6 +43,15 @@ clash-same p m n s log same c =
       from-J-only = c .from-J-only;
       others-exactly = λ t l. let (f, g) = c .others-exactly t l in (λ h. f (same t .1 h), λ h. same t .0 (g h));
     }
+
+-- ---- the first frame that contradicts the earlier ones is one only
+
+first-once : (p n s : ℕ) (es : List Entry) {y z : ℕ} → Agree p n s es (λ i. i < y) → (Agree p n s es (λ i. i < suc y) → ⊥)
+    → Agree p n s es (λ i. i < z) → (Agree p n s es (λ i. i < suc z) → ⊥) → y ≡ z
+first-once p n s es {y} {z} (x, met) f (v, meets) g =
+    let early : y < z → ⊥ = λ l. f (v, λ t b. meets t (omega arith)) in
+    let late : z < y → ⊥ = λ l. g (x, λ t b. met t (omega arith)) in
+    omega (arith, early, late)
 
 module _ (p : ℕ) (ok : IsModulus p) (m n s : ℕ) (log : List ℕ) where
   abbrev A : Matrix (residues p)
@@ -192,3 +201,25 @@ module _ (p : ℕ) (ok : IsModulus p) (m n s : ℕ) (log : List ℕ) where
               let other : (k : ℕ) → ChosenWith y k → k ≡ i → ⊥ = λ k (l, c) e.
               ⊎-elim (λ q. d (sym e ∙ q)) (λ f. f (subst (λ t. product (residues p) n A D y t ≡ residues p .zero) (sym e) z)) c in
               absurd (found-clash .quarrel .none-common (x, λ k c. met k (selected-member k c, other k c)))
+
+-- the frame that a quarrel is about is the definition's
+pub quarrel-contradiction : (p : ℕ) (ok : IsModulus p) (m n s : ℕ) (log : List ℕ) {C : ℕ → Type 0} (q : IsQuarrel p m n s log C)
+    → q .y ≡ contradiction p ok m n s log
+quarrel-contradiction p ok m n s log q = go (decLt z m)
+  where
+    z : ℕ
+    z = contradiction p ok m n s log
+
+    found : FirstNotKept p ok m n s log z
+    found = contradiction-found p ok m n s log
+
+    agree : Agree p n s (framesOf m n s log) (λ i. i < z)
+    agree = kept-agree p ok m n s log z (found .within) (found .before)
+
+    go : Dec (z < m) → q .y ≡ z
+    go (yes row) =
+        let (w, (l, unmet)) = found .differs row in
+        first-once p n s (framesOf m n s log) (q .earlier-agree) (q .contradicts) agree (unmet-contradicts p ok m n s log z w row l unmet)
+    go (no f) =
+        let (x, met) = agree in
+        absurd (q .contradicts (x, λ i l. met i (omega (arith, q .y-row))))

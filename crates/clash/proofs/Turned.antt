@@ -21,7 +21,7 @@ use Rattle.algebra.proofs.Sums.{sum-same}
 use Rattle.algebra.proofs.Transpose.{transposed}
 use Rattle.algebra.proofs.Marked.{inverse-is}
 use Rattle.checks.specs.Told.{results}
-use Rattle.checks.specs.Outcome.{Outcome, outcome}
+use Rattle.checks.specs.Outcome.{outcome}
 use Rattle.checks.specs.Prime.{IsModulus}
 use Rattle.field.specs.Residue.{Residue, reduce, residues, _⊗_}
 use Rattle.field.specs.View.{line}
@@ -34,7 +34,7 @@ use Rattle.matrix_echelon.specs.Reduced.{ReducedForm, RowsByPivot}
 use Rattle.matrix_echelon.proofs.Grids.{grid-turned, readable-one}
 use Rattle.ledger.specs.Decide.{combined?}
 use Rattle.clash.specs.Decide.{agree?, givenInverse, equal?}
-use Rattle.clash.specs.Calls.{framesOf, Agree, logTable, logInverse, contradiction, combinationOf, clashing, clashOf}
+use Rattle.clash.specs.Calls.{framesOf, Agree, logInverse, contradiction, combinationOf, clashing, clashOf}
 use Rattle.clash.specs.Parts.{Logged, turnedGrid, WordRead}
 use Rattle.clash.proofs.Frames.{table-number}
 use Rattle.clash.proofs.Clashes.{F, FirstNotKept, contradiction-found, first-not-kept-once, kept-agree, unmet-contradicts}

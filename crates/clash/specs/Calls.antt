@@ -3,7 +3,7 @@
 -- single one gives them one." That what is defined here does so is shown in proofs/, for `ClashDone` of Promises.antt.
 use mathlib.Core.Bool.{true, false}
 use mathlib.Core.List.{List}
-use Prim.Native.Nat.{ℕ, suc, _+_, _*_, _<_}
+use Prim.Native.Nat.{ℕ, suc, _+_, _*_}
 use lib.Dec.{eqb}
 use lib.ListN.{getD, replicate}
 use Rattle.algebra.specs.Choice.{choose, pick, firstFrom}

@@ -3,3 +3,4 @@ pub mod Told
 pub mod Calls
 pub mod Parts
 pub mod Promises
+pub mod Referee

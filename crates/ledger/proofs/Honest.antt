@@ -77,6 +77,19 @@ module _ (p : ℕ) (ok : IsModulus p) (n s : ℕ) where
       (λ j h. ap (λ a. a ⊗ y j) (sym (c .1 j h)))
       ∙ one w b
 
+  -- and the other way round: where the combination of the values is its values, it is met with them
+  pub given-values-met : (es : List Entry) (xs vs : List ℕ) (x : Assignment p) → MeetsAll p n s es x
+      → (c : InSpan p n es xs) → GivesValues p s es (c .0) vs → Meets p n s (entry xs vs) x
+  unfolding apply multiplierRows valueTable
+  given-values-met es xs vs x all c g w b =
+      let y : Vector (residues p) = λ j. x j w in
+      sums.sum-same (residues p) n (λ j. reduce p (getD xs j 0) ⊗ y j) (λ j. mixed (residues p) (length es) (c .0) (multiplierRows p es) j ⊗ y j)
+      (λ j h. ap (λ a. a ⊗ y j) (c .1 j h))
+      ∙ applied.mixed-apply (residues p) L n (length es) (c .0) (multiplierRows p es) y
+      ∙ sums.sum-same (residues p) (length es) (λ t. c .0 t ⊗ apply (residues p) n (multiplierRows p es) y t) (λ t. c .0 t ⊗ valueTable p es t w)
+      (λ t h. ap (λ a. c .0 t ⊗ a) (all t h w b))
+      ∙ g w b
+
   -- ---- the records meet what comes from them
 
   module _ (low : ℕ) (zs : List ℤ) where

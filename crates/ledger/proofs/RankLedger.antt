@@ -113,7 +113,7 @@ module _ (p : ℕ) (ok : IsModulus p) (n s : ℕ) where
   -- ---- what was heard
 
   -- what is a combination of the entries is one with more behind them
-  span-more : (es ds : List Entry) (xs : List ℕ) → InSpan p n es xs → InSpan p n (es ++ ds) xs
+  pub span-more : (es ds : List Entry) (xs : List ℕ) → InSpan p n es xs → InSpan p n (es ++ ds) xs
   unfolding multiplierRows
   span-more es ds xs c =
       combination-more (residues p) L (multiplierRows p (es ++ ds)) (λ j. reduce p (getD xs j 0)) (omega (arith, length-append es ds))
@@ -122,7 +122,7 @@ module _ (p : ℕ) (ok : IsModulus p) (n s : ℕ) where
       (λ j. reduce p (getD xs j 0)) (λ j. reduce p (getD xs j 0)) (λ j l. refl) c)
 
   -- the multipliers of an entry are a combination of the rows with it
-  span-own : (es : List Entry) (xs vs : List ℕ) → InSpan p n (es ++ (entry xs vs ∷ [])) xs
+  pub span-own : (es : List Entry) (xs vs : List ℕ) → InSpan p n (es ++ (entry xs vs ∷ [])) xs
   unfolding multiplierRows
   span-own es xs vs =
       let rows = multiplierRows p (es ++ (entry xs vs ∷ [])) in

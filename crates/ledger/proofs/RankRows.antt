@@ -1,11 +1,11 @@
 -- What a ledger needs to know of rows over a ring or a field: which rows and numbers count, that a front of independent rows
 -- is independent and so are rows with one more that is no combination of them, that independent rows of n numbers are at most
 -- n, combine in one way only, and let every system be solved.
-use mathlib.Core.Path.{_≡_, sym, ap, ap₂, _∙_}
+use mathlib.Core.Path.{_≡_, refl, sym, ap, ap₂, _∙_}
 use mathlib.Core.Bool.{true}
 use mathlib.Core.Logic.{⊎-elim}
 use Prim.Native.Nat.{ℕ, suc, _≤_, _<_}
-use native.Mathlib.Nat.{lt-of-lt-of-le, le-of-suc-le-suc, eq-or-lt-of-le}
+use native.Mathlib.Nat.{lt-of-lt-of-le, not-suc-le-zero, le-of-suc-le-suc, eq-or-lt-of-le, lt-suc-self, le-step}
 use native.Mathlib.Omega.{arith}
 use lib.Dec.{ltb}
 use borrow.Author.Tests.{lt-ltb, le-ltb}
@@ -92,6 +92,25 @@ module _ (R : Ring) (L : IsCommutativeRing R) where
 
     front-mixed : (m : ℕ) (X : Matrix R) (j : ℕ) → k ≤ m → mixed R m front X j ≡ mixed R k u X j
     front-mixed m X j h = mixed-ends k m front X j h front-ends ∙ applied.mixed-same R k front u X front-in j
+
+  -- a combination of combinations is one
+  pub combination-through : (k l n : ℕ) (X Y : Matrix R) → ((y : ℕ) → y < k → IsCombination R l n Y (X y)) → (v : Vector R)
+      → IsCombination R k n X v → IsCombination R l n Y v
+  combination-through ℕ.zero l n X Y h v (u, c) = (
+    λ t. 𝟘,
+    λ j b. c j b ∙ applied.zeros-mixed R L 0 u X j (λ t e. absurd (not-suc-le-zero e)) ∙ sym (applied.zeros-mixed R L l (λ t. 𝟘) Y j (λ t e. refl)),
+  )
+  combination-through (suc k) l n X Y h v (u, c) =
+      let (a, d) = combination-through k l n X Y (λ y e. h y (le-step e)) (mixed R k u X) (u, λ j b. refl) in
+      let (w, e) = h k (lt-suc-self k) in (
+        λ t. a t ⊕ u k ⊗ w t,
+        λ j b.
+            c j b
+            ∙ mixed-next R k u X j
+            ∙ (λ i. d j b i ⊕ u k ⊗ e j b i)
+            ∙ ap (λ z. mixed R l a Y j ⊕ z) (sym (applied.times-mixed R L l (u k) w Y j))
+            ∙ sym (applied.plus-mixed R L l a (λ t. u k ⊗ w t) Y j),
+      )
 
   -- a combination of the first k rows is one of the first m
   pub combination-more : {k m n : ℕ} (X : Matrix R) (v : Vector R) → k ≤ m → IsCombination R k n X v → IsCombination R m n X v

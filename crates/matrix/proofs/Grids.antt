@@ -17,7 +17,6 @@ use Rattle.algebra.proofs.Transpose.{transposed}
 use Rattle.checks.specs.Largest.{largest}
 use Rattle.checks.specs.Prime.{IsModulus}
 use Rattle.field.specs.Residue.{residues, reduce}
-use Rattle.field.specs.View.{table}
 use Rattle.field.specs.Written.{marked}
 use Rattle.field.proofs.Field.{residues-ring}
 use Rattle.field.proofs.Written.{marked-no, marked-yes}

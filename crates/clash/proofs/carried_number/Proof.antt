@@ -1,9 +1,7 @@
 -- `clash::carried_number` meets its contract: the number of the worked row, or 0 where there is none.
-use mathlib.Core.Path.{_≡_, ap}
 use Prim.Native.Nat.{_+_, _*_, _-_, _<_}
 use native.Mathlib.Omega.{arith}
 use borrow.Author.Needs.{needs}
-use Rattle.clash.specs.Parts.{carriedNumber}
 use Rattle.clash.proofs.Rows.{carried-inside, carried-there}
 use Rattle.clash.proofs.carried_number.Statement.{statement}
 use Rattle.clash.proofs.carried_number.Tie as tie

@@ -1,5 +1,5 @@
 -- `clash_calls::clash_checks` meets its contract: each return is the first check that fails, or that all hold.
-use Prim.Native.Nat.{_+_, _*_, _≤_}
+use Prim.Native.Nat.{_+_}
 use native.Mathlib.Nat.{mul-le-mul}
 use native.Mathlib.Omega.{arith}
 use borrow.Author.Needs.{needs}
