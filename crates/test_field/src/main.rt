@@ -127,7 +127,6 @@ fn print_refusals() {
     print_refusal(Refusal::Withdrawal);
     print_refusal(Refusal::NotBoard);
     print_refusal(Refusal::Words);
-    print_refusal(Refusal::NotInSpan);
     print_refusal(Refusal::NotInner);
     print_refusal(Refusal::NotOuter);
 }
