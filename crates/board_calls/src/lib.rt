@@ -1,4 +1,6 @@
 // The board: open, take, withdraw and show. The ledger that they keep is in the words that the caller lends.
+#![tactic(auto)]
+
 ghost use Rattle.std.specs.Prelude.{◌≡◌};
 ghost use Rattle.checks.specs.Outcome.{outcome};
 ghost use Rattle.board_calls.specs.Told.{open_told, answer_told};

@@ -1,5 +1,7 @@
 // What the standing rows of a board say: whether a row is a combination of them, what becomes of a frame that has been read, and
 // which records are settled.
+#![tactic(auto)]
+
 ghost use Rattle.algebra.specs.Answers.{Tells};
 ghost use Rattle.checks.specs.Outcome.{outcome};
 ghost use Rattle.board_solve.specs.Told.{take_told};

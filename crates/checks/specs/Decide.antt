@@ -1,7 +1,7 @@
 -- What the calls check is decided; the types say what, and nothing computes with it. Whether a number is a modulus is decided
 -- by looking at every number below it.
 use Rattle.std.specs.Prelude.{◌≡◌, List, ℕ, ◌≤◌, ◌<◌, length}
-use Rattle.std.proofs.Math.Logic.{Dec·and}
+use Rattle.std.proofs.Math.Logic.{Dec.and}
 use Rattle.std.specs.Int.{◌∣◌}
 use Rattle.std.proofs.Math.Decide.{dec_le, dec_lt, dec_dvd, ℕ_discrete}
 use Rattle.algebra.proofs.Choice.{all_below?}
@@ -26,13 +26,13 @@ modulus? p = go (dec_le 2 p) (dec_le p largest_modulus) (all_below? (λ d. 1 < d
     go (yes t) (yes r) (yes a) = yes (record { prime = record { two_or_more = t; no_divisor = λ d h l v. a d l h v }; in_range = r })
 
 pub sizes? : (m n : ℕ) → Dec (Sizes m n)
-sizes? m n = Dec·and (dec_le m largest) (dec_le n largest)
+sizes? m n = Dec.and (dec_le m largest) (dec_le n largest)
 
 pub frame_size? : (n : ℕ) → Dec (FrameSize n)
-frame_size? n = Dec·and (dec_le 1 n) (dec_le n largest)
+frame_size? n = Dec.and (dec_le 1 n) (dec_le n largest)
 
 pub word_count? : (s : ℕ) → Dec (WordCount s)
-word_count? s = Dec·and (dec_le 1 s) (dec_le s most_words)
+word_count? s = Dec.and (dec_le 1 s) (dec_le s most_words)
 
 -- a slice has the length named
 pub long? : {A : Type 0} (xs : List A) (k : ℕ) → Dec (length xs ≡ k)

@@ -1,4 +1,6 @@
 // The refusal kinds, the test of the modulus, and what several calls check alike: the modulus, then the size.
+#![tactic(auto)]
+
 ghost use Rattle.std.specs.Prelude.{◌≡◌};
 ghost use Rattle.algebra.specs.Answers.{Tells};
 ghost use Rattle.checks.specs.Refusal.{refusal_number};

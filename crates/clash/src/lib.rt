@@ -2,6 +2,8 @@
 // the first frame that contradicts the earlier ones is the first row where A (D V) is not V, and the rows that it combines from are
 // those where its row of A D is not 0. Neither D nor a copy of A is made; the log is read in place, and both eliminations use one room.
 // Leaves for `clash_calls`.
+#![tactic(auto)]
+
 ghost use Rattle.std.specs.Prelude.{◌≡◌, ◌≤◌, ◌<◌, length, get_or, take};
 ghost use Rattle.algebra.specs.Quasiinverse.{count};
 ghost use Rattle.checks.specs.Outcome.{outcome};

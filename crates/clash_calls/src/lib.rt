@@ -1,4 +1,6 @@
 // Which frames of a log quarrel: the public call clash.
+#![tactic(auto)]
+
 ghost use Rattle.std.specs.Prelude.{◌≡◌};
 ghost use Rattle.checks.specs.Outcome.{outcome};
 ghost use Rattle.checks.specs.Sizes.{Judges};

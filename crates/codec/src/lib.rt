@@ -1,5 +1,7 @@
 // Numbers as bytes, written to a lent slice and read back: big-endian, as frames and the sheet's input have them, and as decimal
 // digits, as the sheet prints them.
+#![tactic(auto)]
+
 ghost use Rattle.std.specs.Prelude.{◌≡◌, ◌∷◌, [], ◌+◌, ◌^◌, ◌≤◌, ◌<◌, nat_abs, length};
 ghost use Rattle.codec.specs.Placed.{placed, Put};
 ghost use Rattle.codec.specs.BigEndian.{bytes_of, number_at};

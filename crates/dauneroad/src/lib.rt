@@ -1,5 +1,7 @@
 // What C calls: each function hands its slices to the call below it and answers the number that is told. include/dauneroad.h
 // declares them.
+#![tactic(auto)]
+
 ghost use Rattle.std.specs.Prelude.{◌≡◌};
 ghost use Rattle.matrix.specs.Told.{table_told};
 ghost use Rattle.frame.specs.Told.{read_told, write_told, seal_told};

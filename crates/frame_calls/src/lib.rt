@@ -1,5 +1,7 @@
 // Frames: the calls read, write and seal. Each checks 1, the modulus; 2, the size; 12, the words of a record; 3, the lengths; then what
 // 01 says of the frame or of the numbers.
+#![tactic(auto)]
+
 ghost use Rattle.std.specs.Prelude.{◌≡◌};
 ghost use Rattle.checks.specs.Outcome.{outcome};
 ghost use Rattle.frame.specs.Told.{read_told, write_told, seal_told};

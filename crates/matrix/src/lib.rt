@@ -1,4 +1,6 @@
 // Tables: what their calls answer, and the parts that the calls are made of. 01's definitions are in specs/.
+#![tactic(auto)]
+
 use checks::Refusal;
 
 pub mod parts;

@@ -1,5 +1,7 @@
 // Tables: quasiinverse, kernel, solution and nearest fit, and the check of a quasiinverse from elsewhere. Each call checks, in this
 // order, 1, p; 2, the sizes; 3, the lengths; 4, the numbers; and leaves all lent memory as it was where it refuses by these.
+#![tactic(auto)]
+
 ghost use Rattle.std.specs.Prelude.{◌≡◌};
 ghost use Rattle.matrix.specs.Told.{table_told};
 ghost use Rattle.matrix.specs.Calls.{quasiinverse_call, kernel_call, system_checks, solve_call, fit_call, pair_checks, check_call};

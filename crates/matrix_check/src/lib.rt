@@ -1,5 +1,7 @@
 // Whether A D A = A for tables in memory, row by row: no product is kept whole. Leaves for the crates above, which meet what each
 // requires.
+#![tactic(auto)]
+
 ghost use Rattle.std.specs.Prelude.{◌≡◌, ◌<◌, length};
 ghost use Rattle.algebra.specs.Answers.{Tells};
 ghost use Rattle.algebra.specs.Quasiinverse.{Absorbs};

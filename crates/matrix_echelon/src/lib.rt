@@ -1,5 +1,7 @@
 // The echelon form of a table by forward elimination: its rank, its reduced form, and solutions of its systems, without a
 // quasiinverse. The table is read in place. Leaves for the crates above, which meet what each requires.
+#![tactic(auto)]
+
 pub mod forward;
 pub mod group;
 pub mod reduced;

@@ -1,5 +1,7 @@
 // Sums of rows and products of blocks of residues: a product goes row by row through a combination of rows. Leaves for the crates
 // above, which meet what each requires.
+#![tactic(auto)]
+
 ghost use Rattle.std.specs.Prelude.{◌≡◌, ◌≤◌, ◌<◌, length};
 ghost use Rattle.checks.specs.Prime.{largest_modulus};
 ghost use Rattle.words.specs.Lengths.{longest_row};

@@ -1,4 +1,6 @@
 // The relay box: the frame of a wanted row of multipliers, made from the frames that stand on a board. The public call relay.
+#![tactic(auto)]
+
 ghost use Rattle.std.specs.Prelude.{◌≡◌, ℕ, ◌<◌, length, get_or};
 ghost use Rattle.checks.specs.Outcome.{outcome};
 ghost use Rattle.frame.specs.Told.{write_told};

@@ -2,6 +2,8 @@
 // frame has come, then the records and how many frames are missing. What is a cut header or frame is sheet_text's, what is written
 // of a frame and at the end sheet_heat's. This crate reads, lends memory and writes: what such a program writes is `sheet_by_calls` of
 // sheet_heat, for the memory that it lends and its budget of frames, and that is 01's sheet.
+#![tactic(auto)]
+
 mod frames;
 mod heat;
 mod lent;

@@ -1,4 +1,6 @@
 // The lines of a heat, made by the calls on the board themselves: a frame's line by take, the records and the missing line by show.
+#![tactic(auto)]
+
 ghost use Rattle.std.specs.Prelude.{◌≡◌, ◌≤◌, length};
 ghost use Rattle.checks.specs.Largest.{largest};
 ghost use Rattle.words.specs.Lengths.{longest_row};

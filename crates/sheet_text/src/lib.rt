@@ -1,4 +1,6 @@
 // The lines of the sheet, written into a lent buffer, and the header and frame lengths that the sheet reads.
+#![tactic(auto)]
+
 ghost use Rattle.std.specs.Prelude.{◌≡◌, ◌+◌, ◌≤◌, ◌<◌, length};
 ghost use Rattle.checks.specs.Largest.{largest};
 ghost use Rattle.checks.specs.Refusal.{refusal_number};

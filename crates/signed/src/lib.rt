@@ -1,4 +1,6 @@
 // The signed reading of residues, and its inverse: what a record is on the sheet and what travels in its place.
+#![tactic(auto)]
+
 ghost use Rattle.std.specs.Prelude.{◌≡◌, ◌<◌, ◌≤◌};
 ghost use Rattle.checks.specs.Prime.{largest_modulus};
 ghost use Rattle.algebra.specs.Answers.{Tells};

@@ -11,6 +11,8 @@
 //   count, and that of a show is what is missing. Lent words begin as 9 and lent numbers as -9. An open that is refused and
 //   changed them would add `touched`.
 // - `mismatches N`: how often an answer to a stored call, lent memory or a board was not the one expected.
+#![tactic(auto)]
+
 mod calls;
 mod examples;
 mod memory;

@@ -8,6 +8,8 @@
 //   `refused-3 N`, `refused-4 N` were refused so. A call is counted there if it answered as stored.
 // - `example clash-WHAT NUMBER marks ..` for each example, with the marks as the call left them. Each mark begins as 9.
 // - `mismatches N`: how often an answer to a stored call, or the marks that it leaves, were not the ones expected.
+#![tactic(auto)]
+
 mod cases;
 mod examples;
 mod memory;

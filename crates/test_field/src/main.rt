@@ -11,6 +11,8 @@
 //   ends of the range and one beyond, with `refused N` in the last place where check 1 or check 4 stops the call. They are read
 //   with the old low end, (p - 1)/2 rounded down.
 // - `readings N`, `residues N`, `refused N`, `mismatches N`: the stored cases by their answers, and how often one was not as expected.
+#![tactic(auto)]
+
 ghost use Rattle.std.specs.Prelude.{◌≡◌, ◌≤◌, ◌<◌, pos, neg_ℤ, nat_abs};
 
 mod cases;

@@ -10,6 +10,8 @@
 // - `example CALL-WHAT NUMBER` for each example. Where the call is not refused the values come behind the number, or of writing the
 //   length. A refusal that changed lent memory would add `touched`.
 // - `mismatches N`: how often an answer to a stored case of reading, a value or lent memory was not the one expected.
+#![tactic(auto)]
+
 mod cases;
 mod examples;
 mod expected;

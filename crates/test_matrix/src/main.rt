@@ -11,6 +11,8 @@
 // - `example CALL-WHAT NUMBER` for each example. A refusal that changed lent memory would add `touched`, and a kernel of no
 //   rows that is not the document's a line. Three nearest fits are given with z and the remainder.
 // - `mismatches N`: how often an answer to a stored case, or the memory that it leaves, was not the one expected.
+#![tactic(auto)]
+
 mod calls;
 mod cases;
 mod check_examples;

@@ -12,6 +12,8 @@
 //   mix begins as 9, and so does each byte.
 // - `mismatches N`: how often an answer to a stored call, or the mix or the bytes that it leaves, all of them, were not the ones expected,
 //   or a frame was not taken or read so.
+#![tactic(auto)]
+
 mod cases;
 mod examples;
 mod frames;

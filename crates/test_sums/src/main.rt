@@ -8,6 +8,8 @@
 // - `empty P S`: a row of no numbers, where start and step are 2^64 - 1.
 // - `one_number P S`: the first 100,000 of the numbers of the lines above times a table of one number, the one at place 7, by steps
 //   of 0.
+#![tactic(auto)]
+
 ghost use Rattle.std.specs.Prelude.{◌≡◌, ◌<◌, length};
 
 mod memory;

@@ -1,5 +1,7 @@
 // Slices of u32 words, whatever they stand for: room of zeros, clearing, copying, comparing, and tests of every word. Leaves for
 // the crates above, which meet what each requires.
+#![tactic(auto)]
+
 ghost use Rattle.std.specs.Prelude.{◌≡◌, ◌+◌, ◌≤◌, ◌<◌, length};
 ghost use Rattle.algebra.specs.Answers.{Tells};
 ghost use Rattle.words.specs.Lengths.{longest_row, widest_row, widest_table};
