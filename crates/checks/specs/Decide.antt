@@ -1,7 +1,7 @@
 -- What the calls check is decided; the types say what, and nothing computes with it. Whether a number is a modulus is decided
 -- by looking at every number below it.
 use Rattle.std.specs.Prelude.{◌≡◌, List, ℕ, ◌≤◌, ◌<◌, length}
-use Rattle.std.proofs.Math.Logic.{Dec.and}
+use Rattle.std.proofs.Math.Logic.Dec
 use Rattle.std.specs.Int.{◌∣◌}
 use Rattle.std.proofs.Math.Decide.{dec_le, dec_lt, dec_dvd, ℕ_discrete}
 use Rattle.algebra.proofs.Choice.{all_below?}
