@@ -16,7 +16,7 @@ byte : (c : In-loop-b) → Fits w8 (get_or c.args.map c.loop-b.b 0)
 byte c = search rules
 
 ones_small : (c : In-loop-b) → ones (get_or c.args.map c.loop-b.b 0) ≤ 8
-ones_small c = ones-le 8 _ (byte c).ranges
+ones_small c = ones-le 8 _ (byte c).fits
 
 pub loop-b-init : goal.loop-b-init
 loop-b-init c = (omega arith, sym (count_none _ 0), omega arith)
@@ -30,7 +30,7 @@ overflow_add-total c = omega (arith, ones_small (goal.at.overflow_add-total c).I
 pub loop-b-preserved : goal.loop-b-preserved
 loop-b-preserved c =
     let l = c.loop-b in
-    let more = count_one_more c.args.map l.b (byte (goal.at.loop-b-preserved c).In-loop-b).ranges in
+    let more = count_one_more c.args.map l.b (byte (goal.at.loop-b-preserved c).In-loop-b).fits in
     (omega arith, omega (arith, more), omega (arith, ones_small (goal.at.loop-b-preserved c).In-loop-b))
 
 pub returns : goal.returns

@@ -9,7 +9,7 @@ use Rattle.frame_bytes.proofs.reading.fill.Goals as goal
 use Rattle.frame_bytes.proofs.reading.fill.Goals.{Then-stands, else-stands, then-stands}
 
 pub loop-j-init : goal.loop-j-init
-loop-j-init c = filling_none _ _ _ _ _ c.requires.1
+loop-j-init c = filling_none _ _ _ _ _ c.requires.map_in_bounds
 
 -- in the arm of a standing bit there is a number at the place
 room : (c : Then-stands) → c.loop-j.at + c.args.w
@@ -29,7 +29,10 @@ loop-j-preserved c =
     let l = c.loop-j in
     let bit = sym c.stands.ensures in
     let more : l.j < length c.args.multipliers.now = omega (arith, l.invariant.long) in
-    elim c.if-stands.branch [ then-stands w ↦ rw (w.2, w.3, w.1.ensures.1) (filling_stands _ _ _ _ _ _ _ _ l.invariant more (bit ∙ w.if-stands.true)) | else-stands w ↦ rw (w.multipliers-is, w.2) (filling_absent _ _ _ _ _ _ _ _ l.invariant more (bit ∙ w.if-stands.false)) ]
+    elim c.if-stands.branch [
+        then-stands w ↦ rw (w.multipliers-is, w.at-is, w.number_at.ensures.1) (filling_stands _ _ _ _ _ _ _ _ l.invariant more (bit ∙ w.if-stands.true))
+        | else-stands w ↦ rw (w.multipliers-is, w.at-is) (filling_absent _ _ _ _ _ _ _ _ l.invariant more (bit ∙ w.if-stands.false))
+    ]
 
 pub shape_of-multipliers : goal.shape_of-multipliers
 shape_of-multipliers c = omega (arith, c.loop-j.invariant.long)

@@ -102,10 +102,10 @@ judged-requires c = (narrow (goal.at.judged-requires c).After-width_of-w, c.if-b
 
 pub fill-requires : goal.fill-requires
 fill-requires c =
-    (
-      (narrow (goal.at.fill-requires c).After-width_of-w, omega arith),
-      rw (c.requires.3, ← (count_records c.args.p _ (length c.args.values.now) _ _ _ (counted (goal.at.fill-requires c).After-width_of-w (mapped (goal.at.fill-requires c).After-from_bytes-map)) (clear (goal.at.fill-requires c).Else-not-unpadded))) (omega (arith, c.if-bytes-end.false)),
-    )
+    record {
+      w_bound = (narrow (goal.at.fill-requires c).After-width_of-w, omega arith);
+      map_in_bounds = rw (c.requires.3, ← (count_records c.args.p _ (length c.args.values.now) _ _ _ (counted (goal.at.fill-requires c).After-width_of-w (mapped (goal.at.fill-requires c).After-from_bytes-map)) (clear (goal.at.fill-requires c).Else-not-unpadded))) (omega (arith, c.if-bytes-end.false));
+    }
 
 pub fill_values-requires : goal.fill_values-requires
 fill_values-requires c = (narrow (goal.at.fill_values-requires c).After-width_of-w, omega (arith, c.if-bytes-end.false))

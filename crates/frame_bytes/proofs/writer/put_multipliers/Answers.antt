@@ -35,9 +35,12 @@ loop-j-preserved c =
     let l = c.loop-j in
     let bit = rw c.requires.1 at c.stands.ensures in (
       omega arith,
-      elim c.if-stands.branch [ then-stands w ↦ rw (w.6 ∙ w.3.ensures, w.7) (packing_more a.w a.from a.multipliers.now a.bytes.now c.requires.2 l.j l.at l.bytes (omega arith)
-          (stands_of a.multipliers.now l.j (omega arith) (omega arith) (sym bit ∙ w.if-stands.true)) l.invariant.1) | else-stands w ↦ rw (w.bytes-is, w.2) (packing_skip a.w a.from a.multipliers.now a.bytes.now c.requires.2 l.j l.at l.bytes (omega arith)
-          (absent_of a.multipliers.now l.j (omega arith) (omega arith) (sym bit ∙ w.if-stands.false)) l.invariant.1) ],
+      elim c.if-stands.branch [
+        then-stands w ↦ rw (w.bytes-is ∙ w.put_number.ensures, w.at-is) (packing_more a.w a.from a.multipliers.now a.bytes.now c.requires.2 l.j l.at l.bytes (omega arith)
+          (stands_of a.multipliers.now l.j (omega arith) (omega arith) (sym bit ∙ w.if-stands.true)) l.invariant.1)
+        | else-stands w ↦ rw (w.bytes-is, w.at-is) (packing_skip a.w a.from a.multipliers.now a.bytes.now c.requires.2 l.j l.at l.bytes (omega arith)
+          (absent_of a.multipliers.now l.j (omega arith) (omega arith) (sym bit ∙ w.if-stands.false)) l.invariant.1)
+    ],
     )
 
 pub shape_of-bytes : goal.shape_of-bytes

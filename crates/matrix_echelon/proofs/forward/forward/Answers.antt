@@ -26,7 +26,10 @@ loop-i-preserved c =
     (
       omega (arith, c.loop-i-test.true),
       rw (add-one c.loop-i.i)
-          (elim c.if-rank-grid.branch [ then-rank-grid w ↦ rw (w.8, w.9, w.10) w.3.ensures | else-rank-grid w ↦ rw (w.e-is, w.2, w.3) (held_follows c.requires.0 (omega (arith, w.if-rank-grid.false)) c.loop-i.invariant.1) ]),
+          (elim c.if-rank-grid.branch [
+        then-rank-grid w ↦ rw (w.e-is, w.pivots-is, w.rank-is) w.work_row-rank.ensures
+        | else-rank-grid w ↦ rw (w.e-is, w.pivots-is, w.rank-is) (held_follows c.requires.0 (omega (arith, w.if-rank-grid.false)) c.loop-i.invariant.1)
+    ]),
     )
 
 pub returns : goal.returns

@@ -1,8 +1,8 @@
 -- `matrix_echelon::group::least_pivot` meets its contract. The loop's invariant: `least` is no more than the pivots before t.
-use mathlib.Core.Logic.{⊎_elim}
 use native.Mathlib.Omega.{arith}
 use borrow.Author.Count.{below_more}
 use Rattle.matrix_echelon.proofs.group.least_pivot.Goals as goal
+use Rattle.matrix_echelon.proofs.group.least_pivot.Goals.{else-t-rank, then-t-rank+else-v-least, then-t-rank+then-v-least}
 
 pub loop-t-init : goal.loop-t-init
 loop-t-init c = (omega arith, omega arith, omega arith, λ s h a. absurd (omega arith))
@@ -26,17 +26,16 @@ pub loop-t-preserved : goal.loop-t-preserved
 loop-t-preserved c =
     let v = c.loop-t.invariant in
     let more = c.loop-t-test.true in
-    ⊎_elim
-    (λ w. rw w.3 (
+    elim c.if-t-rank.branch [
+        then-t-rank+then-v-least w ↦ rw w.least-is (
       omega arith,
       omega (arith, more),
-      omega (arith, c.requires.0.inside c.loop-t.t w.0.taken),
-      below_more _ c.loop-t.t (λ q h a k. omega (arith, v.3 q h a k, w.2.taken)) (λ a k. omega arith),
-    ))
-    (⊎_elim
-    (λ w. rw w.3 (omega arith, omega (arith, more), v.2, below_more _ c.loop-t.t v.3 (λ a k. omega (arith, w.2.left))))
-    (λ w. rw w.1 (omega arith, omega (arith, more), v.2, below_more _ c.loop-t.t v.3 (λ a k. absurd (omega (arith, w.0.left))))))
-    c.if-t-rank.branch
+      omega (arith, c.requires.0.inside c.loop-t.t w.if-t-rank.true),
+      below_more _ c.loop-t.t (λ q h a k. omega (arith, v.3 q h a k, w.if-v-least.true)) (λ a k. omega arith),
+    )
+        | then-t-rank+else-v-least w ↦ rw w.least-is (omega arith, omega (arith, more), v.2, below_more _ c.loop-t.t v.3 (λ a k. omega (arith, w.if-v-least.false)))
+        | else-t-rank w ↦ rw w.least-is (omega arith, omega (arith, more), v.2, below_more _ c.loop-t.t v.3 (λ a k. absurd (omega (arith, w.if-t-rank.false))))
+    ]
 
 pub returns : goal.returns
 returns c =

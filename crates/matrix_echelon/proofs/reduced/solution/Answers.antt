@@ -31,11 +31,11 @@ abbrev row : (c : In-loop-t) → List ℕ
 row c =
     let n = c.args.grid.columns in
     let at = (c.loop-t.t - 1) * (n + 1) in
-    take (at + n - at) (drop at c.forward-rank.last.1.1.1.1.1.1.0)
+    take (at + n - at) (drop at c.forward-rank.new.e)
 
 is_row : (c : In-loop-t) → (in-room : let n = c.args.grid.columns in
     (c.loop-t.t - 1) * (n + 1) + (n + 1) ≤ widest_table) → let n = c.args.grid.columns in
-    IsPart c.forward-rank.last.1.1.1.1.1.1.0 ((c.loop-t.t - 1) * (n + 1)) n (row c)
+    IsPart c.forward-rank.new.e ((c.loop-t.t - 1) * (n + 1)) n (row c)
 is_row c in-room = is_part (omega (arith, in-room, c.forward-rank.ensures.room.rows_in.long))
 
 pub forward-rank-requires : goal.forward-rank-requires
@@ -101,7 +101,7 @@ loop-t-preserved c =
       omega (arith, c.loop-t.invariant.0),
       solved_more (proper (goal.at.loop-t-preserved c).After-slice_known-2-1) (omega (arith, c.loop-t.invariant.0)) (pivot-in (goal.at.loop-t-preserved c).In-loop-t)
           (subst
-          (λ q. SolvedFrom c.args.p c.args.grid.columns f.result q f.last.1.1.1.1.1.1.0 f.last.1.1.1.1.1.1.1.0 c.loop-t.z)
+          (λ q. SolvedFrom c.args.p c.args.grid.columns f.result q f.new.e f.new.pivots c.loop-t.z)
           next c.loop-t.invariant.1)
           (is_row (goal.at.loop-t-preserved c).In-loop-t (in-room (goal.at.loop-t-preserved c).In-loop-t (few (goal.at.loop-t-preserved c).After-slice_known-2-1))) c.dot-x.ensures c.minus.ensures,
     )
