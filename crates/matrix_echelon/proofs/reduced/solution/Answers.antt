@@ -113,3 +113,7 @@ pub returns : goal.returns
 returns c =
     let none : c.loop-t.t ≡ 0 = omega arith in
     solution_found (omega (arith, proper (goal.at.returns c).After-slice_known-2-1)) c.forward-rank.ensures (rw none at c.loop-t.invariant.1)
+
+pub slice_bounds-dot-end : goal.slice_bounds-dot-end
+slice_bounds-dot-end c =
+    omega (arith, in-room c (few (goal.at.slice_bounds-dot-end c).After-slice_known-2-1), c.forward-rank.ensures.room.rows_in.long)
