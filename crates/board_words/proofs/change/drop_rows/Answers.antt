@@ -23,6 +23,9 @@ offset_bounds-board-from c = omega (arith, (part (goal.at.offset_bounds-board-fr
 pub slice_bounds-clear-count : goal.slice_bounds-clear-count
 slice_bounds-clear-count c = (part (goal.at.slice_bounds-clear-count c).After-row_start-end).0
 
+pub slice_bounds-clear-start : goal.slice_bounds-clear-start
+slice_bounds-clear-start c = (part (goal.at.slice_bounds-clear-start c).After-row_start-end).0
+
 pub bounds-board-2 : goal.bounds-board-2
 bounds-board-2 c = omega (arith, row_behind c.args.n c.args.s c.args.k, c.requires.4)
 

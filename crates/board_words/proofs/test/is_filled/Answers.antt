@@ -24,6 +24,12 @@ row_start-end-requires c = (c.requires.size.1, c.requires.words.1, count_most _ 
 pub slice_bounds-all_below-count : goal.slice_bounds-all_below-count
 slice_bounds-all_below-count c = (end (goal.at.slice_bounds-all_below-count c).After-row_start-end).0
 
+pub slice_bounds-all_below-start : goal.slice_bounds-all_below-start
+slice_bounds-all_below-start c = (end (goal.at.slice_bounds-all_below-start c).After-row_start-end).0
+
+pub slice_bounds-all_below-end : goal.slice_bounds-all_below-end
+slice_bounds-all_below-end c = (end (goal.at.slice_bounds-all_below-end c).After-row_start-end).1
+
 pub returns-then-not-all_below : goal.returns-then-not-all_below
 returns-then-not-all_below c = tells_no (λ f. guard_taken (rw c.row_start-end.ensures at c.all_below.ensures) c.if-not-all_below.true-raw (filled_below _ c.requires f))
 
