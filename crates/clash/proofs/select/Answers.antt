@@ -1,6 +1,5 @@
 -- `clash::select` meets its contract: the position that was found is the definition's, and so are the marks.
 use mathlib.Core.Path.{◌≡◌, sym, ap, ◌∙◌}
-use mathlib.Core.List.{List}
 use Prim.Native.Nat.{ℕ, ◌<◌}
 use native.Mathlib.Omega.{arith}
 use lib.ListN.{length, take, set, length-set}
@@ -40,11 +39,7 @@ row c =
 pub combination-by-requires : goal.combination-by-requires
 combination-by-requires c = (c.requires.0, row (goal.at.combination-by-requires c).Else-y-m, c.first_contradiction-y.ensures.1)
 
--- its multipliers of m rows
-abbrev multipliers : (c : After-combination-by) → List ℕ
-multipliers c = take c.args.m c.combination-by.result
-
-many : (c : After-combination-by) → length (multipliers c) ≡ c.args.m
+many : (c : After-combination-by) → length (take c.args.m c.combination-by.result) ≡ c.args.m
 many c = length-take-le _ _ (omega (arith, c.combination-by.ensures.0, c.requires.0.m_most))
 
 pub slice_bounds-by-end : goal.slice_bounds-by-end
@@ -56,34 +51,27 @@ slice_bounds-put-end c = sym (many (goal.at.slice_bounds-put-end c).After-combin
 pub put-requires : goal.put-requires
 put-requires c = omega (arith, many (goal.at.put-requires c).After-combination-by, c.requires.1)
 
-abbrev written : (c : After-put) → List ℕ
-written c = c.put.new.out
+whole : (c : After-put) → (many : length (take c.args.m c.combination-by.result) ≡ c.args.m) → (c.put.new.out) ≡ (take c.args.m c.combination-by.result)
+whole c many = put_whole (take c.args.m c.combination-by.result) c.args.marks.now (c.put.new.out) (many ∙ sym c.requires.1) c.put.ensures
 
-whole : (c : After-put) → (multipliers : List ℕ) → (many : length (multipliers c) ≡ c.args.m) → written c ≡ multipliers
-whole c multipliers many = put_whole (multipliers) c.args.marks.now (written c) (many ∙ sym c.requires.1) c.put.ensures
-
-long : (c : After-put) → (multipliers : List ℕ) → (whole : written c ≡ multipliers) → (many : length (multipliers c) ≡ c.args.m) → length (written c) ≡ c.args.m
-long c multipliers whole many = ap length (whole) ∙ many
+long : (c : After-put) → (whole : (c.put.new.out) ≡ (take c.args.m c.combination-by.result)) → (many : length (take c.args.m c.combination-by.result) ≡ c.args.m) → length (c.put.new.out) ≡ c.args.m
+long c whole many = ap length (whole) ∙ many
 
 pub offset_bounds-marks-y : goal.offset_bounds-marks-y
 offset_bounds-marks-y c = omega (arith, row (goal.at.offset_bounds-marks-y c).Else-y-m, c.requires.0.m_most)
 
 pub bounds-marks-y : goal.bounds-marks-y
-bounds-marks-y c = omega (arith, row (goal.at.bounds-marks-y c).Else-y-m, long (goal.at.bounds-marks-y c).After-put (multipliers (goal.at.bounds-marks-y c).After-combination-by) (whole (goal.at.bounds-marks-y c).After-put (multipliers (goal.at.bounds-marks-y c).After-combination-by) (many (goal.at.bounds-marks-y c).After-combination-by)) (many (goal.at.bounds-marks-y c).After-combination-by))
+bounds-marks-y c = omega (arith, row (goal.at.bounds-marks-y c).Else-y-m, long (goal.at.bounds-marks-y c).After-put (whole (goal.at.bounds-marks-y c).After-put (many (goal.at.bounds-marks-y c).After-combination-by)) (many (goal.at.bounds-marks-y c).After-combination-by))
 
 pub mark_nonzero-requires : goal.mark_nonzero-requires
-mark_nonzero-requires c = rw (length-set, long (goal.at.mark_nonzero-requires c).After-put (multipliers (goal.at.mark_nonzero-requires c).After-combination-by) (whole (goal.at.mark_nonzero-requires c).After-put (multipliers (goal.at.mark_nonzero-requires c).After-combination-by) (many (goal.at.mark_nonzero-requires c).After-combination-by)) (many (goal.at.mark_nonzero-requires c).After-combination-by)) c.requires.0.m_most
+mark_nonzero-requires c = rw (length-set, long (goal.at.mark_nonzero-requires c).After-put (whole (goal.at.mark_nonzero-requires c).After-put (many (goal.at.mark_nonzero-requires c).After-combination-by)) (many (goal.at.mark_nonzero-requires c).After-combination-by)) c.requires.0.m_most
 
 pub shape_of-marks : goal.shape_of-marks
-shape_of-marks c = c.mark_nonzero.auto.u ∙ length-set {A = ℕ} (written (goal.at.shape_of-marks c).After-put) _ _ ∙ long (goal.at.shape_of-marks c).After-put (multipliers (goal.at.shape_of-marks c).After-combination-by) (whole (goal.at.shape_of-marks c).After-put (multipliers (goal.at.shape_of-marks c).After-combination-by) (many (goal.at.shape_of-marks c).After-combination-by)) (many (goal.at.shape_of-marks c).After-combination-by) ∙ sym c.requires.1
-
--- with a mark at the row itself, too
-abbrev with_row : (c : After-put) → List ℕ
-with_row c = set (written c) c.first_contradiction-y.result 1
+shape_of-marks c = c.mark_nonzero.auto.u ∙ length-set {A = ℕ} (c.put.new.out) _ _ ∙ long (goal.at.shape_of-marks c).After-put (whole (goal.at.shape_of-marks c).After-put (many (goal.at.shape_of-marks c).After-combination-by)) (many (goal.at.shape_of-marks c).After-combination-by) ∙ sym c.requires.1
 
 pub returns : goal.returns
 returns c ok =
-    let size : length (with_row (goal.at.returns c).After-put) ≡ c.args.m = length-set (written (goal.at.returns c).After-put) c.first_contradiction-y.result 1 ∙ long (goal.at.returns c).After-put (multipliers (goal.at.returns c).After-combination-by) (whole (goal.at.returns c).After-put (multipliers (goal.at.returns c).After-combination-by) (many (goal.at.returns c).After-combination-by)) (many (goal.at.returns c).After-combination-by) in
+    let size : length (set (c.put.new.out) c.first_contradiction-y.result 1) ≡ c.args.m = length-set (c.put.new.out) c.first_contradiction-y.result 1 ∙ long (goal.at.returns c).After-put (whole (goal.at.returns c).After-put (many (goal.at.returns c).After-combination-by)) (many (goal.at.returns c).After-combination-by) in
     let n = c.mark_nonzero in
-    some_selected _ ok _ _ _ _ _ (c.first_contradiction-y.ensures.0 ok) (row (goal.at.returns c).Else-y-m) (written (goal.at.returns c).After-put) (whole (goal.at.returns c).After-put (multipliers (goal.at.returns c).After-combination-by) (many (goal.at.returns c).After-combination-by) ∙ c.combination-by.ensures.1 ok) _ _
-    (n.ensures.0 ∙ ap (λ l. marks_of l (marked (with_row (goal.at.returns c).After-put))) size) (n.ensures.1 ∙ ap (λ l. count l (marked (with_row (goal.at.returns c).After-put))) size)
+    some_selected _ ok _ _ _ _ _ (c.first_contradiction-y.ensures.0 ok) (row (goal.at.returns c).Else-y-m) (c.put.new.out) (whole (goal.at.returns c).After-put (many (goal.at.returns c).After-combination-by) ∙ c.combination-by.ensures.1 ok) _ _
+    (n.ensures.0 ∙ ap (λ l. marks_of l (marked (set (c.put.new.out) c.first_contradiction-y.result 1))) size) (n.ensures.1 ∙ ap (λ l. count l (marked (set (c.put.new.out) c.first_contradiction-y.result 1))) size)
