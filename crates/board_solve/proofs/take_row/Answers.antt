@@ -3,7 +3,7 @@
 use mathlib.Core.Path.{◌≡◌, sym, ap, ◌∙◌, subst}
 use mathlib.Core.Bool.{true, false}
 use native.Mathlib.Omega.{arith}
-use lib.ListN.{take}
+use lib.ListN.{length, take}
 use lib.Seq.{length-take-le}
 use borrow.Author.Tests.{not-true, not-false}
 use Rattle.algebra.proofs.Answers.{guard_left, guard_taken}
@@ -54,19 +54,19 @@ pub values_agree-requires : goal.values_agree-requires
 values_agree-requires c = record { board = board (goal.at.values_agree-requires c).Start; long = (some (goal.at.values_agree-requires c).Else-not-find).long; values_long = c.requires.values_long }
 
 -- `put` has filled the mix with c's numbers
-mix_written : (c : After-put) → let a = c.args in
+mix_written : (c : After-put) → length c.args.f.now ≡ length (take (length c.args.f.now) c.args.c.now) → let a = c.args in
     c.put.new.out ≡ take (size_word a.board.now) a.c.now
-mix_written c =
+mix_written c fits =
     let e = c.put.ensures in
-    put_whole _ c.args.mix.now _ e.0 (c.requires.mix_long ∙ sym c.requires.findable.row.long ∙ slice_bounds-put-end c.before.before) e.1
+    put_whole _ c.args.mix.now _ e.0 (c.requires.mix_long ∙ sym c.requires.findable.row.long ∙ fits) e.1
     ∙ ap (λ n. take n c.args.c.now) c.requires.findable.row.long
 
 pub returns-then-not-values_agree : goal.returns-then-not-values_agree
 returns-then-not-values_agree c =
-    conflict_outcome _ _ (board (goal.at.returns-then-not-values_agree c).Start) c.requires.findable.row _ (some (goal.at.returns-then-not-values_agree c).Else-not-find) c.args.v.now c.args.mix.now _ (mix_written (goal.at.returns-then-not-values_agree c).After-put)
-    c.requires.values_long c.requires.values_below (guard_taken c.values_Agree.ensures c.if-not-values_agree.true-raw)
+    conflict_outcome _ _ (board (goal.at.returns-then-not-values_agree c).Start) c.requires.findable.row _ (some (goal.at.returns-then-not-values_agree c).Else-not-find) c.args.v.now c.args.mix.now _ (mix_written (goal.at.returns-then-not-values_agree c).After-put (slice_bounds-put-end (goal.at.returns-then-not-values_agree c).Else-not-find))
+    c.requires.values_long c.requires.values_below (guard_taken c.values_agree.ensures c.if-not-values_agree.true-raw)
 
 pub returns : goal.returns
 returns c =
-    repeat_outcome _ _ (board (goal.at.returns c).Start) c.requires.findable.row _ (some (goal.at.returns c).Else-not-find) c.args.v.now c.args.mix.now _ (mix_written (goal.at.returns c).After-put)
-    (guard_left c.values_Agree.ensures c.if-not-values_agree.false-raw)
+    repeat_outcome _ _ (board (goal.at.returns c).Start) c.requires.findable.row _ (some (goal.at.returns c).Else-not-find) c.args.v.now c.args.mix.now _ (mix_written (goal.at.returns c).After-put (slice_bounds-put-end (goal.at.returns c).Else-not-find))
+    (guard_left c.values_agree.ensures c.if-not-values_agree.false-raw)

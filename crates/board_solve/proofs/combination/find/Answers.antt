@@ -44,10 +44,10 @@ combine-requires c =
 
 -- g, as it is lent
 g_long : (c : After-combine) → let n = size_word c.args.board.now in
-    length (take n (c.combine.new.out ++ drop n c.row_room.result)) ≡ n
+    length (take n (c.combine.new.out ++ drop n c.row_room-g.result)) ≡ n
 g_long c =
     let w = c.row_length-width in
-    front_long _ _ _ _ c.combine.new.out c.requires c.row_room.ensures w.result w.ensures c.combine.ensures
+    front_long _ _ _ _ c.combine.new.out c.requires c.row_room-g.ensures w.result w.ensures c.combine.ensures
 
 pub slice_bounds-g-end-2 : goal.slice_bounds-g-end-2
 slice_bounds-g-end-2 c =

@@ -1,13 +1,12 @@
 -- `board_solve::records::is_unit` meets its contract. The loop's invariant: the numbers passed are those of the unit row.
 use mathlib.Core.Path.{◌≡◌, sym, ◌∙◌}
-use mathlib.Core.Logic.{⊎_elim}
 use native.Mathlib.Omega.{arith}
 use borrow.Author.Count.{below_more}
 use Rattle.board_solve.specs.Records.{unit_number}
 use Rattle.algebra.proofs.Answers.{tells_yes, tells_no}
 use Rattle.board_solve.proofs.RecordUnits.{unit_here, unit_elsewhere}
 use Rattle.board_solve.proofs.records.is_unit.Goals as goal
-use Rattle.board_solve.proofs.records.is_unit.Goals.{Joined-t-j}
+use Rattle.board_solve.proofs.records.is_unit.Goals.{Joined-t-j, else-t-j, then-t-j}
 
 pub loop-t-init : goal.loop-t-init
 loop-t-init c = (omega arith, λ s h. omega arith)
@@ -17,7 +16,10 @@ wanted : (c : Joined-t-j) → c.if-t-j.want ≡ unit_number c.args.j c.loop-t.t
 wanted c =
     let j = c.args.j in
     let t = c.loop-t.t in
-    ⊎_elim (λ w. w.1 ∙ sym (unit_here j t w.0.taken)) (λ w. w.1 ∙ sym (unit_elsewhere j t w.0.left)) c.if-t-j.branch
+    elim c.if-t-j.branch [
+        then-t-j w ↦ w.want-is ∙ sym (unit_here j t w.if-t-j.true)
+        | else-t-j w ↦ w.want-is ∙ sym (unit_elsewhere j t w.if-t-j.false)
+    ]
 
 pub returns-then-e-t : goal.returns-then-e-t
 returns-then-e-t c =

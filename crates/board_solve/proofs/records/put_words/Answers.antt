@@ -12,7 +12,6 @@ use Rattle.board_solve.specs.Records.{worked_place}
 use Rattle.board_solve.proofs.RecordRows.{row_in_room, row_inside_lem}
 use Rattle.board_solve.proofs.RecordWords.{numbers_none, numbers_more}
 use Rattle.board_solve.proofs.records.put_words.Goals as goal
-use Rattle.board_solve.proofs.records.put_words.Goals.{After-shared_slice_known-in-loop-u-1}
 
 pub overflow_add-from : goal.overflow_add-from
 overflow_add-from c = let w = c.requires.0 in omega (arith, w.small, w.words)
@@ -36,7 +35,7 @@ pub bounds-e-from : goal.bounds-e-from
 bounds-e-from c = omega (arith, row_inside_lem c.requires.0 c.requires.1)
 
 pub read_from-requires : goal.read_from-requires
-read_from-requires c = (c.requires.4 _ (bounds-e-from (goal.at.read_from-requires c).After-shared_slice_known-in-loop-u-1), c.requires.2, c.requires.3)
+read_from-requires c = (c.requires.4 _ (omega (arith, row_inside_lem c.requires.0 c.requires.1)), c.requires.2, c.requires.3)
 
 pub bounds-numbers-at : goal.bounds-numbers-at
 bounds-numbers-at c = omega (arith, c.loop-u.invariant.1.same_length)

@@ -13,6 +13,9 @@ offset_bounds-board-first c =
 pub slice_bounds-reduced-count : goal.slice_bounds-reduced-count
 slice_bounds-reduced-count c = omega (arith, c.value_start-first.ensures, first_value _ _ _ c.requires)
 
+pub slice_bounds-reduced-start : goal.slice_bounds-reduced-start
+slice_bounds-reduced-start c = omega (arith, c.value_start-first.ensures, first_value _ _ _ c.requires)
+
 pub reduced-requires : goal.reduced-requires
 reduced-requires c =
     (
