@@ -55,4 +55,7 @@ returns c =
     let text = rw (to_z-of_z w32 c.args.number c.ranges.number) at c.put_record-end.ensures in
     let spaced = put_then inside c.put_decimal-gap.ensures c.put_bytes-text.ensures in
     let written = c.put_bytes.ensures in
-    (put_then inside (put_then inside spaced text) written, omega (arith, behind-record (goal.at.returns c).After-put_record-end (behind-space (goal.at.returns c).After-put_bytes-text (behind-position (goal.at.returns c).After-put_decimal-gap)), written.end))
+    record {
+      put = put_then inside (put_then inside spaced text) written;
+      upper_bound = omega (arith, behind-record (goal.at.returns c).After-put_record-end (behind-space (goal.at.returns c).After-put_bytes-text (behind-position (goal.at.returns c).After-put_decimal-gap)), written.end);
+    }
