@@ -22,12 +22,10 @@ reduced-rank-requires c =
 
 -- the reduced form of the table as it stands
 found : (c : After-reduced-rank) → let a = c.args in
-    let l = c.reduced-rank.new.1.1.1.1.1.1 in
-    ReducedForm a.p (plain a.m a.n) a.a.now a.a.now 0 0 c.reduced-rank.result l.0 l.1.0
+    ReducedForm a.p (plain a.m a.n) a.a.now a.a.now 0 0 c.reduced-rank.result c.reduced-rank.new.e c.reduced-rank.new.pivots
 found c =
     let a = c.args in
-    let l = c.reduced-rank.new.1.1.1.1.1.1 in
-    subst (λ g. ReducedForm a.p g a.a.now a.a.now 0 0 c.reduced-rank.result l.0 l.1.0)
+    subst (λ g. ReducedForm a.p g a.a.now a.a.now 0 0 c.reduced-rank.result c.reduced-rank.new.e c.reduced-rank.new.pivots)
     c.plain_grid-plain.ensures c.reduced-rank.ensures
 
 pub slice_bounds-rows_by_pivot-end : goal.slice_bounds-rows_by_pivot-end
