@@ -21,8 +21,8 @@ loop-j-preserved c =
     let z = get_or a.numbers.now l.j (pos 0) in
     let fits : SFits w32 z = record { sfits = c.record_line-arg-in-loop-j-1.given } in (
       omega arith,
-      record_lines_more l.j a.marks.now a.numbers.now l.invariant.1 (rw (to_z-of_z w32 z fits) at w.ensures.0),
-      omega (arith, w.ensures.1),
+      record_lines_more l.j a.marks.now a.numbers.now l.invariant.1 (rw (to_z-of_z w32 z fits) at w.ensures.put),
+      omega (arith, w.ensures.upper_bound),
       w.auto.out ∙ l.invariant.3,
     )
 
@@ -34,4 +34,4 @@ returns c =
     let l = c.loop-j in
     let marks = c.args.marks.now in
     let all : l.j ≡ length marks = omega arith in
-    (rw all at l.invariant.1, omega arith)
+    record { put = rw all at l.invariant.1; upper_bound = omega arith }

@@ -15,8 +15,8 @@ old-low c = c.balanced_low-low.ensures
 pub returns-in-Count : goal.returns-in-Count
 returns-in-Count c =
     let pre = c.requires in
-    ending_written pre.0 _ _ pre.1 pre.2 (c.show.auto.marks ∙ pre.1) (rw (c.missing-1.given.1, old-low (goal.at.returns-in-Count c).After-balanced_low-low) at c.show.ensures)
-    c.record_lines-at.ensures.0 c.missing_line.ensures
+    ending_written pre.0 _ _ pre.1 pre.2 (c.show.auto.marks ∙ pre.1) (rw (c.in-Count.is, old-low (goal.at.returns-in-Count c).After-balanced_low-low) at c.show.ensures)
+    c.record_lines-at.ensures.put c.missing_line.ensures
 
 pub returns-in-Refused : goal.returns-in-Refused
 returns-in-Refused c =
