@@ -4,24 +4,14 @@ use native.Mathlib.Omega.{arith}
 use mathlib.Core.Path.{◌≡◌, sym, ap, ◌∙◌}
 use Rattle.field.specs.Residue.{reduce}
 use Rattle.field.proofs.Residues.{value_unique, reduce_difference, reduce_more}
-use Rattle.field.proofs.arith.minus.Statement.{statement}
-use Rattle.field.proofs.arith.minus.Tie as tie
+use Rattle.field.proofs.arith.minus.Goals as goal
 
-sub-result : tie.Need-overflow-sub-result
-sub-result c = omega arith
-
-add-result : tie.Need-overflow-add-result
-add-result c = omega arith
-
-returns : tie.Need-returns
-returns c =
-    let v = c.before.args in
+pub returns-then-b-a : goal.returns-then-b-a
+returns-then-b-a c =
+    let v = c.args in
     let raised : v.a - v.b + v.p ≡ v.a + (v.p - v.b) = omega arith in
     value_unique _ _ _ (omega arith)
     (sym (reduce_more v.p (v.a - v.b)) ∙ ap (λ (n : ℕ). reduce v.p n) raised ∙ reduce_difference v.p v.a v.b (omega arith))
 
-returns-2 : tie.Need-returns-2
-returns-2 c = value_unique _ _ _ (omega arith) (reduce_difference _ _ _ (omega arith))
-
-pub minus-spec : {M : Type 1} → statement M
-minus-spec = tie.close (tie.spec sub-result add-result returns returns-2)
+pub returns-else-b-a : goal.returns-else-b-a
+returns-else-b-a c = value_unique _ _ _ (omega arith) (reduce_difference _ _ _ (omega arith))

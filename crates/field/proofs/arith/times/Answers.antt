@@ -7,24 +7,17 @@ use mathlib.Core.Path.{ap}
 use Rattle.field.specs.Residue.{Residue, reduce}
 use Rattle.checks.specs.Prime.{largest_modulus}
 use Rattle.field.proofs.Residues.{reduce_times}
-use Rattle.field.proofs.arith.times.Statement.{statement}
-use Rattle.field.proofs.arith.times.Tie as tie
+use Rattle.field.proofs.arith.times.Goals as goal
 
-mul-result : tie.Need-overflow-mul-result
-mul-result c =
+pub overflow_mul-result : goal.overflow_mul-result
+overflow_mul-result c =
     let l : c.args.a ≤ largest_modulus = omega arith in
     let r : c.args.b ≤ largest_modulus = omega arith in
     omega (arith, mul-le-mul l r)
 
-rem-result : tie.Need-nonzero-rem-result
-rem-result c = omega arith
+pub overflow_cast-result-4 : goal.overflow_cast-result-4
+overflow_cast-result-4 c = omega (arith, mod-lt (c.args.a * c.args.b) {m = c.args.p} (omega arith))
 
-cast-result : tie.Need-overflow-cast-result
-cast-result c = omega (arith, mod-lt (c.args.a * c.args.b) {m = c.args.p} (omega arith))
-
-returns : tie.Need-returns
+pub returns : goal.returns
 unfolding reduce
 returns c = let v = c.args in ap (λ (x : Residue v.p). x.value) (reduce_times v.p v.a v.b)
-
-pub times-spec : {M : Type 1} → statement M
-times-spec = tie.close (tie.spec mul-result rem-result cast-result returns)
