@@ -9,7 +9,7 @@ pub mod worked;
 
 // A table that is read in place: entry (row i, column j) stands at start + i × down + j × along. With down 1 and along the length
 // of a row a table is read turned.
-#[derive(Drop)]
+#[derive(Clone, Copy)]
 pub struct Grid {
     pub start: usize,
     pub down: usize,

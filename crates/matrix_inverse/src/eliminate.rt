@@ -60,7 +60,7 @@ fn add_marks(n: usize, xs: &[u32], marks: &mut [u32])
 }
 
 // The two halves of the rows of a table: how many rows each has, and how many numbers a row has.
-#[derive(Drop)]
+#[derive(Clone, Copy)]
 struct Split {
     upper: usize,
     lower: usize,

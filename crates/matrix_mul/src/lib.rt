@@ -12,14 +12,14 @@ ghost use Rattle.matrix_mul.specs.Places.{place, shape, Negated, Factors, Multip
 pub mod rows;
 
 // Where a block of numbers begins, and how far the starts of its rows are apart.
-#[derive(Drop)]
+#[derive(Clone, Copy)]
 pub struct Place {
     pub start: usize,
     pub stride: usize,
 }
 
 // The sizes of a product X Y: X has `rows` rows and `inner` columns, Y has `inner` rows and `columns` columns.
-#[derive(Drop)]
+#[derive(Clone, Copy)]
 pub struct Shape {
     pub rows: usize,
     pub inner: usize,

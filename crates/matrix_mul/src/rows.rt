@@ -22,7 +22,7 @@ pub fn no_rows() -> [u64; WIDE]
 }
 
 // A row of a table that is to be added: its multiplier, where it begins, and the row to look at after it.
-#[derive(Drop)]
+#[derive(Clone, Copy)]
 pub struct Row {
     pub times: u32,
     pub at: usize,
@@ -30,7 +30,7 @@ pub struct Row {
 }
 
 // Four rows that are to be added together.
-#[derive(Drop)]
+#[derive(Clone, Copy)]
 pub struct Four {
     pub a: Row,
     pub b: Row,
