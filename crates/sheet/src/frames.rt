@@ -2,62 +2,88 @@
 ghost use Rattle.std.specs.Prelude.{◌≡◌, length};
 ghost use Rattle.sheet_heat.specs.Calls.{SheetBoard};
 
+use super::input::read_full;
 use super::{lent, lines};
 use board_words::layout;
 use checks::Refusal;
-use libc::STDIN_FILENO;
 use sheet_text::FrameInput;
+use std::io;
+use std::io::{Read, Write};
 
 // Reads a frame's bytes into the lent ones, which are as many as its length says, and takes it. Answers whether it was whole.
-fn take_body(board: &mut [u32], frame: &mut [u8], mix: &mut [u32]) -> bool
+fn take_body<R: Read, W: Write>(
+    input: &mut R,
+    output: &mut W,
+    board: &mut [u32],
+    frame: &mut [u8],
+    mix: &mut [u32],
+) -> io::Result<bool>
     requires { SheetBoard board.old }
     ensures { SheetBoard board.new }
 {
-    let came = io::read_full(STDIN_FILENO, frame);
+    let came = read_full(input, frame)?;
     let FrameInput::Frame(_) = sheet_text::frame_body(frame.len(), came) else {
-        lines::refused(Refusal::FrameLength);
-        return false;
+        lines::refused(output, Refusal::FrameLength)?;
+        return Ok(false);
     };
-    lines::frame(board, frame, mix);
-    true
+    lines::frame(output, board, frame, mix)?;
+    Ok(true)
 }
 
 // Reads and takes the next frame. Answers whether there was one, and whole.
-fn take_next(board: &mut [u32], bytes: &mut [u8], mix: &mut [u32]) -> bool
+fn take_next<R: Read, W: Write>(
+    input: &mut R,
+    output: &mut W,
+    board: &mut [u32],
+    bytes: &mut [u8],
+    mix: &mut [u32],
+) -> io::Result<bool>
     requires { SheetBoard board.old × (65536 ≡ length bytes.old) }
     ensures { SheetBoard board.new }
 {
     let mut pair = lent::frame_length();
-    let came = io::read_full(STDIN_FILENO, &mut pair);
+    let came = read_full(input, &mut pair)?;
     match sheet_text::frame_start(&pair[..came]) {
-        FrameInput::End => false,
+        FrameInput::End => Ok(false),
         FrameInput::Cut => {
-            lines::refused(Refusal::FrameLength);
-            false
+            lines::refused(output, Refusal::FrameLength)?;
+            Ok(false)
         }
-        FrameInput::Frame(length) => take_body(board, &mut bytes[..length], mix),
+        FrameInput::Frame(length) => take_body(input, output, board, &mut bytes[..length], mix),
     }
 }
 
-// Takes the frames one after the other. A proved loop has to end, and nothing says that the input does, so it counts down, from
+// Takes the frames one after the other. A proved loop has to end, and nothing says that the input does, so it counts, up to
 // a number of frames that no line sends: at a thousand million frames a second that takes five hundred years.
-fn take_each(board: &mut [u32], bytes: &mut [u8], mix: &mut [u32])
+fn take_each<R: Read, W: Write>(
+    input: &mut R,
+    output: &mut W,
+    board: &mut [u32],
+    bytes: &mut [u8],
+    mix: &mut [u32],
+) -> io::Result<()>
     requires { SheetBoard board.old × (65536 ≡ length bytes.old) }
     ensures { SheetBoard board.new }
 {
-    let mut left = u64::MAX;
-    while 0 < left && take_next(board, bytes, mix) {
-        left -= 1;
+    for _ in 0..u64::MAX {
+        if !take_next(input, output, board, bytes, mix)? {
+            break;
+        }
     }
+    Ok(())
 }
 
 // All frames, onto the board, with a mix of the board's own n words. A length has two bytes, so that every frame has room.
-pub fn take_all(board: &mut [u32])
+pub fn take_all<R: Read, W: Write>(
+    input: &mut R,
+    output: &mut W,
+    board: &mut [u32],
+) -> io::Result<()>
     requires { SheetBoard board.old }
     ensures { SheetBoard board.new }
 {
     let n = board[layout::SIZE] as usize;
-    let mut bytes = io::large_buffer();
+    let mut bytes = lent::frame();
     let mut mix = lent::words();
-    take_each(board, &mut bytes, &mut mix[..n]);
+    take_each(input, output, board, &mut bytes, &mut mix[..n])
 }
