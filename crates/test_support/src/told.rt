@@ -2,7 +2,7 @@
 use checks::Refusal;
 
 // An answer's number, and the value that comes with it where the call is not refused.
-#[derive(Drop)]
+#[derive(Clone, Copy)]
 pub struct Told {
     pub number: u32,
     pub value: u32,
