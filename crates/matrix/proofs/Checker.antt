@@ -83,6 +83,7 @@ every_place_lem m n f t i j h l = every_below_lem n (f i) (every_below_lem m (λ
 
 pub every_member : {A : Type 0} (f : A → Bool) (xs : List A) → every f xs ≡ true → (x : A) → Memᴰ x xs → f x ≡ true
 unfolding every
+every_member {A = A} f [] t y i = elim i [ ]
 every_member f (x ∷ xs) t y (Memᴰ.head e) = ap f e ∙ (both _ _ t).0
 every_member f (x ∷ xs) t y (Memᴰ.tail i) = every_member f xs (both _ _ t).1 y i
 

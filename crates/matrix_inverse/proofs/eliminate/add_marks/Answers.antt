@@ -4,7 +4,6 @@ use mathlib.Core.Path.{sym}
 use native.Mathlib.Omega.{arith}
 use Rattle.algebra.proofs.Choice.{pick_yes, pick_no}
 use Rattle.words.proofs.Walk.{walked_none, walked_more, walked_same}
-use Rattle.matrix_inverse.proofs.eliminate.add_marks.Invariants.{both}
 use Rattle.matrix_inverse.proofs.eliminate.add_marks.Goals as goal
 use Rattle.matrix_inverse.proofs.eliminate.add_marks.Goals.{else-xs-c-ne0, then-xs-c-ne0}
 
@@ -27,8 +26,8 @@ pub loop-c-preserved : goal.loop-c-preserved
 loop-c-preserved c =
     let l = c.loop-c in
     elim c.if-xs-c-ne0.branch [
-        then-xs-c-ne0 w ↦ rw w.marks-is (omega arith, walked_more _ _ _ _ 1 l.invariant.1 (omega (arith, c.requires.1)) (sym (pick_no _ _ 1 w.if-xs-c-ne0.true)))
-        | else-xs-c-ne0 w ↦ rw w.marks-is (omega arith, walked_same _ _ _ _ l.invariant.1 (sym (pick_yes _ _ 1 w.if-xs-c-ne0.false)))
+      | then-xs-c-ne0 w ↦ rw w.marks-is (omega arith, walked_more _ _ _ _ 1 l.invariant.1 (omega (arith, c.requires.1)) (sym (pick_no _ _ 1 w.if-xs-c-ne0.true)))
+      | else-xs-c-ne0 w ↦ rw w.marks-is (omega arith, walked_same _ _ _ _ l.invariant.1 (sym (pick_yes _ _ 1 w.if-xs-c-ne0.false)))
     ]
 
 pub shape_of-marks : goal.shape_of-marks

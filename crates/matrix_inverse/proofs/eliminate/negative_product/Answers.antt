@@ -8,12 +8,12 @@ use lib.Seq.{length-take-le}
 use Rattle.matrix_inverse.proofs.StepNegative.{size_inside, cleared_long, cleared_factors, negative_product_done}
 use Rattle.words.proofs.Parts.{taken_below}
 use Rattle.matrix_inverse.proofs.eliminate.negative_product.Goals as goal
-use Rattle.matrix_inverse.proofs.eliminate.negative_product.Goals.{After-slice_known-3-1}
+use Rattle.matrix_inverse.proofs.eliminate.negative_product.Goals.{After-add_product}
 
 pub overflow_mul-end : goal.overflow_mul-end
 overflow_mul-end c =
     let h = size_inside c.requires.0 in
-    omega (arith, c.well-formed)
+    omega (arith, c.well_formed)
 
 pub slice_bounds-clear-end : goal.slice_bounds-clear-end
 slice_bounds-clear-end c = size_inside c.requires.0
@@ -27,7 +27,7 @@ add_product-requires c =
     (cleared_factors pre.0 c.clear.new.xs c.clear.ensures.0 c.clear.ensures.1, pre.1)
 
 -- the rows of Z lie in z after the product
-rows_inside : (c : After-slice_known-3-1) → c.args.size.rows * c.args.size.columns ≤ length c.add_product.new.z
+rows_inside : (c : After-add_product) → c.args.size.rows * c.args.size.columns ≤ length c.add_product.new.z
 rows_inside c =
     let f = c.requires.0 in
     omega (
@@ -38,10 +38,10 @@ rows_inside c =
     )
 
 pub slice_bounds-negate-end : goal.slice_bounds-negate-end
-slice_bounds-negate-end c = rows_inside (goal.at.slice_bounds-negate-end c).After-slice_known-3-1
+slice_bounds-negate-end c = rows_inside (goal.at.slice_bounds-negate-end c).After-add_product
 
 pub slice_bounds-negate-end-2 : goal.slice_bounds-negate-end-2
-slice_bounds-negate-end-2 c = sym (length-take-le _ _ (rows_inside (goal.at.slice_bounds-negate-end-2 c).After-slice_known-3-1))
+slice_bounds-negate-end-2 c = sym (length-take-le _ _ (rows_inside (goal.at.slice_bounds-negate-end-2 c).After-add_product))
 
 pub negate-requires : goal.negate-requires
 negate-requires c =
