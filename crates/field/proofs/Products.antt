@@ -2,7 +2,7 @@
 -- the residue of those in front of it. Then that an empty row gives 0, and that a row times a column of a table is such a sum.
 use mathlib.Core.Path.{◌≡◌, sym, ap, ap₂, ◌∙◌}
 use mathlib.Core.List.{List, []}
-use Prim.Native.Nat.{ℕ, ◌+◌, ◌*◌, ◌-◌, ◌%◌, ◌≤◌, ◌<◌}
+use Prim.Native.Nat.{ℕ, ◌+◌, ◌*◌, ◌%◌, ◌≤◌, ◌<◌}
 use native.Mathlib.Nat.{add-mul, add_assoc, zero-mod, mod-add-mod}
 use native.Mathlib.Omega.{arith}
 use lib.ListN.{length, get_or, take, drop}

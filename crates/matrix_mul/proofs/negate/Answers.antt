@@ -29,8 +29,7 @@ minus-requires c =
 pub loop-j-preserved : goal.loop-j-preserved
 unfolding opposite
 loop-j-preserved c =
-    let l = c.loop-j in
-    (
+    let l = c.loop-j in (
       omega arith,
       walked_more l.j _ _ _ _ l.invariant.1 (omega arith)
           (c.minus.ensures ∙ opposite-of c.args.p _ _ c.requires.0 (l.invariant.1.left l.j (omega arith))),

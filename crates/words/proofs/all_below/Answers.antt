@@ -1,5 +1,4 @@
 -- `words::all_below` meets its contract. The loop's invariant: what is told so far tells whether every number passed is below p.
-use mathlib.Core.Logic.{⊎_elim}
 use native.Mathlib.Omega.{arith}
 use borrow.Author.Count.{below_more}
 use Rattle.algebra.proofs.Answers.{tells_yes, tells_no, tells_same}
@@ -15,7 +14,7 @@ loop-i-preserved c =
     let l = c.loop-i in (
       omega arith,
       elim c.if-p-numbers.branch [
-        then-p-numbers w ↦ rw w.all-is (tells_no (λ h. omega (arith, w.if-p-numbers.true, h l.i (omega arith))))
+        | then-p-numbers w ↦ rw w.all-is (tells_no (λ h. omega (arith, w.if-p-numbers.true, h l.i (omega arith))))
         | else-p-numbers w ↦
             rw w.all-is
             (tells_same (λ h. below_more _ l.i h (omega (arith, w.if-p-numbers.false))) (λ h k b. h k (omega arith)) l.invariant.1)

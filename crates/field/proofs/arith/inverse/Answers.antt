@@ -10,8 +10,7 @@ use Rattle.field.proofs.arith.inverse.Goals as goal
 use Rattle.field.proofs.arith.inverse.Goals.{Else-y-eq1}
 
 pub loop-x-init : goal.loop-x-init
-loop-x-init c =
-    (
+loop-x-init c = (
   omega arith,
   omega arith,
   omega arith,

@@ -4,7 +4,7 @@ use mathlib.Core.Path.{ap}
 use Prim.Native.Nat.{◌%◌}
 use native.Mathlib.Omega.{arith}
 use Rattle.field.specs.Residue.{reduce}
-use Rattle.matrix_mul.specs.Rows.{four_at, summed_number}
+use Rattle.matrix_mul.specs.Rows.{summed_number}
 use Rattle.field.proofs.Limbs.{word_fits, mod_fits}
 use Rattle.matrix_mul.proofs.RowsTaken.{inside_at}
 use Rattle.words.proofs.Walk.{walked_none, walked_more}

@@ -29,8 +29,7 @@ overflow_add-result-3 c = number_fits _ (room (goal.at.overflow_add-result-3 c).
 
 pub returns : goal.returns
 unfolding four_at
-returns c =
-    (
+returns c = (
   omega (
     arith,
     c.product_at.ensures.0,

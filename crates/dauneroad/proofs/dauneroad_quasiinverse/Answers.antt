@@ -1,0 +1,11 @@
+-- `dauneroad_quasiinverse` meets its contract: it tells the number of the answer below it, and D and the marks are as that left them.
+use mathlib.Core.Path.{ap}
+use Rattle.dauneroad.specs.Exports.{exported}
+use Rattle.dauneroad.proofs.Bounds.{small_quasiinverse}
+use Rattle.dauneroad.proofs.dauneroad_quasiinverse.Goals as goal
+
+pub table_number-requires : goal.table_number-requires
+table_number-requires c = small_quasiinverse _ _ _ _ _ _ _ _ c.quasiinverse.ensures
+
+pub returns : goal.returns
+returns c = rw c.table_number.ensures (ap exported c.quasiinverse.ensures)

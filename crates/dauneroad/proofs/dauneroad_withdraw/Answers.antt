@@ -1,0 +1,11 @@
+-- `dauneroad_withdraw` meets its contract: it tells the number of the answer below it, and the board is as that left them.
+use mathlib.Core.Path.{ap}
+use Rattle.dauneroad.specs.Exports.{exported}
+use Rattle.dauneroad.proofs.Bounds.{small_withdraw}
+use Rattle.dauneroad.proofs.dauneroad_withdraw.Goals as goal
+
+pub count_number-requires : goal.count_number-requires
+count_number-requires c = small_withdraw _ _ _ c.withdraw.ensures
+
+pub returns : goal.returns
+returns c = rw c.count_number.ensures (ap exported c.withdraw.ensures)

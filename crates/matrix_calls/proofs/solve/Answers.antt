@@ -1,0 +1,33 @@
+-- `matrix_calls::solve` meets its contract: the refusal by the first check that fails, or the solution.
+use mathlib.Core.Path.{subst}
+use Rattle.checks.specs.InOrder.{AllHold}
+use Rattle.checks.specs.Sizes.{Judges}
+use Rattle.checks.proofs.InOrder.{given}
+use Rattle.matrix.specs.Calls.{system_checks}
+use Rattle.matrix.proofs.Answers.{table_given, system_given, solve_refused, solve_done}
+use Rattle.matrix_calls.proofs.solve.Goals as goal
+use Rattle.matrix_calls.proofs.solve.Goals.{In_default, Start}
+
+-- all of it holds
+passed : (c : In_default) → AllHold (let a = c.args in system_checks a.p a.m a.n a.a.now a.w.now a.z.now a.u.now)
+passed c = subst (Judges (let a = c.args in system_checks a.p a.m a.n a.a.now a.w.now a.z.now a.u.now)) c.in_default.is c.system_checks.ensures
+
+pub returns-in-Refused : goal.returns-in-Refused
+returns-in-Refused c = solve_refused _ _ _ _ _ _ _ (subst (Judges (let a = c.args in system_checks a.p a.m a.n a.a.now a.w.now a.z.now a.u.now)) c.in-Refused.is c.system_checks.ensures)
+
+pub solve_of-requires : goal.solve_of-requires
+solve_of-requires c =
+    let a = c.args in
+    let hs = given (passed (goal.at.solve_of-requires c).In_default) in (
+      table_given a.p a.m a.n a.a.now a.w.now a.z.now a.u.now hs,
+      system_given a.p a.m a.n a.a.now a.w.now a.z.now a.u.now hs,
+    )
+
+pub shape_of-z : goal.shape_of-z
+shape_of-z c = c.solve_of.auto.z
+
+pub shape_of-u : goal.shape_of-u
+shape_of-u c = c.solve_of.auto.u
+
+pub returns : goal.returns
+returns c = solve_done _ _ _ _ _ _ _ _ (passed (goal.at.returns c).In_default) c.solve_of.ensures
