@@ -1,6 +1,8 @@
 // The frames of the input, taken one by one, each with its line. The board stays one.
-ghost use Rattle.std.specs.Prelude.{◌≡◌, length};
+ghost use Rattle.std.specs.Prelude.{◌≡◌, ℕ, List, length, IfOk, OnOk};
+ghost use Rattle.ledger.specs.Board.{size_word};
 ghost use Rattle.sheet_heat.specs.Calls.{SheetBoard};
+ghost use Rattle.sheet.specs.Program.{Reads, Writes, FrameText, NextText, AllText};
 
 use super::input::read_full;
 use super::{lent, lines};
@@ -19,7 +21,10 @@ fn take_body<R: Read, W: Write>(
     mix: &mut [u32],
 ) -> io::Result<bool>
     requires { SheetBoard board.old }
-    ensures { SheetBoard board.new }
+    ensures sheet { SheetBoard board.new }
+    ensures text { IfOk result (λ more. Reads (R.remaining input.old) (R.remaining input.new) (λ known left.
+        Writes (W.contents output.old) (W.contents output.new) (λ text.
+        FrameText board.old mix.old (length frame.old) known text more board.new mix.new left))) }
 {
     let came = read_full(input, frame)?;
     let FrameInput::Frame(_) = sheet_text::frame_body(frame.len(), came) else {
@@ -39,7 +44,10 @@ fn take_next<R: Read, W: Write>(
     mix: &mut [u32],
 ) -> io::Result<bool>
     requires { SheetBoard board.old × (65536 ≡ length bytes.old) }
-    ensures { SheetBoard board.new }
+    ensures sheet { SheetBoard board.new }
+    ensures text { IfOk result (λ more. Reads (R.remaining input.old) (R.remaining input.new) (λ known left.
+        Writes (W.contents output.old) (W.contents output.new) (λ text.
+        NextText board.old mix.old known text more board.new mix.new left))) }
 {
     let mut pair = lent::frame_length();
     let came = read_full(input, &mut pair)?;
@@ -49,11 +57,11 @@ fn take_next<R: Read, W: Write>(
             lines::refused(output, Refusal::FrameLength)?;
             Ok(false)
         }
-        FrameInput::Frame(length) => take_body(input, output, board, &mut bytes[..length], mix),
+        FrameInput::Frame(length) => { take_body(input, output, board, &mut bytes[..length], mix) }
     }
 }
 
-// Takes the frames one after the other. A proved loop has to end, and nothing says that the input does, so it counts, up to
+// Takes the frames one after the other. A proved loop has to end, and nothing says that the input does, so it counts down, from
 // a number of frames that no line sends: at a thousand million frames a second that takes five hundred years.
 fn take_each<R: Read, W: Write>(
     input: &mut R,
@@ -63,12 +71,14 @@ fn take_each<R: Read, W: Write>(
     mix: &mut [u32],
 ) -> io::Result<()>
     requires { SheetBoard board.old × (65536 ≡ length bytes.old) }
-    ensures { SheetBoard board.new }
+    ensures sheet { SheetBoard board.new }
+    ensures text { OnOk result (Reads (R.remaining input.old) (R.remaining input.new) (λ known left.
+        Writes (W.contents output.old) (W.contents output.new) (λ text.
+        AllText board.old mix.old known text board.new))) }
 {
-    for _ in 0..u64::MAX {
-        if !take_next(input, output, board, bytes, mix)? {
-            break;
-        }
+    let mut left = u64::MAX;
+    while 0 < left && take_next(input, output, board, bytes, mix)? {
+        left -= 1;
     }
     Ok(())
 }
@@ -80,7 +90,11 @@ pub fn take_all<R: Read, W: Write>(
     board: &mut [u32],
 ) -> io::Result<()>
     requires { SheetBoard board.old }
-    ensures { SheetBoard board.new }
+    ensures sheet { SheetBoard board.new }
+    ensures text { OnOk result ((mix : List ℕ) × (length mix ≡ size_word board.old)
+        × Reads (R.remaining input.old) (R.remaining input.new) (λ known left.
+        Writes (W.contents output.old) (W.contents output.new) (λ text.
+        AllText board.old mix known text board.new))) }
 {
     let n = board[layout::SIZE] as usize;
     let mut bytes = lent::frame();
