@@ -18,7 +18,7 @@ told c t e = ap (λ r. answer r.told.number (value_or c.args.«record».now r.to
 
 pub returns-in-Record : goal.returns-in-Record
 returns-in-Record c =
-    let fits : SFits w32 c.in-Record.z = record { sfits = c.known_told-1.given.0.1 } in
+    let fits : SFits w32 c.in-Record.z = record { sfits = c.in-Record.known_told-1-own.given.0.1 } in
     rw (to_z-of_z w32 c.in-Record.z fits) (told (goal.at.returns-in-Record c).After-signed (Record _) c.in-Record.is)
 
 pub returns-in-Refused : goal.returns-in-Refused

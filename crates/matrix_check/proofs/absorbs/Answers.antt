@@ -19,8 +19,7 @@ pub slice_bounds-rows_kept-end-2 : goal.slice_bounds-rows_kept-end-2
 slice_bounds-rows_kept-end-2 c = sym (length-take-le _ _ (slice_bounds-back-end (goal.at.slice_bounds-rows_kept-end-2 c).After-through-1))
 
 pub rows_kept-requires : goal.rows_kept-requires
-rows_kept-requires c =
-    (
+rows_kept-requires c = (
   c.requires,
   record { through_long = sym (slice_bounds-rows_kept-end (goal.at.rows_kept-requires c).After-through-1); back_long = sym (slice_bounds-rows_kept-end-2 (goal.at.rows_kept-requires c).After-back-1) },
 )

@@ -43,12 +43,11 @@ pub loop-i-smaller : goal.loop-i-smaller
 loop-i-smaller c = omega (arith, c.loop-i-test.true)
 
 pub loop-i-preserved : goal.loop-i-preserved
-loop-i-preserved c =
-    (
-      below_more _ _ c.loop-i.invariant.0 (rw (rooms (goal.at.loop-i-preserved c).In-loop-i).through_long at (guard_left c.row_kept.ensures c.if-not-row_kept.false-raw)),
-      rooms-kept (goal.at.loop-i-preserved c).After-row_kept (rooms (goal.at.loop-i-preserved c).In-loop-i),
-      omega (arith, c.loop-i-test.true),
-    )
+loop-i-preserved c = (
+  below_more _ _ c.loop-i.invariant.0 (rw (rooms (goal.at.loop-i-preserved c).In-loop-i).through_long at (guard_left c.row_kept.ensures c.if-not-row_kept.false-raw)),
+  rooms-kept (goal.at.loop-i-preserved c).After-row_kept (rooms (goal.at.loop-i-preserved c).In-loop-i),
+  omega (arith, c.loop-i-test.true),
+)
 
 pub shape_of-through : goal.shape_of-through
 shape_of-through c = c.loop-i.invariant.1.through_long ∙ sym c.requires.1.through_long

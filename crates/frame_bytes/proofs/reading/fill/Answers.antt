@@ -30,8 +30,8 @@ loop-j-preserved c =
     let bit = sym c.stands.ensures in
     let more : l.j < length c.args.multipliers.now = omega (arith, l.invariant.long) in
     elim c.if-stands.branch [
-        then-stands w ↦ rw (w.multipliers-is, w.at-is, w.number_at.ensures.1) (filling_stands _ _ _ _ _ _ _ _ l.invariant more (bit ∙ w.if-stands.true))
-        | else-stands w ↦ rw (w.multipliers-is, w.at-is) (filling_absent _ _ _ _ _ _ _ _ l.invariant more (bit ∙ w.if-stands.false))
+      | then-stands w ↦ rw (w.multipliers-is, w.at-is, w.number_at.ensures.1) (filling_stands _ _ _ _ _ _ _ _ l.invariant more (bit ∙ w.if-stands.true))
+      | else-stands w ↦ rw (w.multipliers-is, w.at-is) (filling_absent _ _ _ _ _ _ _ _ l.invariant more (bit ∙ w.if-stands.false))
     ]
 
 pub shape_of-multipliers : goal.shape_of-multipliers

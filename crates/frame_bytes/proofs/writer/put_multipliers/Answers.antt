@@ -36,11 +36,11 @@ loop-j-preserved c =
     let bit = rw c.requires.1 at c.stands.ensures in (
       omega arith,
       elim c.if-stands.branch [
-        then-stands w ↦ rw (w.bytes-is ∙ w.put_number.ensures, w.at-is) (packing_more a.w a.from a.multipliers.now a.bytes.now c.requires.2 l.j l.at l.bytes (omega arith)
-          (stands_of a.multipliers.now l.j (omega arith) (omega arith) (sym bit ∙ w.if-stands.true)) l.invariant.1)
+        | then-stands w ↦ rw (w.bytes-is ∙ w.put_number.ensures, w.at-is) (packing_more a.w a.from a.multipliers.now a.bytes.now c.requires.2 l.j l.at l.bytes (omega arith)
+            (stands_of a.multipliers.now l.j (omega arith) (omega arith) (sym bit ∙ w.if-stands.true)) l.invariant.1)
         | else-stands w ↦ rw (w.bytes-is, w.at-is) (packing_skip a.w a.from a.multipliers.now a.bytes.now c.requires.2 l.j l.at l.bytes (omega arith)
-          (absent_of a.multipliers.now l.j (omega arith) (omega arith) (sym bit ∙ w.if-stands.false)) l.invariant.1)
-    ],
+            (absent_of a.multipliers.now l.j (omega arith) (omega arith) (sym bit ∙ w.if-stands.false)) l.invariant.1)
+      ],
     )
 
 pub shape_of-bytes : goal.shape_of-bytes

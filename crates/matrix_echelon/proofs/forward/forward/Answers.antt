@@ -22,15 +22,14 @@ pub overflow_add-i : goal.overflow_add-i
 overflow_add-i c = omega (arith, c.requires.0.table.rows_most, c.loop-i.invariant.0)
 
 pub loop-i-preserved : goal.loop-i-preserved
-loop-i-preserved c =
-    (
-      omega (arith, c.loop-i-test.true),
-      rw (add-one c.loop-i.i)
-          (elim c.if-rank-grid.branch [
-        then-rank-grid w ↦ rw (w.e-is, w.pivots-is, w.rank-is) w.work_row-rank.ensures
+loop-i-preserved c = (
+  omega (arith, c.loop-i-test.true),
+  rw (add-one c.loop-i.i)
+      (elim c.if-rank-grid.branch [
+        | then-rank-grid w ↦ rw (w.e-is, w.pivots-is, w.rank-is) w.work_row-rank.ensures
         | else-rank-grid w ↦ rw (w.e-is, w.pivots-is, w.rank-is) (held_follows c.requires.0 (omega (arith, w.if-rank-grid.false)) c.loop-i.invariant.1)
-    ]),
-    )
+      ]),
+)
 
 pub returns : goal.returns
 returns c =

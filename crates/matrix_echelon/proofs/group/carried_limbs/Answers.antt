@@ -60,12 +60,11 @@ pub overflow_add-u : goal.overflow_add-u
 overflow_add-u c = omega (arith, fits (goal.at.overflow_add-u c).In-loop-u)
 
 pub loop-u-preserved : goal.loop-u-preserved
-loop-u-preserved c =
-    (
-      omega arith,
-      spanned_more c.loop-u.invariant.1 (omega (arith, fits (goal.at.loop-u-preserved c).In-loop-u, c.requires.long)) refl,
-      below_more _ c.loop-u.u c.loop-u.invariant.2 (limb (goal.at.loop-u-preserved c).After-shared_slice_known-1 _),
-    )
+loop-u-preserved c = (
+  omega arith,
+  spanned_more c.loop-u.invariant.1 (omega (arith, fits (goal.at.loop-u-preserved c).In-loop-u, c.requires.long)) refl,
+  below_more _ c.loop-u.u c.loop-u.invariant.2 (limb (goal.at.loop-u-preserved c).After-shared_slice_known-1 _),
+)
 
 pub returns : goal.returns
 returns c =

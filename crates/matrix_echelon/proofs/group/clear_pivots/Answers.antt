@@ -35,14 +35,13 @@ pub nonzero_rem-twice : goal.nonzero_rem-twice
 nonzero_rem-twice c = omega (arith, c.requires.proper)
 
 pub loop-g-init : goal.loop-g-init
-loop-g-init c =
-    (
-      omega arith,
-      omega arith,
-      limbs_fresh c.requires,
-      cleared.cleared_none (residues c.args.p) (residues_ring c.args.p (omega (arith, c.requires.proper)))
-          (one_not_zero c.args.p c.requires.proper) (λ j h. refl),
-    )
+loop-g-init c = (
+  omega arith,
+  omega arith,
+  limbs_fresh c.requires,
+  cleared.cleared_none (residues c.args.p) (residues_ring c.args.p (omega (arith, c.requires.proper)))
+      (one_not_zero c.args.p c.requires.proper) (λ j h. refl),
+)
 
 pub group_rows-four-requires : goal.group_rows-four-requires
 group_rows-four-requires c =

@@ -27,14 +27,14 @@ loop-t-preserved c =
     let v = c.loop-t.invariant in
     let more = c.loop-t-test.true in
     elim c.if-t-rank.branch [
-        then-t-rank+then-v-least w ↦ rw w.least-is (
-      omega arith,
-      omega (arith, more),
-      omega (arith, c.requires.0.inside c.loop-t.t w.if-t-rank.true),
-      below_more _ c.loop-t.t (λ q h a k. omega (arith, v.3 q h a k, w.if-v-least.true)) (λ a k. omega arith),
-    )
-        | then-t-rank+else-v-least w ↦ rw w.least-is (omega arith, omega (arith, more), v.2, below_more _ c.loop-t.t v.3 (λ a k. omega (arith, w.if-v-least.false)))
-        | else-t-rank w ↦ rw w.least-is (omega arith, omega (arith, more), v.2, below_more _ c.loop-t.t v.3 (λ a k. absurd (omega (arith, w.if-t-rank.false))))
+      | then-t-rank+then-v-least w ↦ rw w.least-is (
+        omega arith,
+        omega (arith, more),
+        omega (arith, c.requires.0.inside c.loop-t.t w.if-t-rank.true),
+        below_more _ c.loop-t.t (λ q h a k. omega (arith, v.3 q h a k, w.if-v-least.true)) (λ a k. omega arith),
+      )
+      | then-t-rank+else-v-least w ↦ rw w.least-is (omega arith, omega (arith, more), v.2, below_more _ c.loop-t.t v.3 (λ a k. omega (arith, w.if-v-least.false)))
+      | else-t-rank w ↦ rw w.least-is (omega arith, omega (arith, more), v.2, below_more _ c.loop-t.t v.3 (λ a k. absurd (omega (arith, w.if-t-rank.false))))
     ]
 
 pub returns : goal.returns

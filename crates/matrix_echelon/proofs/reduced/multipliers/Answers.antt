@@ -31,12 +31,11 @@ pub bounds-e-at : goal.bounds-e-at
 bounds-e-at c = pivot_inside c.requires c.loop-s.s (omega arith)
 
 pub minus-requires : goal.minus-requires
-minus-requires c =
-    (
-      c.requires.positive,
-      c.requires.rows_in.below _ (pivot_inside c.requires c.loop-s.s (omega arith)),
-      c.requires.in_range,
-    )
+minus-requires c = (
+  c.requires.positive,
+  c.requires.rows_in.below _ (pivot_inside c.requires c.loop-s.s (omega arith)),
+  c.requires.in_range,
+)
 
 pub offset_bounds-by-s : goal.offset_bounds-by-s
 offset_bounds-by-s c = omega (arith, c.requires.pivots_in.few)
@@ -47,8 +46,7 @@ bounds-by-s c = omega (arith, c.requires.pivots_in.few)
 pub loop-s-preserved : goal.loop-s-preserved
 unfolding opposite_at
 loop-s-preserved c =
-    let l = c.loop-s in
-    (
+    let l = c.loop-s in (
       omega arith,
       walked_more l.s _ _ _ _ l.invariant.1 (omega (arith, c.requires.pivots_in.few, c.row_room-by.ensures.0)) c.minus.ensures,
     )

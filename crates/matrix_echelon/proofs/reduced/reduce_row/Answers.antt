@@ -28,11 +28,10 @@ pub overflow_sub-len : goal.overflow_sub-len
 overflow_sub-len c = c.requires.within
 
 pub copy-requires : goal.copy-requires
-copy-requires c =
-    (
-      omega (arith, looked_inside c.requires.lookable c.args.t c.requires.lookable.one_of, parts (goal.at.copy-requires c).Start),
-      omega (arith, c.wide_room-x.ensures.0, c.requires.lookable.pivots_in.narrow),
-    )
+copy-requires c = (
+  omega (arith, looked_inside c.requires.lookable c.args.t c.requires.lookable.one_of, parts (goal.at.copy-requires c).Start),
+  omega (arith, c.wide_room-x.ensures.0, c.requires.lookable.pivots_in.narrow),
+)
 
 pub slice_bounds-combine_listed-end : goal.slice_bounds-combine_listed-end
 slice_bounds-combine_listed-end c = sym (by_long (from (goal.at.slice_bounds-combine_listed-end c).Start) (len (goal.at.slice_bounds-combine_listed-end c).Start) c.requires.lookable (parts (goal.at.slice_bounds-combine_listed-end c).Start) c.multipliers-by.ensures c.wide_room-x.ensures c.copy.ensures)
@@ -41,12 +40,11 @@ pub slice_bounds-combine_listed-end-3 : goal.slice_bounds-combine_listed-end-3
 slice_bounds-combine_listed-end-3 c = sym (copy_long (from (goal.at.slice_bounds-combine_listed-end-3 c).Start) (len (goal.at.slice_bounds-combine_listed-end-3 c).Start) c.requires.lookable (parts (goal.at.slice_bounds-combine_listed-end-3 c).Start) c.multipliers-by.ensures c.wide_room-x.ensures c.copy.ensures)
 
 pub combine_listed-requires : goal.combine_listed-requires
-combine_listed-requires c =
-    (
-      combinable (from (goal.at.combine_listed-requires c).Start) (len (goal.at.combine_listed-requires c).Start) c.requires.lookable (parts (goal.at.combine_listed-requires c).Start) c.multipliers-by.ensures c.wide_room-x.ensures c.copy.ensures,
-      passes (from (goal.at.combine_listed-requires c).Start) (len (goal.at.combine_listed-requires c).Start) c.requires.lookable (parts (goal.at.combine_listed-requires c).Start) c.multipliers-by.ensures c.wide_room-x.ensures c.copy.ensures
-          c.requires.through,
-    )
+combine_listed-requires c = (
+  combinable (from (goal.at.combine_listed-requires c).Start) (len (goal.at.combine_listed-requires c).Start) c.requires.lookable (parts (goal.at.combine_listed-requires c).Start) c.multipliers-by.ensures c.wide_room-x.ensures c.copy.ensures,
+  passes (from (goal.at.combine_listed-requires c).Start) (len (goal.at.combine_listed-requires c).Start) c.requires.lookable (parts (goal.at.combine_listed-requires c).Start) c.multipliers-by.ensures c.wide_room-x.ensures c.copy.ensures
+      c.requires.through,
+)
 
 pub slice_bounds-x-end-2 : goal.slice_bounds-x-end-2
 slice_bounds-x-end-2 c =

@@ -7,12 +7,11 @@ use Rattle.matrix_echelon.proofs.WorkedGrow.{scaled_clearable, row_fits, row_gro
 use Rattle.matrix_echelon.proofs.worked.grow.Goals as goal
 
 pub inverse-s-requires : goal.inverse-s-requires
-inverse-s-requires c =
-    (
-      c.requires.is_modulus,
-      pos_of_ne-zero c.requires.not_zero,
-      c.requires.clearable.leading.below c.args.v c.requires.clearable.in_row,
-    )
+inverse-s-requires c = (
+  c.requires.is_modulus,
+  pos_of_ne-zero c.requires.not_zero,
+  c.requires.clearable.leading.below c.args.v c.requires.clearable.in_row,
+)
 
 pub clear_group-requires : goal.clear_group-requires
 clear_group-requires c = scaled_clearable c.requires.clearable c.scale.ensures

@@ -12,8 +12,7 @@ loop-j-init c = (c.requires.leading.within, scaled_front c.requires)
 
 pub times-requires : goal.times-requires
 times-requires c =
-    let l = c.loop-j in
-    (
+    let l = c.loop-j in (
       c.requires.factor,
       rw (l.invariant.1.left l.j (omega arith)) (c.requires.leading.below l.j (omega arith)),
       c.requires.leading.in_range,
@@ -22,8 +21,7 @@ times-requires c =
 pub loop-j-preserved : goal.loop-j-preserved
 unfolding scaled_at
 loop-j-preserved c =
-    let l = c.loop-j in
-    (
+    let l = c.loop-j in (
       omega arith,
       walked_more l.j _ _ _ _ l.invariant.1 (omega arith)
           (c.times.ensures ∙ ap (λ n. (reduce c.args.p c.args.s ⊗ reduce c.args.p n).value) (l.invariant.1.left l.j (omega arith))),
