@@ -1,1 +1,6 @@
+mod Streams
+mod FrameTexts
+mod Steps
+mod Loop
+mod Printed
 pub mod Opened

@@ -1,63 +1,103 @@
 // The frames of the input, taken one by one, each with its line. The board stays one.
-ghost use Rattle.std.specs.Prelude.{◌≡◌, length};
+ghost use Rattle.std.specs.Prelude.{◌≡◌, ℕ, List, length, IfOk, OnOk};
+ghost use Rattle.ledger.specs.Board.{size_word};
 ghost use Rattle.sheet_heat.specs.Calls.{SheetBoard};
+ghost use Rattle.sheet.specs.Program.{Reads, Writes, FrameText, NextText, AllText};
 
+use super::input::read_full;
 use super::{lent, lines};
 use board_words::layout;
 use checks::Refusal;
-use libc::STDIN_FILENO;
 use sheet_text::FrameInput;
+use std::io;
+use std::io::{Read, Write};
 
 // Reads a frame's bytes into the lent ones, which are as many as its length says, and takes it. Answers whether it was whole.
-fn take_body(board: &mut [u32], frame: &mut [u8], mix: &mut [u32]) -> bool
+fn take_body<R: Read, W: Write>(
+    input: &mut R,
+    output: &mut W,
+    board: &mut [u32],
+    frame: &mut [u8],
+    mix: &mut [u32],
+) -> io::Result<bool>
     requires { SheetBoard board.old }
-    ensures { SheetBoard board.new }
+    ensures sheet { SheetBoard board.new }
+    ensures text { IfOk result (λ more. Reads (R.remaining input.old) (R.remaining input.new) (λ known left.
+        Writes (W.contents output.old) (W.contents output.new) (λ text.
+        FrameText board.old mix.old (length frame.old) known text more board.new mix.new left))) }
 {
-    let came = io::read_full(STDIN_FILENO, frame);
+    let came = read_full(input, frame)?;
     let FrameInput::Frame(_) = sheet_text::frame_body(frame.len(), came) else {
-        lines::refused(Refusal::FrameLength);
-        return false;
+        lines::refused(output, Refusal::FrameLength)?;
+        return Ok(false);
     };
-    lines::frame(board, frame, mix);
-    true
+    lines::frame(output, board, frame, mix)?;
+    Ok(true)
 }
 
 // Reads and takes the next frame. Answers whether there was one, and whole.
-fn take_next(board: &mut [u32], bytes: &mut [u8], mix: &mut [u32]) -> bool
+fn take_next<R: Read, W: Write>(
+    input: &mut R,
+    output: &mut W,
+    board: &mut [u32],
+    bytes: &mut [u8],
+    mix: &mut [u32],
+) -> io::Result<bool>
     requires { SheetBoard board.old × (65536 ≡ length bytes.old) }
-    ensures { SheetBoard board.new }
+    ensures sheet { SheetBoard board.new }
+    ensures text { IfOk result (λ more. Reads (R.remaining input.old) (R.remaining input.new) (λ known left.
+        Writes (W.contents output.old) (W.contents output.new) (λ text.
+        NextText board.old mix.old known text more board.new mix.new left))) }
 {
     let mut pair = lent::frame_length();
-    let came = io::read_full(STDIN_FILENO, &mut pair);
+    let came = read_full(input, &mut pair)?;
     match sheet_text::frame_start(&pair[..came]) {
-        FrameInput::End => false,
+        FrameInput::End => Ok(false),
         FrameInput::Cut => {
-            lines::refused(Refusal::FrameLength);
-            false
+            lines::refused(output, Refusal::FrameLength)?;
+            Ok(false)
         }
-        FrameInput::Frame(length) => take_body(board, &mut bytes[..length], mix),
+        FrameInput::Frame(length) => { take_body(input, output, board, &mut bytes[..length], mix) }
     }
 }
 
 // Takes the frames one after the other. A proved loop has to end, and nothing says that the input does, so it counts down, from
 // a number of frames that no line sends: at a thousand million frames a second that takes five hundred years.
-fn take_each(board: &mut [u32], bytes: &mut [u8], mix: &mut [u32])
+fn take_each<R: Read, W: Write>(
+    input: &mut R,
+    output: &mut W,
+    board: &mut [u32],
+    bytes: &mut [u8],
+    mix: &mut [u32],
+) -> io::Result<()>
     requires { SheetBoard board.old × (65536 ≡ length bytes.old) }
-    ensures { SheetBoard board.new }
+    ensures sheet { SheetBoard board.new }
+    ensures text { OnOk result (Reads (R.remaining input.old) (R.remaining input.new) (λ known left.
+        Writes (W.contents output.old) (W.contents output.new) (λ text.
+        AllText board.old mix.old known text board.new))) }
 {
     let mut left = u64::MAX;
-    while 0 < left && take_next(board, bytes, mix) {
+    while 0 < left && take_next(input, output, board, bytes, mix)? {
         left -= 1;
     }
+    Ok(())
 }
 
 // All frames, onto the board, with a mix of the board's own n words. A length has two bytes, so that every frame has room.
-pub fn take_all(board: &mut [u32])
+pub fn take_all<R: Read, W: Write>(
+    input: &mut R,
+    output: &mut W,
+    board: &mut [u32],
+) -> io::Result<()>
     requires { SheetBoard board.old }
-    ensures { SheetBoard board.new }
+    ensures sheet { SheetBoard board.new }
+    ensures text { OnOk result ((mix : List ℕ) × (length mix ≡ size_word board.old)
+        × Reads (R.remaining input.old) (R.remaining input.new) (λ known left.
+        Writes (W.contents output.old) (W.contents output.new) (λ text.
+        AllText board.old mix known text board.new))) }
 {
     let n = board[layout::SIZE] as usize;
-    let mut bytes = io::large_buffer();
+    let mut bytes = lent::frame();
     let mut mix = lent::words();
-    take_each(board, &mut bytes, &mut mix[..n]);
+    take_each(input, output, board, &mut bytes, &mut mix[..n])
 }

@@ -7,6 +7,8 @@ ghost use Rattle.sheet_heat.specs.Sheet.{sheet_words};
 use super::{frames, lent, lines};
 use board_calls::OpenAnswer;
 use board_words::layout;
+use std::io;
+use std::io::{Read, Write};
 
 // The words of a record on a sheet.
 const WORDS: u32 = 1;
@@ -22,21 +24,27 @@ fn board_length(n: u32) -> usize
 }
 
 // Opens the board in the lent words, takes the frames and shows the records; a refused open is one line.
-fn open_in(p: u32, n: u32, board: &mut [u32])
+fn open_in<R: Read, W: Write>(
+    input: &mut R,
+    output: &mut W,
+    p: u32,
+    n: u32,
+    board: &mut [u32],
+) -> io::Result<()>
     requires { header_length ≤ length board.old }
 {
     match board_calls::open(p, n, WORDS, board) {
         OpenAnswer::Opened => {
-            frames::take_all(board);
-            lines::ending(board);
+            frames::take_all(input, output, board)?;
+            lines::ending(output, board)
         }
-        OpenAnswer::Refused(kind) => lines::refused(kind),
+        OpenAnswer::Refused(kind) => lines::refused(output, kind),
     }
 }
 
 // The heat that the header opens.
-pub fn open(p: u32, n: u32) {
+pub fn open<R: Read, W: Write>(input: &mut R, output: &mut W, p: u32, n: u32) -> io::Result<()> {
     let mut words = lent::board();
     let size = board_length(n);
-    open_in(p, n, &mut words[..size]);
+    open_in(input, output, p, n, &mut words[..size])
 }

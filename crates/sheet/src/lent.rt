@@ -20,6 +20,13 @@ pub fn frame_length() -> [u8; 2]
     [0; 2]
 }
 
+// The bytes of a frame, of which two bytes tell the length.
+pub fn frame() -> [u8; 65536]
+    ensures { 65536 ≡ length result }
+{
+    [0; 65536]
+}
+
 // The words of the largest board.
 pub fn board() -> [u32; LARGEST_BOARD]
     ensures { largest_board ≡ length result }

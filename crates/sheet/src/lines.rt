@@ -1,40 +1,58 @@
-// The lines that sheet_text and sheet_heat make, written to standard output.
-ghost use Rattle.std.specs.Prelude.{◌≤◌, length};
-ghost use Rattle.sheet_heat.specs.Calls.{SheetBoard};
+// The lines that sheet_text and sheet_heat make, written as they come.
+ghost use Rattle.std.specs.Prelude.{◌≡◌, ◌≤◌, length, take, OnOk};
+ghost use Rattle.std.specs.Io.KnownBytes.{Appends};
+ghost use Rattle.checks.specs.Refusal.{refusal_number};
+ghost use Rattle.ledger.specs.Calls.{take_call};
+ghost use Rattle.sheet_text.specs.Lines.{refused_line};
+ghost use Rattle.sheet_heat.specs.Calls.{SheetBoard, taken_line, ending_of};
 
 use super::lent;
 use checks::Refusal;
-use libc::STDOUT_FILENO;
+use std::io;
+use std::io::Write;
 
 // Writes the text at the front of the buffer.
-fn write(buffer: &[u8], size: usize)
+fn write<W: Write>(output: &mut W, buffer: &[u8], size: usize) -> io::Result<()>
     requires { size ≤ length buffer.now }
+    ensures { OnOk result (Appends (W.contents output.old) (W.contents output.new) (take size buffer.now)) }
 {
-    io::write_all(STDOUT_FILENO, &buffer[..size]);
+    output.write_all(&buffer[..size])?;
+    output.flush()
 }
 
 // Takes a frame and writes its line.
-pub fn frame(board: &mut [u32], frame: &[u8], mix: &mut [u32])
+pub fn frame<W: Write>(
+    output: &mut W,
+    board: &mut [u32],
+    frame: &[u8],
+    mix: &mut [u32],
+) -> io::Result<()>
     requires { SheetBoard board.old }
-    ensures { SheetBoard board.new }
+    ensures sheet { SheetBoard board.new }
+    ensures board { board.new ≡ (take_call board.old frame.now mix.old).lent.0 }
+    ensures mix { mix.new ≡ (take_call board.old frame.now mix.old).lent.1 }
+    ensures line { OnOk result (Appends (W.contents output.old) (W.contents output.new) (taken_line board.old frame.now mix.old)) }
 {
     let mut line = lent::line();
     let size = sheet_heat::frame_line(board, frame, mix, &mut line);
-    write(&line, size);
+    write(output, &line, size)
 }
 
 // The line of a refusal: of a cut header, a refused open, a frame that was cut.
-pub fn refused(kind: Refusal) {
+pub fn refused<W: Write>(output: &mut W, kind: Refusal) -> io::Result<()>
+    ensures { OnOk result (Appends (W.contents output.old) (W.contents output.new) (refused_line (refusal_number kind))) }
+{
     let mut line = lent::line();
     let size = sheet_text::refused_line(kind, &mut line);
-    write(&line, size);
+    write(output, &line, size)
 }
 
 // The records and the missing line.
-pub fn ending(board: &[u32])
+pub fn ending<W: Write>(output: &mut W, board: &[u32]) -> io::Result<()>
     requires { SheetBoard board.now }
+    ensures { OnOk result (Appends (W.contents output.old) (W.contents output.new) (ending_of board.now)) }
 {
     let mut text = lent::text();
     let size = sheet_heat::ending(board, &mut text);
-    write(&text, size);
+    write(output, &text, size)
 }

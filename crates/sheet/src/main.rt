@@ -6,18 +6,21 @@
 
 mod frames;
 mod heat;
+mod input;
 mod lent;
 mod lines;
 
 use checks::Refusal;
-use libc::STDIN_FILENO;
 use sheet_text::HeaderAnswer;
+use std::io;
 
-fn main() {
+fn main(rt: HostRuntime) -> io::Result<()> {
+    let mut input = rt.stdin();
+    let mut output = rt.stdout();
     let mut bytes = lent::header();
-    let came = io::read_full(STDIN_FILENO, &mut bytes);
+    let came = input::read_full(&mut input, &mut bytes)?;
     match sheet_text::header(&bytes[..came]) {
-        HeaderAnswer::Cut => lines::refused(Refusal::FrameLength),
-        HeaderAnswer::Open(p, n) => heat::open(p, n),
+        HeaderAnswer::Cut => lines::refused(&mut output, Refusal::FrameLength),
+        HeaderAnswer::Open(p, n) => heat::open(&mut input, &mut output, p, n),
     }
 }

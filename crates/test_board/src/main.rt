@@ -18,12 +18,16 @@ mod examples;
 mod memory;
 mod report;
 
-use test_support::{counts, output};
+use std::io;
+use test_support::input::Stored;
+use test_support::{counts, input, output};
 
-fn main() {
+fn main(rt: HostRuntime) -> io::Result<()> {
+    let bytes = input::read_all(&rt)?;
+    let mut stored = Stored::new(bytes.as_slice());
     let mut tally = counts::none();
-    calls::run(&mut tally);
-    report::print_calls(&tally);
-    examples::run();
-    output::print_count(b"mismatches", &tally, counts::MISMATCHES);
+    calls::run(&mut stored, &mut tally);
+    report::print_calls(&rt, &tally)?;
+    examples::run(&rt)?;
+    output::print_count(&rt, b"mismatches", &tally, counts::MISMATCHES)
 }

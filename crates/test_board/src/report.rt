@@ -1,5 +1,6 @@
 // What the run counts, the answers as numbers, and the lines that it prints.
 use board_calls::{CountAnswer, OpenAnswer, TakeAnswer};
+use std::io;
 use test_support::told::Told;
 use test_support::{output, told};
 
@@ -77,38 +78,37 @@ pub fn take_place(number: u32) -> usize {
 }
 
 // A space and z in decimal, with a leading minus where it is below 0.
-fn print_signed(z: i32) {
+fn print_signed(out: &impl Print, z: i32) -> io::Result<()> {
     let mut text = [0u8; 16];
     let end = codec::put_signed(&mut text, 0, z);
-    output::print_text(b" ");
-    output::print_text(&text[..end]);
+    output::print_text(out, b" ")?;
+    output::print_text(out, &text[..end])
 }
 
 // The name and the signed numbers behind it.
-pub fn print_numbers(name: &[u8], numbers: &[i32]) {
-    output::print_text(name);
-    let mut i = 0;
-    while i < numbers.len() {
-        print_signed(numbers[i]);
-        i += 1;
+pub fn print_numbers(out: &impl Print, name: &[u8], numbers: &[i32]) -> io::Result<()> {
+    output::print_text(out, name)?;
+    for number in numbers {
+        print_signed(out, *number)?;
     }
+    Ok(())
 }
 
 // The lines of the takes.
-fn print_takes(tally: &[u32; 16]) {
-    output::print_count(b"takes", tally, TAKES);
-    output::print_count(b"new", tally, NEW);
-    output::print_count(b"repeat", tally, REPEAT);
-    output::print_count(b"conflict", tally, CONFLICT);
-    output::print_count(b"refused", tally, REFUSED);
+fn print_takes(out: &impl Print, tally: &[u32; 16]) -> io::Result<()> {
+    output::print_count(out, b"takes", tally, TAKES)?;
+    output::print_count(out, b"new", tally, NEW)?;
+    output::print_count(out, b"repeat", tally, REPEAT)?;
+    output::print_count(out, b"conflict", tally, CONFLICT)?;
+    output::print_count(out, b"refused", tally, REFUSED)
 }
 
 // The lines of the stored calls.
-pub fn print_calls(tally: &[u32; 16]) {
-    output::print_count(b"histories", tally, HISTORIES);
-    output::print_count(b"unopened", tally, UNOPENED);
-    print_takes(tally);
-    output::print_count(b"withdrawals", tally, WITHDRAWALS);
-    output::print_count(b"shows", tally, SHOWS);
-    output::print_count(b"tampered", tally, TAMPERED);
+pub fn print_calls(out: &impl Print, tally: &[u32; 16]) -> io::Result<()> {
+    output::print_count(out, b"histories", tally, HISTORIES)?;
+    output::print_count(out, b"unopened", tally, UNOPENED)?;
+    print_takes(out, tally)?;
+    output::print_count(out, b"withdrawals", tally, WITHDRAWALS)?;
+    output::print_count(out, b"shows", tally, SHOWS)?;
+    output::print_count(out, b"tampered", tally, TAMPERED)
 }

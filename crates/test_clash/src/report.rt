@@ -1,5 +1,6 @@
 // What the run counts, the answers as numbers, and the lines of the stored calls.
 use clash_calls::ClashAnswer;
+use std::io;
 use test_support::{output, told};
 
 // The places of the counts.
@@ -50,13 +51,13 @@ pub fn place_of(number: u32) -> usize {
     CLASHES
 }
 
-pub fn print_cases(tally: &[u32; 16]) {
-    output::print_count(b"cases", tally, CASES);
-    output::print_count(b"clashes", tally, CLASHES);
-    output::print_count(b"clear", tally, CLEAR);
-    output::print_count(b"refused-1", tally, REFUSED_1);
-    output::print_count(b"refused-2", tally, REFUSED_2);
-    output::print_count(b"refused-12", tally, REFUSED_12);
-    output::print_count(b"refused-3", tally, REFUSED_3);
-    output::print_count(b"refused-4", tally, REFUSED_4);
+pub fn print_cases(out: &impl Print, tally: &[u32; 16]) -> io::Result<()> {
+    output::print_count(out, b"cases", tally, CASES)?;
+    output::print_count(out, b"clashes", tally, CLASHES)?;
+    output::print_count(out, b"clear", tally, CLEAR)?;
+    output::print_count(out, b"refused-1", tally, REFUSED_1)?;
+    output::print_count(out, b"refused-2", tally, REFUSED_2)?;
+    output::print_count(out, b"refused-12", tally, REFUSED_12)?;
+    output::print_count(out, b"refused-3", tally, REFUSED_3)?;
+    output::print_count(out, b"refused-4", tally, REFUSED_4)
 }

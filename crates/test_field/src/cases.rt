@@ -1,5 +1,6 @@
 // The stored cases: signed and residue with low ends, each compared with what its case says.
 use signed::{ResidueAnswer, SignedAnswer};
+use test_support::input::Stored;
 use test_support::{counts, input};
 
 // The places of the counts.
@@ -10,10 +11,10 @@ pub const RESIDUES: usize = 1;
 pub const REFUSED: usize = 2;
 
 // A residue that is read, with the answer and the record from the input.
-fn read(p: u32, low: u32, tally: &mut [u32; 16]) {
-    let answer = signed::signed(p, low, input::word());
-    let number = input::word();
-    let record = input::number();
+fn read(stored: &mut Stored<'_>, p: u32, low: u32, tally: &mut [u32; 16]) {
+    let answer = signed::signed(p, low, input::word(stored));
+    let number = input::word(stored);
+    let record = input::number(stored);
     match answer {
         SignedAnswer::Record(z) => counts::count_if(tally, READINGS, number == 0 && z == record),
         SignedAnswer::Refused(kind) => counts::count_if(
@@ -25,10 +26,10 @@ fn read(p: u32, low: u32, tally: &mut [u32; 16]) {
 }
 
 // The other way round.
-fn unread(p: u32, low: u32, tally: &mut [u32; 16]) {
-    let answer = signed::residue(p, low, input::number());
-    let number = input::word();
-    let residue = input::word();
+fn unread(stored: &mut Stored<'_>, p: u32, low: u32, tally: &mut [u32; 16]) {
+    let answer = signed::residue(p, low, input::number(stored));
+    let number = input::word(stored);
+    let residue = input::word(stored);
     match answer {
         ResidueAnswer::Residue(v) => counts::count_if(tally, RESIDUES, number == 0 && v == residue),
         ResidueAnswer::Refused(kind) => counts::count_if(
@@ -40,28 +41,29 @@ fn unread(p: u32, low: u32, tally: &mut [u32; 16]) {
 }
 
 // The next case, and whether there was one. A kind above 2 is none of the script's.
-fn next(tally: &mut [u32; 16]) -> bool {
-    let kind = input::word();
+fn next(stored: &mut Stored<'_>, tally: &mut [u32; 16]) -> bool {
+    let kind = input::word(stored);
     if kind == 0 {
         return false;
     }
-    let p = input::word();
-    let low = input::word();
+    let p = input::word(stored);
+    let low = input::word(stored);
     if kind == 1 {
-        read(p, low, tally);
+        read(stored, p, low, tally);
         return true;
     }
     if kind == 2 {
-        unread(p, low, tally);
+        unread(stored, p, low, tally);
         return true;
     }
     counts::stop(tally)
 }
 
 // All cases, of which there are at most 100,000.
-pub fn run(tally: &mut [u32; 16]) {
-    let mut left: u32 = 100000;
-    while 0 < left && next(tally) {
-        left -= 1;
+pub fn run(stored: &mut Stored<'_>, tally: &mut [u32; 16]) {
+    for _ in 0..100000 {
+        if !next(stored, tally) {
+            return;
+        }
     }
 }

@@ -18,9 +18,10 @@ ghost use Rattle.std.specs.Prelude.{◌≡◌, ◌≤◌, ◌<◌, pos, neg_ℤ,
 mod cases;
 
 use checks::Refusal;
-use libc::STDOUT_FILENO;
-use test_support::counts;
+use std::io;
+use test_support::input::Stored;
 use test_support::output::{print_count, print_end, print_number, print_text};
+use test_support::{counts, input};
 
 // The size of a record, |z|. It is taken in 64 bits, where the smallest i32 has a negation.
 fn magnitude(z: i32) -> u64
@@ -42,152 +43,156 @@ fn minus(n: u32) -> i32
 }
 
 // A space and z in decimal, with a leading minus where it is below 0.
-fn print_record(z: i32) {
-    print_text(b" ");
+fn print_record(out: &impl Print, z: i32) -> io::Result<()> {
+    print_text(out, b" ")?;
     if z < 0 {
-        print_text(b"-");
+        print_text(out, b"-")?;
     }
-    io::print_decimal(STDOUT_FILENO, magnitude(z));
+    let size = magnitude(z);
+    print!(out; "{size}")
 }
 
-fn print_refused(kind: Refusal) {
-    print_text(b" refused");
-    print_number(checks::number_of(kind));
+fn print_refused(out: &impl Print, kind: Refusal) -> io::Result<()> {
+    print_text(out, b" refused")?;
+    print_number(out, checks::number_of(kind))
 }
 
-fn print_modulus(p: u32) {
-    print_text(b"modulus");
-    print_number(p);
+fn print_modulus(out: &impl Print, p: u32) -> io::Result<()> {
+    print_text(out, b"modulus")?;
+    print_number(out, p)?;
     if checks::is_modulus(p) {
-        print_text(b" yes\n");
+        print_text(out, b" yes\n")?;
     } else {
-        print_text(b" no\n");
+        print_text(out, b" no\n")?;
     }
+    Ok(())
 }
 
-fn print_refusal(kind: Refusal) {
-    print_text(b"refusal");
-    print_number(checks::number_of(kind));
-    print_end();
+fn print_refusal(out: &impl Print, kind: Refusal) -> io::Result<()> {
+    print_text(out, b"refusal")?;
+    print_number(out, checks::number_of(kind))?;
+    print_end(out)
 }
 
-fn print_signed(p: u32, v: u32)
+fn print_signed(out: &impl Print, p: u32, v: u32) -> io::Result<()>
     requires { 0 < p }
 {
-    print_text(b"signed");
-    print_number(p);
-    print_number(v);
+    print_text(out, b"signed")?;
+    print_number(out, p)?;
+    print_number(out, v)?;
     match signed::signed(p, signed::balanced_low(p), v) {
-        signed::SignedAnswer::Record(z) => print_record(z),
-        signed::SignedAnswer::Refused(kind) => print_refused(kind),
+        signed::SignedAnswer::Record(z) => print_record(out, z)?,
+        signed::SignedAnswer::Refused(kind) => print_refused(out, kind)?,
     }
-    print_end();
+    print_end(out)
 }
 
-fn print_residue(p: u32, z: i32)
+fn print_residue(out: &impl Print, p: u32, z: i32) -> io::Result<()>
     requires { 0 < p }
 {
-    print_text(b"residue");
-    print_number(p);
-    print_record(z);
+    print_text(out, b"residue")?;
+    print_number(out, p)?;
+    print_record(out, z)?;
     match signed::residue(p, signed::balanced_low(p), z) {
-        signed::ResidueAnswer::Residue(v) => print_number(v),
-        signed::ResidueAnswer::Refused(kind) => print_refused(kind),
+        signed::ResidueAnswer::Residue(v) => print_number(out, v)?,
+        signed::ResidueAnswer::Refused(kind) => print_refused(out, kind)?,
     }
-    print_end();
+    print_end(out)
 }
 
 // Document 01's examples of a modulus and numbers near them.
-fn print_moduli() {
-    print_modulus(0);
-    print_modulus(1);
-    print_modulus(2);
-    print_modulus(3);
-    print_modulus(4);
-    print_modulus(251);
-    print_modulus(65537);
-    print_modulus(46337);
-    print_modulus(2147117569);
-    print_modulus(2147483629);
-    print_modulus(2147483646);
-    print_modulus(2147483647);
-    print_modulus(2147483648);
-    print_modulus(4294967295);
+fn print_moduli(out: &impl Print) -> io::Result<()> {
+    print_modulus(out, 0)?;
+    print_modulus(out, 1)?;
+    print_modulus(out, 2)?;
+    print_modulus(out, 3)?;
+    print_modulus(out, 4)?;
+    print_modulus(out, 251)?;
+    print_modulus(out, 65537)?;
+    print_modulus(out, 46337)?;
+    print_modulus(out, 2147117569)?;
+    print_modulus(out, 2147483629)?;
+    print_modulus(out, 2147483646)?;
+    print_modulus(out, 2147483647)?;
+    print_modulus(out, 2147483648)?;
+    print_modulus(out, 4294967295)
 }
 
 // The kinds in the order of document 01's table, then those of document 02 by their numbers.
-fn print_refusals() {
-    print_refusal(Refusal::Modulus);
-    print_refusal(Refusal::Size);
-    print_refusal(Refusal::Length);
-    print_refusal(Refusal::Number);
-    print_refusal(Refusal::Insoluble);
-    print_refusal(Refusal::FrameLength);
-    print_refusal(Refusal::Padding);
-    print_refusal(Refusal::ZeroMultiplier);
-    print_refusal(Refusal::Conflict);
-    print_refusal(Refusal::Withdrawal);
-    print_refusal(Refusal::NotBoard);
-    print_refusal(Refusal::Words);
-    print_refusal(Refusal::NotInner);
-    print_refusal(Refusal::NotOuter);
+fn print_refusals(out: &impl Print) -> io::Result<()> {
+    print_refusal(out, Refusal::Modulus)?;
+    print_refusal(out, Refusal::Size)?;
+    print_refusal(out, Refusal::Length)?;
+    print_refusal(out, Refusal::Number)?;
+    print_refusal(out, Refusal::Insoluble)?;
+    print_refusal(out, Refusal::FrameLength)?;
+    print_refusal(out, Refusal::Padding)?;
+    print_refusal(out, Refusal::ZeroMultiplier)?;
+    print_refusal(out, Refusal::Conflict)?;
+    print_refusal(out, Refusal::Withdrawal)?;
+    print_refusal(out, Refusal::NotBoard)?;
+    print_refusal(out, Refusal::Words)?;
+    print_refusal(out, Refusal::NotInner)?;
+    print_refusal(out, Refusal::NotOuter)
 }
 
 // The residues 0, p/2, the next one where it is below p, p - 1, and p, which check 4 stops. For p = 2 and p = 3 one of them
 // comes twice.
-fn print_readings(p: u32)
+fn print_readings(out: &impl Print, p: u32) -> io::Result<()>
     requires { (2 ≤ p) × (p ≤ 2147483647) }
 {
-    print_signed(p, 0);
-    print_signed(p, p / 2);
+    print_signed(out, p, 0)?;
+    print_signed(out, p, p / 2)?;
     if p / 2 + 1 < p {
-        print_signed(p, p / 2 + 1);
+        print_signed(out, p, p / 2 + 1)?;
     }
-    print_signed(p, p - 1);
-    print_signed(p, p);
+    print_signed(out, p, p - 1)?;
+    print_signed(out, p, p)
 }
 
 // The ends of the range, -(p - 1)/2 and p/2, and the numbers one beyond them, which check 4 stops.
-fn print_residues(p: u32)
+fn print_residues(out: &impl Print, p: u32) -> io::Result<()>
     requires { (2 ≤ p) × (p ≤ 2147483647) }
 {
     let low = (p - 1) / 2;
     let high = p / 2;
-    print_residue(p, minus(low));
-    print_residue(p, high as i32);
-    print_residue(p, minus(low + 1));
-    print_residue(p, (high + 1) as i32);
+    print_residue(out, p, minus(low))?;
+    print_residue(out, p, high as i32)?;
+    print_residue(out, p, minus(low + 1))?;
+    print_residue(out, p, (high + 1) as i32)
 }
 
 // Reading and its inverse modulo p.
-fn print_both(p: u32)
+fn print_both(out: &impl Print, p: u32) -> io::Result<()>
     requires { (2 ≤ p) × (p ≤ 2147483647) }
 {
-    print_readings(p);
-    print_residues(p);
+    print_readings(out, p)?;
+    print_residues(out, p)
 }
 
 // Document 01's cases, with the old low end.
-fn print_old() {
-    print_moduli();
-    print_refusals();
-    print_both(2);
-    print_both(3);
-    print_both(251);
-    print_both(65537);
-    print_both(2147483647);
-    print_signed(4, 1);
-    print_residue(1, 0);
+fn print_old(out: &impl Print) -> io::Result<()> {
+    print_moduli(out)?;
+    print_refusals(out)?;
+    print_both(out, 2)?;
+    print_both(out, 3)?;
+    print_both(out, 251)?;
+    print_both(out, 65537)?;
+    print_both(out, 2147483647)?;
+    print_signed(out, 4, 1)?;
+    print_residue(out, 1, 0)?;
     // Check 1 comes before check 4.
-    print_signed(4, 9);
+    print_signed(out, 4, 9)
 }
 
-fn main() {
-    print_old();
+fn main(rt: HostRuntime) -> io::Result<()> {
+    print_old(&rt)?;
+    let bytes = input::read_all(&rt)?;
+    let mut stored = Stored::new(bytes.as_slice());
     let mut tally = counts::none();
-    cases::run(&mut tally);
-    print_count(b"readings", &tally, cases::READINGS);
-    print_count(b"residues", &tally, cases::RESIDUES);
-    print_count(b"refused", &tally, cases::REFUSED);
-    print_count(b"mismatches", &tally, counts::MISMATCHES);
+    cases::run(&mut stored, &mut tally);
+    print_count(&rt, b"readings", &tally, cases::READINGS)?;
+    print_count(&rt, b"residues", &tally, cases::RESIDUES)?;
+    print_count(&rt, b"refused", &tally, cases::REFUSED)?;
+    print_count(&rt, b"mismatches", &tally, counts::MISMATCHES)
 }

@@ -22,21 +22,30 @@ mod seals;
 mod writes;
 
 use cases::Call;
-use test_support::{counts, output};
+use std::io;
+use test_support::input::Stored;
+use test_support::{counts, input, output};
 
 // The cases of a call that stand behind those of reading.
-fn print_calls(call: Call, done: &[u8]) {
+fn print_calls(
+    out: &impl Print,
+    stored: &mut Stored<'_>,
+    call: Call,
+    done: &[u8],
+) -> io::Result<()> {
     let mut tally = counts::none();
-    cases::run(call, &mut tally);
-    report::print_calls(done, &tally);
+    cases::run(stored, call, &mut tally);
+    report::print_calls(out, done, &tally)
 }
 
-fn main() {
+fn main(rt: HostRuntime) -> io::Result<()> {
+    let bytes = input::read_all(&rt)?;
+    let mut stored = Stored::new(bytes.as_slice());
     let mut tally = counts::none();
-    cases::run(Call::Read, &mut tally);
-    report::print_cases(&tally);
-    print_calls(Call::Seal, b"sealed");
-    print_calls(Call::Write, b"written");
-    examples::run();
-    output::print_count(b"mismatches", &tally, counts::MISMATCHES);
+    cases::run(&mut stored, Call::Read, &mut tally);
+    report::print_cases(&rt, &tally)?;
+    print_calls(&rt, &mut stored, Call::Seal, b"sealed")?;
+    print_calls(&rt, &mut stored, Call::Write, b"written")?;
+    examples::run(&rt)?;
+    output::print_count(&rt, b"mismatches", &tally, counts::MISMATCHES)
 }

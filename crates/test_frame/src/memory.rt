@@ -1,5 +1,5 @@
 // What lent memory is filled with, how many bytes writing is lent, and the test of lent bytes whose front was written.
-ghost use Rattle.std.specs.Prelude.{◌≤◌};
+ghost use Rattle.std.specs.Prelude.{◌≡◌, ◌≤◌, length};
 
 use checks::MOST_WORDS;
 
@@ -18,6 +18,13 @@ pub fn written_room(s: u32) -> usize
     264 + 4 * s as usize
 }
 
+// Room for a stored frame. Only the length is given, so that no goal holds the bytes.
+pub fn frame() -> [u8; 4096]
+    ensures { 4096 ≡ length result }
+{
+    [0; 4096]
+}
+
 // What stands at i in bytes that begin with the front, and behind it are as they were.
 fn byte_at(front: &[u8], i: usize) -> u8 {
     if i < front.len() { front[i] } else { BYTE }
@@ -28,12 +35,10 @@ pub fn is_only_front(front: &[u8], bytes: &[u8]) -> bool {
     if bytes.len() < front.len() {
         return false;
     }
-    let mut i = 0;
-    while i < bytes.len() {
-        if bytes[i] != byte_at(front, i) {
+    for (i, byte) in bytes.iter().enumerate() {
+        if *byte != byte_at(front, i) {
             return false;
         }
-        i += 1;
     }
     true
 }

@@ -1,5 +1,6 @@
 // The stored cases of reading: each frame is read, compared with what its case says, and written again where it was accepted.
 use super::{expected, memory, report};
+use test_support::input::Stored;
 use test_support::{counts, input, lent, told};
 
 // Writes what was read: lent bytes hold the frame again, and behind it are as they were.
@@ -24,6 +25,7 @@ fn rewrite(
 // One case from its frame on, with words lent for its multipliers and values: the input says the number next, and of an accepted
 // frame the words. A refusal leaves them as they were.
 fn compare_lent(
+    stored: &mut Stored<'_>,
     p: u32,
     n: u32,
     s: u32,
@@ -33,9 +35,9 @@ fn compare_lent(
     tally: &mut [u32; 16],
 ) {
     let answer = report::read_told(frame_calls::read(p, n, s, frame, multipliers, values));
-    let number = expected::expect_number(answer, tally);
-    expected::expect_words(number, multipliers, tally);
-    expected::expect_words(number, values, tally);
+    let number = expected::expect_number(stored, answer, tally);
+    expected::expect_words(stored, number, multipliers, tally);
+    expected::expect_words(stored, number, values, tally);
     counts::count(tally, report::FRAMES);
     if !told::is_refused(answer.number) {
         rewrite(p, n, s, multipliers, values, frame, tally);
@@ -43,16 +45,16 @@ fn compare_lent(
 }
 
 // One case behind its sizes, with memory for its multipliers, its values and its frame.
-pub fn compare(p: u32, n: u32, s: u32, tally: &mut [u32; 16]) {
-    let room = input::length(66);
+pub fn compare(stored: &mut Stored<'_>, p: u32, n: u32, s: u32, tally: &mut [u32; 16]) {
+    let room = input::length(stored, 66);
     let mut words = lent::words(memory::WORD);
     let multipliers = lent::front(&mut words, room);
-    let space = input::length(66);
+    let space = input::length(stored, 66);
     let mut more_words = lent::words(memory::WORD);
     let values = lent::front(&mut more_words, space);
-    let length = input::length(4096);
-    let mut bytes = io::buffer();
+    let length = input::length(stored, 4096);
+    let mut bytes = memory::frame();
     let frame = lent::front_bytes(&mut bytes, length);
-    input::read_bytes(frame);
-    compare_lent(p, n, s, frame, multipliers, values, tally);
+    input::read_bytes(stored, frame);
+    compare_lent(stored, p, n, s, frame, multipliers, values, tally);
 }

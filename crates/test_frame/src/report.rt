@@ -1,5 +1,6 @@
 // What the run counts, the answers as numbers, and the lines of the stored cases.
 use frame_calls::{ReadAnswer, SealAnswer, WriteAnswer};
+use std::io;
 use test_support::told::Told;
 use test_support::{counts, output, told};
 
@@ -41,34 +42,34 @@ pub fn place(number: u32) -> usize {
 }
 
 // The line of a refusal that occurred.
-fn print_refused(number: u32, n: u32) {
+fn print_refused(out: &impl Print, number: u32, n: u32) -> io::Result<()> {
     if n != 0 {
-        output::print_text(b"refused");
-        output::print_number(number);
-        output::print_number(n);
-        output::print_end();
+        output::print_text(out, b"refused")?;
+        output::print_number(out, number)?;
+        output::print_number(out, n)?;
+        output::print_end(out)?;
     }
+    Ok(())
 }
 
-fn print_refusals(tally: &[u32; 16]) {
-    let mut number: usize = 1;
-    while number < 13 {
-        print_refused(number as u32, tally[number]);
-        number += 1;
+fn print_refusals(out: &impl Print, tally: &[u32; 16]) -> io::Result<()> {
+    for number in 1..13 {
+        print_refused(out, number as u32, tally[number])?;
     }
+    Ok(())
 }
 
 // The lines of the stored cases of sealing or writing, with the name of those that are done.
-pub fn print_calls(done: &[u8], tally: &[u32; 16]) {
-    output::print_count(done, tally, DONE);
-    print_refusals(tally);
-    output::print_count(b"mismatches", tally, counts::MISMATCHES);
+pub fn print_calls(out: &impl Print, done: &[u8], tally: &[u32; 16]) -> io::Result<()> {
+    output::print_count(out, done, tally, DONE)?;
+    print_refusals(out, tally)?;
+    output::print_count(out, b"mismatches", tally, counts::MISMATCHES)
 }
 
 // The lines of the stored cases of reading.
-pub fn print_cases(tally: &[u32; 16]) {
-    output::print_count(b"frames", tally, FRAMES);
-    output::print_count(b"accepted", tally, DONE);
-    print_refusals(tally);
-    output::print_count(b"rewritten", tally, REWRITTEN);
+pub fn print_cases(out: &impl Print, tally: &[u32; 16]) -> io::Result<()> {
+    output::print_count(out, b"frames", tally, FRAMES)?;
+    output::print_count(out, b"accepted", tally, DONE)?;
+    print_refusals(out, tally)?;
+    output::print_count(out, b"rewritten", tally, REWRITTEN)
 }

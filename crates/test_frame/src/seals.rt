@@ -1,9 +1,11 @@
 // The stored cases of sealing: each is compared with what its case says.
 use super::{expected, memory, report};
+use test_support::input::Stored;
 use test_support::{input, lent};
 
 // One case from its values on, for which there are so many lent words as the input says.
 fn compare_lent(
+    stored: &mut Stored<'_>,
     p: u32,
     n: u32,
     s: u32,
@@ -12,24 +14,24 @@ fn compare_lent(
     multipliers: &[u32],
     tally: &mut [u32; 16],
 ) {
-    let space = input::length(66);
+    let space = input::length(stored, 66);
     let mut words = lent::words(memory::WORD);
     let values = lent::front(&mut words, space);
     let answer = report::seal_told(frame_calls::seal(p, n, s, low, records, multipliers, values));
-    let number = expected::expect_number(answer, tally);
-    expected::expect_words(number, values, tally);
+    let number = expected::expect_number(stored, answer, tally);
+    expected::expect_words(stored, number, values, tally);
 }
 
 // One case behind its sizes, with room for its records and multipliers.
-pub fn compare(p: u32, n: u32, s: u32, tally: &mut [u32; 16]) {
-    let low = input::word();
-    let count = input::length(1026);
+pub fn compare(stored: &mut Stored<'_>, p: u32, n: u32, s: u32, tally: &mut [u32; 16]) {
+    let low = input::word(stored);
+    let count = input::length(stored, 1026);
     let mut signed = lent::numbers(0);
     let records = lent::front_numbers(&mut signed, count);
-    input::read_numbers(records);
-    let room = input::length(66);
+    input::read_numbers(stored, records);
+    let room = input::length(stored, 66);
     let mut words = lent::words(0);
     let multipliers = lent::front(&mut words, room);
-    input::read_words(multipliers);
-    compare_lent(p, n, s, low, records, multipliers, tally);
+    input::read_words(stored, multipliers);
+    compare_lent(stored, p, n, s, low, records, multipliers, tally);
 }

@@ -1,9 +1,11 @@
 // The stored cases of writing: each is compared with what its case says.
 use super::{expected, memory, report};
+use test_support::input::Stored;
 use test_support::{input, lent};
 
 // One case from its bytes on, of which there are so many lent as the input says.
 fn compare_lent(
+    stored: &mut Stored<'_>,
     p: u32,
     n: u32,
     s: u32,
@@ -11,23 +13,23 @@ fn compare_lent(
     values: &[u32],
     tally: &mut [u32; 16],
 ) {
-    let room = input::length(332);
+    let room = input::length(stored, 332);
     let mut space = lent::bytes(memory::BYTE);
     let bytes = lent::front_bytes(&mut space, room);
     let answer = report::write_told(frame_calls::write(p, n, s, multipliers, values, bytes));
-    let number = expected::expect_number(answer, tally);
-    expected::expect_frame(number, bytes, tally);
+    let number = expected::expect_number(stored, answer, tally);
+    expected::expect_frame(stored, number, bytes, tally);
 }
 
 // One case behind its sizes, with room for its multipliers and values.
-pub fn compare(p: u32, n: u32, s: u32, tally: &mut [u32; 16]) {
-    let room = input::length(66);
+pub fn compare(stored: &mut Stored<'_>, p: u32, n: u32, s: u32, tally: &mut [u32; 16]) {
+    let room = input::length(stored, 66);
     let mut words = lent::words(0);
     let multipliers = lent::front(&mut words, room);
-    input::read_words(multipliers);
-    let space = input::length(66);
+    input::read_words(stored, multipliers);
+    let space = input::length(stored, 66);
     let mut more_words = lent::words(0);
     let values = lent::front(&mut more_words, space);
-    input::read_words(values);
-    compare_lent(p, n, s, multipliers, values, tally);
+    input::read_words(stored, values);
+    compare_lent(stored, p, n, s, multipliers, values, tally);
 }

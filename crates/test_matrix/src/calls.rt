@@ -3,6 +3,7 @@
 ghost use Rattle.std.specs.Prelude.{◌≤◌};
 
 use super::{memory, report};
+use test_support::input::Stored;
 use test_support::{counts, input, lent, told};
 
 // Our own D passes, with the rank that the case says.
@@ -13,7 +14,7 @@ fn check_own(p: u32, m: u32, n: u32, a: &[u32], d: &[u32], rank: u32, tally: &mu
 }
 
 // The quasiinverse, with memory for D and both marks, and its check. Answers the rank that the case says.
-fn invert(p: u32, m: u32, n: u32, a: &[u32], tally: &mut [u32; 16]) -> u32
+fn invert(stored: &mut Stored<'_>, p: u32, m: u32, n: u32, a: &[u32], tally: &mut [u32; 16]) -> u32
     requires { (m ≤ 64) × (n ≤ 64) }
 {
     let size = memory::size(n, m);
@@ -24,31 +25,39 @@ fn invert(p: u32, m: u32, n: u32, a: &[u32], tally: &mut [u32; 16]) -> u32
     let columns = lent::front(&mut column_words, n as usize);
     let rows = lent::front(&mut row_words, m as usize);
     let number = report::number_of(matrix_calls::quasiinverse(p, m, n, a, d, columns, rows));
-    let rank = input::word();
+    let rank = input::word(stored);
     let is_rank = number == told::number_of(rank);
     counts::count_if(tally, report::QUASIINVERSES, is_rank);
-    counts::expect_words(tally, d);
-    counts::expect_words(tally, columns);
-    counts::expect_words(tally, rows);
+    counts::expect_words(stored, tally, d);
+    counts::expect_words(stored, tally, columns);
+    counts::expect_words(stored, tally, rows);
     check_own(p, m, n, a, d, rank, tally);
     rank
 }
 
 // The kernel, with memory for its basis.
-fn kernel(p: u32, m: u32, n: u32, a: &[u32], tally: &mut [u32; 16])
+fn kernel(stored: &mut Stored<'_>, p: u32, m: u32, n: u32, a: &[u32], tally: &mut [u32; 16])
     requires { n ≤ 64 }
 {
     let size = memory::size(n, n);
     let mut table = memory::table(memory::WORD);
     let basis = lent::front(&mut table, size);
     let number = report::number_of(matrix_calls::kernel(p, m, n, a, basis));
-    let is_count = number == told::number_of(input::word());
+    let is_count = number == told::number_of(input::word(stored));
     counts::count_if(tally, report::KERNELS, is_count);
-    counts::expect_words(tally, basis);
+    counts::expect_words(stored, tally, basis);
 }
 
 // The system of the right side w. The cases say what is left where z was lent holding 7 and u holding 9.
-fn solve_side(p: u32, m: u32, n: u32, a: &[u32], w: &[u32], tally: &mut [u32; 16])
+fn solve_side(
+    stored: &mut Stored<'_>,
+    p: u32,
+    m: u32,
+    n: u32,
+    a: &[u32],
+    w: &[u32],
+    tally: &mut [u32; 16],
+)
     requires { (m ≤ 64) × (n ≤ 64) }
 {
     let mut sevens = lent::words(7);
@@ -56,14 +65,23 @@ fn solve_side(p: u32, m: u32, n: u32, a: &[u32], w: &[u32], tally: &mut [u32; 16
     let z = lent::front(&mut sevens, n as usize);
     let u = lent::front(&mut nines, m as usize);
     let number = report::number_of(matrix_calls::solve(p, m, n, a, w, z, u));
-    let is_answer = number == input::word();
+    let is_answer = number == input::word(stored);
     counts::count_if(tally, report::solve_place(number), is_answer);
-    counts::expect_words(tally, z);
-    counts::expect_words(tally, u);
+    counts::expect_words(stored, tally, z);
+    counts::expect_words(stored, tally, u);
 }
 
 // The nearest fit of the right side w, with its remainder. The answer is the rank, as the quasiinverse's.
-fn fit_side(p: u32, m: u32, n: u32, a: &[u32], w: &[u32], rank: u32, tally: &mut [u32; 16])
+fn fit_side(
+    stored: &mut Stored<'_>,
+    p: u32,
+    m: u32,
+    n: u32,
+    a: &[u32],
+    w: &[u32],
+    rank: u32,
+    tally: &mut [u32; 16],
+)
     requires { (m ≤ 64) × (n ≤ 64) }
 {
     let mut z_words = lent::words(memory::WORD);
@@ -73,31 +91,39 @@ fn fit_side(p: u32, m: u32, n: u32, a: &[u32], w: &[u32], rank: u32, tally: &mut
     let number = report::number_of(matrix_calls::fit(p, m, n, a, w, z, rest));
     let is_rank = number == told::number_of(rank);
     counts::count_if(tally, report::FITS, is_rank);
-    counts::expect_words(tally, z);
-    counts::expect_words(tally, rest);
+    counts::expect_words(stored, tally, z);
+    counts::expect_words(stored, tally, rest);
 }
 
 // The system whose right side comes from the input, solved and fitted.
-fn system(p: u32, m: u32, n: u32, a: &[u32], rank: u32, tally: &mut [u32; 16])
+fn system(
+    stored: &mut Stored<'_>,
+    p: u32,
+    m: u32,
+    n: u32,
+    a: &[u32],
+    rank: u32,
+    tally: &mut [u32; 16],
+)
     requires { (m ≤ 64) × (n ≤ 64) }
 {
     let mut words = lent::words(0);
     let w = lent::front(&mut words, m as usize);
-    input::read_words(w);
-    solve_side(p, m, n, a, w, tally);
-    fit_side(p, m, n, a, w, rank, tally);
+    input::read_words(stored, w);
+    solve_side(stored, p, m, n, a, w, tally);
+    fit_side(stored, p, m, n, a, w, rank, tally);
 }
 
 // The calls on a table, which comes from the input behind its sizes.
-pub fn compare(p: u32, m: u32, n: u32, tally: &mut [u32; 16])
+pub fn compare(stored: &mut Stored<'_>, p: u32, m: u32, n: u32, tally: &mut [u32; 16])
     requires { (m ≤ 64) × (n ≤ 64) }
 {
     let size = memory::size(m, n);
     let mut table = memory::table(0);
     let a = lent::front(&mut table, size);
-    input::read_words(a);
+    input::read_words(stored, a);
     counts::count(tally, report::CASES);
-    let rank = invert(p, m, n, a, tally);
-    kernel(p, m, n, a, tally);
-    system(p, m, n, a, rank, tally);
+    let rank = invert(stored, p, m, n, a, tally);
+    kernel(stored, p, m, n, a, tally);
+    system(stored, p, m, n, a, rank, tally);
 }

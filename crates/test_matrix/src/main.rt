@@ -22,14 +22,18 @@ mod pairs;
 mod report;
 
 use cases::Kind;
-use test_support::{counts, output};
+use std::io;
+use test_support::input::Stored;
+use test_support::{counts, input, output};
 
-fn main() {
+fn main(rt: HostRuntime) -> io::Result<()> {
+    let bytes = input::read_all(&rt)?;
+    let mut stored = Stored::new(bytes.as_slice());
     let mut tally = counts::none();
-    cases::run(Kind::Table, &mut tally);
-    cases::run(Kind::Pair, &mut tally);
-    report::print_cases(&tally);
-    examples::run();
-    check_examples::run();
-    output::print_count(b"mismatches", &tally, counts::MISMATCHES);
+    cases::run(&mut stored, Kind::Table, &mut tally);
+    cases::run(&mut stored, Kind::Pair, &mut tally);
+    report::print_cases(&rt, &tally)?;
+    examples::run(&rt)?;
+    check_examples::run(&rt)?;
+    output::print_count(&rt, b"mismatches", &tally, counts::MISMATCHES)
 }

@@ -2,39 +2,39 @@
 ghost use Rattle.std.specs.Prelude.{◌≤◌};
 
 use super::{memory, report};
+use test_support::input::Stored;
 use test_support::{counts, input, lent};
 
 // The next D of the table, with its answer.
-fn compare_next(p: u32, m: u32, n: u32, a: &[u32], tally: &mut [u32; 16])
+fn compare_next(stored: &mut Stored<'_>, p: u32, m: u32, n: u32, a: &[u32], tally: &mut [u32; 16])
     requires { (m ≤ 64) × (n ≤ 64) }
 {
     let size = memory::size(n, m);
     let mut table = memory::table(0);
     let d = lent::front(&mut table, size);
-    input::read_words(d);
+    input::read_words(stored, d);
     let number = report::number_of(matrix_calls::check(p, m, n, a, d));
-    let is_answer = number == input::word();
+    let is_answer = number == input::word(stored);
     counts::count_if(tally, report::check_place(number), is_answer);
 }
 
 // All D of the table, of which there are so many as the input says, at most 1,000.
-fn compare_all(p: u32, m: u32, n: u32, a: &[u32], tally: &mut [u32; 16])
+fn compare_all(stored: &mut Stored<'_>, p: u32, m: u32, n: u32, a: &[u32], tally: &mut [u32; 16])
     requires { (m ≤ 64) × (n ≤ 64) }
 {
-    let mut left = input::length(1000);
-    while 0 < left {
-        compare_next(p, m, n, a, tally);
-        left -= 1;
+    let count = input::length(stored, 1000);
+    for _ in 0..count {
+        compare_next(stored, p, m, n, a, tally);
     }
 }
 
 // A table with its D, which come from the input behind the sizes.
-pub fn compare(p: u32, m: u32, n: u32, tally: &mut [u32; 16])
+pub fn compare(stored: &mut Stored<'_>, p: u32, m: u32, n: u32, tally: &mut [u32; 16])
     requires { (m ≤ 64) × (n ≤ 64) }
 {
     let size = memory::size(m, n);
     let mut table = memory::table(0);
     let a = lent::front(&mut table, size);
-    input::read_words(a);
-    compare_all(p, m, n, a, tally);
+    input::read_words(stored, a);
+    compare_all(stored, p, m, n, a, tally);
 }

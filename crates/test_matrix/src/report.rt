@@ -1,5 +1,6 @@
 // What the run counts, the answers as numbers, and the lines of the stored cases.
 use matrix_calls::TableAnswer;
+use std::io;
 use test_support::{output, told};
 
 // The places of the counts.
@@ -47,15 +48,15 @@ pub fn check_place(number: u32) -> usize {
     ACCEPTED
 }
 
-pub fn print_cases(tally: &[u32; 16]) {
-    output::print_count(b"cases", tally, CASES);
-    output::print_count(b"quasiinverses", tally, QUASIINVERSES);
-    output::print_count(b"kernels", tally, KERNELS);
-    output::print_count(b"solved", tally, SOLVED);
-    output::print_count(b"insoluble", tally, INSOLUBLE);
-    output::print_count(b"fits", tally, FITS);
-    output::print_count(b"own", tally, OWN);
-    output::print_count(b"accepted", tally, ACCEPTED);
-    output::print_count(b"refused-17", tally, NOT_INNER);
-    output::print_count(b"refused-18", tally, NOT_OUTER);
+pub fn print_cases(out: &impl Print, tally: &[u32; 16]) -> io::Result<()> {
+    output::print_count(out, b"cases", tally, CASES)?;
+    output::print_count(out, b"quasiinverses", tally, QUASIINVERSES)?;
+    output::print_count(out, b"kernels", tally, KERNELS)?;
+    output::print_count(out, b"solved", tally, SOLVED)?;
+    output::print_count(out, b"insoluble", tally, INSOLUBLE)?;
+    output::print_count(out, b"fits", tally, FITS)?;
+    output::print_count(out, b"own", tally, OWN)?;
+    output::print_count(out, b"accepted", tally, ACCEPTED)?;
+    output::print_count(out, b"refused-17", tally, NOT_INNER)?;
+    output::print_count(out, b"refused-18", tally, NOT_OUTER)
 }

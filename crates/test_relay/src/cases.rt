@@ -2,85 +2,96 @@
 // the file says. A frame is then taken and read.
 use super::{frames, memory, report};
 use board_words::layout::LARGEST_BOARD;
+use test_support::input::Stored;
 use test_support::{counts, input, lent, told};
 
 // The front of the bytes becomes what the file says next.
-fn read_front(bytes: &mut [u8], k: usize) {
+fn read_front(stored: &mut Stored<'_>, bytes: &mut [u8], k: usize) {
     let length = memory::at_most(k, bytes.len());
     let front = lent::front_bytes(bytes, length);
-    input::read_bytes(front);
+    input::read_bytes(stored, front);
 }
 
 // The bytes are expected to have the frame of this length, which the file says next, and behind it what they were filled with.
-fn expect_bytes(bytes: &[u8], first: u32, k: usize, tally: &mut [u32; 16]) {
+fn expect_bytes(
+    stored: &mut Stored<'_>,
+    bytes: &[u8],
+    first: u32,
+    k: usize,
+    tally: &mut [u32; 16],
+) {
     let mut space = lent::bytes(0);
     let expected = lent::front_bytes(&mut space, memory::at_most(bytes.len(), 332));
     memory::fill(expected, first);
-    read_front(expected, k);
+    read_front(stored, expected, k);
     counts::expect(tally, memory::are_same_bytes(bytes, expected));
 }
 
 // A call for the wanted row with the mix, and with the bytes from the file.
-fn compare_bytes(board: &mut [u32], wanted: &[u32], mix: &mut [u32], tally: &mut [u32; 16]) {
-    let room = input::length(332);
-    let first = input::word();
+fn compare_bytes(
+    stored: &mut Stored<'_>,
+    board: &mut [u32],
+    wanted: &[u32],
+    mix: &mut [u32],
+    tally: &mut [u32; 16],
+) {
+    let room = input::length(stored, 332);
+    let first = input::word(stored);
     let mut space = lent::bytes(0);
     let bytes = lent::front_bytes(&mut space, room);
     memory::fill(bytes, first);
     let number = report::number_of(relay_calls::relay(board, wanted, mix, bytes));
-    let expected = input::word();
+    let expected = input::word(stored);
     let k = report::length_of(expected);
     counts::count_if(tally, report::place_of(expected), number == expected);
-    counts::expect_words(tally, mix);
-    expect_bytes(bytes, first, k, tally);
+    counts::expect_words(stored, tally, mix);
+    expect_bytes(stored, bytes, first, k, tally);
     if !told::is_refused(expected) {
         frames::expect_frame(board, bytes, k, wanted, mix, tally);
     }
 }
 
 // A call for the wanted row, with the mix from the file.
-fn compare_mix(board: &mut [u32], wanted: &[u32], tally: &mut [u32; 16]) {
-    let room = input::length(66);
+fn compare_mix(stored: &mut Stored<'_>, board: &mut [u32], wanted: &[u32], tally: &mut [u32; 16]) {
+    let room = input::length(stored, 66);
     let mut words = lent::words(0);
     let mix = lent::front(&mut words, room);
-    input::read_words(mix);
-    compare_bytes(board, wanted, mix, tally);
+    input::read_words(stored, mix);
+    compare_bytes(stored, board, wanted, mix, tally);
 }
 
 // The next call on the board, with the wanted row from the file.
-fn compare_next(board: &mut [u32], tally: &mut [u32; 16]) {
-    let length = input::length(66);
+fn compare_next(stored: &mut Stored<'_>, board: &mut [u32], tally: &mut [u32; 16]) {
+    let length = input::length(stored, 66);
     let mut words = lent::words(0);
     let wanted = lent::front(&mut words, length);
-    input::read_words(wanted);
+    input::read_words(stored, wanted);
     counts::count(tally, report::CALLS);
-    compare_mix(board, wanted, tally);
+    compare_mix(stored, board, wanted, tally);
 }
 
 // All calls on the board, of which there are so many as the file says first, at most 1,000.
-fn run_calls(board: &mut [u32], tally: &mut [u32; 16]) {
-    let mut left = input::length(1000);
-    while 0 < left {
-        compare_next(board, tally);
-        left -= 1;
+fn run_calls(stored: &mut Stored<'_>, board: &mut [u32], tally: &mut [u32; 16]) {
+    let count = input::length(stored, 1000);
+    for _ in 0..count {
+        compare_next(stored, board, tally);
     }
 }
 
 // The next board, with its words from the file, and its calls.
-fn run_next(tally: &mut [u32; 16]) {
-    let length = input::length(LARGEST_BOARD);
+fn run_next(stored: &mut Stored<'_>, tally: &mut [u32; 16]) {
+    let length = input::length(stored, LARGEST_BOARD);
     let mut words = memory::board();
     let board = lent::front(&mut words, length);
-    input::read_words(board);
+    input::read_words(stored, board);
     counts::count(tally, report::BOARDS);
-    run_calls(board, tally);
+    run_calls(stored, board, tally);
 }
 
 // All boards, of which there are so many as the file says first, at most 10,000.
-pub fn run(tally: &mut [u32; 16]) {
-    let mut left = input::length(10000);
-    while 0 < left {
-        run_next(tally);
-        left -= 1;
+pub fn run(stored: &mut Stored<'_>, tally: &mut [u32; 16]) {
+    let count = input::length(stored, 10000);
+    for _ in 0..count {
+        run_next(stored, tally);
     }
 }

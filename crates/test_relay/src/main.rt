@@ -20,12 +20,16 @@ mod frames;
 mod memory;
 mod report;
 
-use test_support::{counts, output};
+use std::io;
+use test_support::input::Stored;
+use test_support::{counts, input, output};
 
-fn main() {
+fn main(rt: HostRuntime) -> io::Result<()> {
+    let bytes = input::read_all(&rt)?;
+    let mut stored = Stored::new(bytes.as_slice());
     let mut tally = counts::none();
-    cases::run(&mut tally);
-    report::print_cases(&tally);
-    examples::run();
-    output::print_count(b"mismatches", &tally, counts::MISMATCHES);
+    cases::run(&mut stored, &mut tally);
+    report::print_cases(&rt, &tally)?;
+    examples::run(&rt)?;
+    output::print_count(&rt, b"mismatches", &tally, counts::MISMATCHES)
 }

@@ -3,6 +3,7 @@ ghost use Rattle.std.specs.Prelude.{◌≡◌, ◌≤◌, length};
 ghost use Rattle.ledger.specs.Board.{largest_board};
 
 use board_words::layout::LARGEST_BOARD;
+use std::io;
 use test_support::output;
 
 // What stands in words and bytes that are as they were; modulo 7 it is no residue.
@@ -30,27 +31,15 @@ pub fn at_most(number: usize, most: usize) -> usize
 // Fills the bytes, from the first on each by 89 more than the one before it, modulo 256.
 pub fn fill(bytes: &mut [u8], first: u32) {
     let mut x = first % 256;
-    let mut i = 0;
-    while i < bytes.len() {
-        bytes[i] = (x % 256) as u8;
+    for byte in bytes.iter_mut() {
+        *byte = (x % 256) as u8;
         x = x % 256 + 89;
-        i += 1;
     }
 }
 
 // Whether the bytes are the same, and as many.
 pub fn are_same_bytes(a: &[u8], b: &[u8]) -> bool {
-    if a.len() != b.len() {
-        return false;
-    }
-    let mut i = 0;
-    while i < a.len() {
-        if a[i] != b[i] {
-            return false;
-        }
-        i += 1;
-    }
-    true
+    a == b
 }
 
 // The same of words.
@@ -66,11 +55,10 @@ fn wide(x: u8) -> u32 {
 }
 
 // The name and the first bytes behind it, at most so many.
-pub fn print_front(name: &[u8], bytes: &[u8], most: usize) {
-    output::print_text(name);
-    let mut i = 0;
-    while i < bytes.len() && i < most {
-        output::print_number(wide(bytes[i]));
-        i += 1;
+pub fn print_front(out: &impl Print, name: &[u8], bytes: &[u8], most: usize) -> io::Result<()> {
+    output::print_text(out, name)?;
+    for byte in bytes.iter().take(most) {
+        output::print_number(out, wide(*byte))?;
     }
+    Ok(())
 }

@@ -1,6 +1,7 @@
 // What the run counts, the answers as numbers, and the lines of the stored calls.
 use board_calls::TakeAnswer;
 use relay_calls::WriteAnswer;
+use std::io;
 use test_support::{output, told};
 
 // The places of the counts.
@@ -64,14 +65,14 @@ pub fn place_of(number: u32) -> usize {
     DONE
 }
 
-pub fn print_cases(tally: &[u32; 16]) {
-    output::print_count(b"boards", tally, BOARDS);
-    output::print_count(b"calls", tally, CALLS);
-    output::print_count(b"done", tally, DONE);
-    output::print_count(b"refused-11", tally, REFUSED_11);
-    output::print_count(b"refused-3", tally, REFUSED_3);
-    output::print_count(b"refused-4", tally, REFUSED_4);
-    output::print_count(b"refused-15", tally, REFUSED_15);
-    output::print_count(b"repeats", tally, REPEATS);
-    output::print_count(b"reads", tally, READS);
+pub fn print_cases(out: &impl Print, tally: &[u32; 16]) -> io::Result<()> {
+    output::print_count(out, b"boards", tally, BOARDS)?;
+    output::print_count(out, b"calls", tally, CALLS)?;
+    output::print_count(out, b"done", tally, DONE)?;
+    output::print_count(out, b"refused-11", tally, REFUSED_11)?;
+    output::print_count(out, b"refused-3", tally, REFUSED_3)?;
+    output::print_count(out, b"refused-4", tally, REFUSED_4)?;
+    output::print_count(out, b"refused-15", tally, REFUSED_15)?;
+    output::print_count(out, b"repeats", tally, REPEATS)?;
+    output::print_count(out, b"reads", tally, READS)
 }

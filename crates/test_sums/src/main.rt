@@ -6,7 +6,7 @@
 // - `NUMBERS P K START STEP S`: modulo P, the first K numbers times those at START, START + STEP, .. come to S. NUMBERS are `largest`,
 //   all 2^32 - 1, or `mixed`: number i is 2^32 - 1 less i × 2654435761, modulo 2^32.
 // - `empty P S`: a row of no numbers, where start and step are 2^64 - 1.
-// - `one_number P S`: the first 100,000 of the numbers of the lines above times a table of one number, the one at place 7, by steps
+// - `one-number P S`: the first 100,000 of the numbers of the lines above times a table of one number, the one at place 7, by steps
 //   of 0.
 #![tactic(auto)]
 
@@ -15,31 +15,33 @@ ghost use Rattle.std.specs.Prelude.{◌≡◌, ◌<◌, length};
 mod memory;
 mod sums;
 
+use std::io;
+
 // All sums over these numbers modulo p.
-fn print_modulo(name: &[u8], p: u32, numbers: &[u32])
+fn print_modulo(out: &impl Print, name: &[u8], p: u32, numbers: &[u32]) -> io::Result<()>
     requires { (0 < p) × (length numbers.now ≡ 100100) }
 {
-    sums::print_from(name, p, numbers, 0);
-    sums::print_from(name, p, numbers, 37);
-    sums::print_from(name, p, numbers, 50000);
-    sums::print_longest(name, p, numbers, 0);
-    sums::print_longest(name, p, numbers, 37);
-    sums::print_sum(name, p, numbers, 100000, 50000, 0);
-    sums::print_ends(p, numbers);
+    sums::print_from(out, name, p, numbers, 0)?;
+    sums::print_from(out, name, p, numbers, 37)?;
+    sums::print_from(out, name, p, numbers, 50000)?;
+    sums::print_longest(out, name, p, numbers, 0)?;
+    sums::print_longest(out, name, p, numbers, 37)?;
+    sums::print_sum(out, name, p, numbers, 100000, 50000, 0)?;
+    sums::print_ends(out, p, numbers)
 }
 
-fn print_all(name: &[u8], numbers: &[u32])
+fn print_all(out: &impl Print, name: &[u8], numbers: &[u32]) -> io::Result<()>
     requires { length numbers.now ≡ 100100 }
 {
-    print_modulo(name, 251, numbers);
-    print_modulo(name, 2147483629, numbers);
-    print_modulo(name, 4294967291, numbers);
-    sums::print_ends(1, numbers);
+    print_modulo(out, name, 251, numbers)?;
+    print_modulo(out, name, 2147483629, numbers)?;
+    print_modulo(out, name, 4294967291, numbers)?;
+    sums::print_ends(out, 1, numbers)
 }
 
-fn main() {
+fn main(rt: HostRuntime) -> io::Result<()> {
     let largest = memory::largest();
-    print_all(b"largest", &largest);
+    print_all(&rt, b"largest", &largest)?;
     let mixed = memory::mixed();
-    print_all(b"mixed", &mixed);
+    print_all(&rt, b"mixed", &mixed)
 }

@@ -16,10 +16,8 @@ pub fn mixed() -> [u32; COUNT]
     ensures { length result ≡ 100100 }
 {
     let mut numbers = largest();
-    let mut i = 0;
-    while i < COUNT {
-        numbers[i] = 4294967295 - (i as u64 * 2654435761 % 4294967296) as u32;
-        i += 1;
+    for (i, number) in numbers.iter_mut().enumerate() {
+        *number = 4294967295 - (i as u64 * 2654435761 % 4294967296) as u32;
     }
     numbers
 }

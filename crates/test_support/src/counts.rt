@@ -1,5 +1,6 @@
 // What a run counts: 16 counts, of which the last is that of the mismatches.
 use super::input;
+use super::input::Stored;
 
 // The places of the others are each program's own.
 pub const MISMATCHES: usize = 15;
@@ -12,7 +13,7 @@ pub fn none() -> [u32; 16] {
 // One more at the place, where it is one. No run has 2^32 of anything, so that nothing wraps.
 pub fn count(tally: &mut [u32; 16], place: usize) {
     if place < 16 {
-        tally[place] = std::num::wrapping_add_u32(tally[place], 1);
+        tally[place] = tally[place].wrapping_add(1);
     }
 }
 
@@ -39,6 +40,6 @@ pub fn stop(tally: &mut [u32; 16]) -> bool {
 }
 
 // The words are expected to be the next ones of the input.
-pub fn expect_words(tally: &mut [u32; 16], words: &[u32]) {
-    expect(tally, input::are_next_words(words));
+pub fn expect_words(stored: &mut Stored<'_>, tally: &mut [u32; 16], words: &[u32]) {
+    expect(tally, input::are_next_words(stored, words));
 }

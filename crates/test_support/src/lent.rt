@@ -46,12 +46,10 @@ pub fn front_numbers(numbers: &mut [i32], n: usize) -> &mut [i32]
 
 // Whether every word is still the one that the memory was filled with.
 pub fn are_untouched(words: &[u32], word: u32) -> bool {
-    let mut i = 0;
-    while i < words.len() {
-        if words[i] != word {
+    for x in words {
+        if *x != word {
             return false;
         }
-        i += 1;
     }
     true
 }

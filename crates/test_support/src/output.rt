@@ -2,60 +2,62 @@
 ghost use Rattle.std.specs.Prelude.{◌<◌};
 
 use super::{lent, told};
-use libc::STDOUT_FILENO;
+use std::io;
 
-pub fn print_text(text: &[u8]) {
-    io::write_all(STDOUT_FILENO, text);
+pub fn print_text(out: &impl Print, text: &[u8]) -> io::Result<()> {
+    out.write_all(text)
 }
 
 // A space and n in decimal.
-pub fn print_number(n: u32) {
-    print_text(b" ");
-    io::print_decimal(STDOUT_FILENO, n as u64);
+pub fn print_number(out: &impl Print, n: u32) -> io::Result<()> {
+    print!(out; " {n}")
 }
 
 // The name and the words behind it.
-pub fn print_words(name: &[u8], words: &[u32]) {
-    print_text(name);
-    let mut i = 0;
-    while i < words.len() {
-        print_number(words[i]);
-        i += 1;
+pub fn print_words(out: &impl Print, name: &[u8], words: &[u32]) -> io::Result<()> {
+    print_text(out, name)?;
+    for word in words {
+        print_number(out, *word)?;
     }
+    Ok(())
 }
 
 // The line's end.
-pub fn print_end() {
-    print_text(b"\n");
+pub fn print_end(out: &impl Print) -> io::Result<()> {
+    print_text(out, b"\n")
 }
 
 // The line of a count.
-pub fn print_count(name: &[u8], tally: &[u32; 16], place: usize)
+pub fn print_count(out: &impl Print, name: &[u8], tally: &[u32; 16], place: usize) -> io::Result<()>
     requires { place < 16 }
 {
-    print_text(name);
-    print_number(tally[place]);
-    print_end();
+    print_text(out, name)?;
+    print_number(out, tally[place])?;
+    print_end(out)
 }
 
 // The start of an example's line: the call, what is tried, and the number of the answer.
-pub fn print_example(call: &[u8], name: &[u8], number: u32) {
-    print_text(b"example ");
-    print_text(call);
-    print_text(name);
-    print_number(number);
+pub fn print_example(out: &impl Print, call: &[u8], name: &[u8], number: u32) -> io::Result<()> {
+    print_text(out, b"example ")?;
+    print_text(out, call)?;
+    print_text(out, name)?;
+    print_number(out, number)
 }
 
 // Says it where a refusal touched lent memory.
-pub fn print_touched(number: u32, is_untouched: bool) {
-    if told::is_refused(number) {
-        if !is_untouched {
-            print_text(b" touched");
-        }
+pub fn print_touched(out: &impl Print, number: u32, is_untouched: bool) -> io::Result<()> {
+    if told::is_refused(number) && !is_untouched {
+        print_text(out, b" touched")?;
     }
+    Ok(())
 }
 
 // The same of words that were filled with that word.
-pub fn print_touched_words(number: u32, words: &[u32], word: u32) {
-    print_touched(number, lent::are_untouched(words, word));
+pub fn print_touched_words(
+    out: &impl Print,
+    number: u32,
+    words: &[u32],
+    word: u32,
+) -> io::Result<()> {
+    print_touched(out, number, lent::are_untouched(words, word))
 }

@@ -2,7 +2,7 @@
 use checks::Refusal;
 
 // An answer's number, and the value that comes with it where the call is not refused.
-#[derive(Drop)]
+#[derive(Clone, Copy)]
 pub struct Told {
     pub number: u32,
     pub value: u32,
@@ -10,7 +10,7 @@ pub struct Told {
 
 // The number of a result: 200 plus it. Results are at most 328, so that nothing wraps.
 pub fn number_of(res: u32) -> u32 {
-    std::num::wrapping_add_u32(200, res)
+    res.wrapping_add(200)
 }
 
 // The answer that carries a result.
