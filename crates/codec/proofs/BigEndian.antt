@@ -35,7 +35,7 @@ below_take p n xs h i l =
 pub below_drop : (p n : ℕ) (xs : List ℕ) → Below p xs → Below p (drop n xs)
 below_drop p n xs h i l = rw get_or-drop (h (n + i) (omega (arith, length-drop n xs)))
 
--- ---- the equations of bytes_of and numberFrom
+-- ---- the equations of bytes_of and number_from
 
 bytes_none : (x : ℕ) → bytes_of 0 x ≡ []
 unfolding bytes_of

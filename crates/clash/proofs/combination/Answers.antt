@@ -39,8 +39,7 @@ word_column-requires c =
     (worked_rows_lem k.is_modulus k.m_most (omega arith) c.reduced-rank.ensures c.rows_by_pivot-at.ensures, omega arith)
 
 pub returns : goal.returns
-returns c =
-    (
-      c.word_column.ensures.long,
-      turned_combination c.requires.0 c.args.y c.requires.1 c.reduced-rank.ensures c.rows_by_pivot-at.ensures c.word_column.ensures,
-    )
+returns c = (
+  c.word_column.ensures.long,
+  turned_combination c.requires.0 c.args.y c.requires.1 c.reduced-rank.ensures c.rows_by_pivot-at.ensures c.word_column.ensures,
+)

@@ -13,8 +13,7 @@ some : (c : Else-m-eq0) → 0 < c.args.m
 some c = omega arith
 
 pub returns-then-m-eq0 : goal.returns-then-m-eq0
-returns-then-m-eq0 c =
-    (
+returns-then-m-eq0 c = (
   λ ok. let a = c.args in omega (arith, (contradiction_found a.p ok a.m a.n a.s a.log.now).within),
   c.requires.1,
 )
@@ -34,10 +33,9 @@ first_by_words-requires c =
     (k, worked_rows_lem k.is_modulus k.n_size.1 k.s_count.1 c.reduced-rank.ensures c.rows_by_pivot-at.ensures)
 
 pub returns : goal.returns
-returns c =
-    (
-      λ ok.
-          contradiction_is _ ok _ _ _ _
-          (words_found c.requires.0 (some (goal.at.returns c).Else-m-eq0) c.reduced-rank.ensures c.rows_by_pivot-at.ensures ok c.first_by_words.ensures),
-      room_again c.reduced-rank.ensures,
-    )
+returns c = (
+  λ ok.
+      contradiction_is _ ok _ _ _ _
+      (words_found c.requires.0 (some (goal.at.returns c).Else-m-eq0) c.reduced-rank.ensures c.rows_by_pivot-at.ensures ok c.first_by_words.ensures),
+  room_again c.reduced-rank.ensures,
+)

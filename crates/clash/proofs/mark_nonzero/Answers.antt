@@ -41,9 +41,9 @@ loop-t-preserved c =
     let l = c.loop-t in (
       omega arith,
       elim c.if-u-t-ne0.branch [
-        then-u-t-ne0 w ↦ rw (w.u-is, w.selected-is) (marking_mark l.t _ _ _ l.invariant.1 (omega (arith, long (goal.at.loop-t-preserved c).At-loop-t)) w.if-u-t-ne0.true)
+        | then-u-t-ne0 w ↦ rw (w.u-is, w.selected-is) (marking_mark l.t _ _ _ l.invariant.1 (omega (arith, long (goal.at.loop-t-preserved c).At-loop-t)) w.if-u-t-ne0.true)
         | else-u-t-ne0 w ↦ rw (w.u-is, w.selected-is) (marking_skip l.t _ _ _ l.invariant.1 w.if-u-t-ne0.false)
-    ],
+      ],
     )
 
 pub shape_of-u : goal.shape_of-u

@@ -39,8 +39,7 @@ overflow_add-j c = omega (arith, c.requires.0.n_most)
 
 pub loop-j-preserved : goal.loop-j-preserved
 loop-j-preserved c =
-    let l = c.loop-j in
-    (
+    let l = c.loop-j in (
       omega arith,
       walked_more l.j _ _ _ _ l.invariant.1
           (omega (arith, c.row_room-x.ensures.0, c.requires.0.n_most)) c.carried_number.ensures,

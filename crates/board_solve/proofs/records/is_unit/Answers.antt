@@ -17,8 +17,8 @@ wanted c =
     let j = c.args.j in
     let t = c.loop-t.t in
     elim c.if-t-j.branch [
-        then-t-j w ↦ w.want-is ∙ sym (unit_here j t w.if-t-j.true)
-        | else-t-j w ↦ w.want-is ∙ sym (unit_elsewhere j t w.if-t-j.false)
+      | then-t-j w ↦ w.want-is ∙ sym (unit_here j t w.if-t-j.true)
+      | else-t-j w ↦ w.want-is ∙ sym (unit_elsewhere j t w.if-t-j.false)
     ]
 
 pub returns-then-e-t : goal.returns-then-e-t
@@ -27,8 +27,7 @@ returns-then-e-t c =
     tells_no (λ row. omega (arith, row t (omega arith), wanted (goal.at.returns-then-e-t c).Joined-t-j))
 
 pub loop-t-preserved : goal.loop-t-preserved
-loop-t-preserved c =
-    (
+loop-t-preserved c = (
   omega arith,
   below_more _ _ c.loop-t.invariant.1 (omega (arith, wanted (goal.at.loop-t-preserved c).Joined-t-j)),
 )

@@ -17,11 +17,10 @@ pub slice_bounds-reduced-start : goal.slice_bounds-reduced-start
 slice_bounds-reduced-start c = omega (arith, c.value_start-first.ensures, first_value _ _ _ c.requires)
 
 pub reduced-requires : goal.reduced-requires
-reduced-requires c =
-    (
-      rw (c.rows_grid-grid.ensures, c.value_start-first.ensures, c.row_length-step.ensures) (rows_system _ _ _ c.requires),
-      rows_room _ _ _ c.requires,
-    )
+reduced-requires c = (
+  rw (c.rows_grid-grid.ensures, c.value_start-first.ensures, c.row_length-step.ensures) (rows_system _ _ _ c.requires),
+  rows_room _ _ _ c.requires,
+)
 
 pub returns : goal.returns
 returns c = reduced_told _ _ _ c.requires _ _ _ (rw (c.rows_grid-grid.ensures, c.value_start-first.ensures, c.row_length-step.ensures) at c.reduced.ensures)

@@ -88,13 +88,13 @@ loop-j-preserved c =
     let inside = c.loop-j-test.true in (
       omega arith,
       elim c.if-settled.branch [
-        then-settled w ↦ rw (w.marks-is, w.numbers-is)
-          (turn_shown a.board.now a.e.now a.pivots.now _ c.requires.reduced c.rows_by_pivot-rows.ensures a.low l.j l.marks l.numbers _
-          inside l.invariant.1 (c.settled.ensures.0 w.if-settled.true) w.put_words.ensures)
+        | then-settled w ↦ rw (w.marks-is, w.numbers-is)
+            (turn_shown a.board.now a.e.now a.pivots.now _ c.requires.reduced c.rows_by_pivot-rows.ensures a.low l.j l.marks l.numbers _
+            inside l.invariant.1 (c.settled.ensures.0 w.if-settled.true) w.put_words.ensures)
         | else-settled w ↦ rw (w.marks-is, w.numbers-is)
-          (turn_hidden a.board.now a.e.now a.pivots.now _ c.requires.reduced c.rows_by_pivot-rows.ensures a.low l.j l.marks l.numbers _
-          inside l.invariant.1 (c.settled.ensures.1 w.if-settled.false) w.clear_words.ensures)
-    ],
+            (turn_hidden a.board.now a.e.now a.pivots.now _ c.requires.reduced c.rows_by_pivot-rows.ensures a.low l.j l.marks l.numbers _
+            inside l.invariant.1 (c.settled.ensures.1 w.if-settled.false) w.clear_words.ensures)
+      ],
     )
 
 pub shape_of-marks : goal.shape_of-marks

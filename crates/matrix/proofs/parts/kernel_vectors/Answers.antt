@@ -52,12 +52,11 @@ pub slice_bounds-kernel_vector-end : goal.slice_bounds-kernel_vector-end
 slice_bounds-kernel_vector-end c = omega (arith, next (goal.at.slice_bounds-kernel_vector-end c).In-loop-c, long (goal.at.slice_bounds-kernel_vector-end c).At-loop-c)
 
 pub kernel_vector-requires : goal.kernel_vector-requires
-kernel_vector-requires c =
-    (
-      c.requires.0,
-      (c.loop-c-test.true, c.if-at-c-eq0.true),
-      part_long c.loop-c.basis _ c.args.n (omega (arith, next (goal.at.kernel_vector-requires c).In-loop-c, long (goal.at.kernel_vector-requires c).At-loop-c)),
-    )
+kernel_vector-requires c = (
+  c.requires.0,
+  (c.loop-c-test.true, c.if-at-c-eq0.true),
+  part_long c.loop-c.basis _ c.args.n (omega (arith, next (goal.at.kernel_vector-requires c).In-loop-c, long (goal.at.kernel_vector-requires c).At-loop-c)),
+)
 
 pub overflow_add-k : goal.overflow_add-k
 overflow_add-k c = omega (arith, (c.loop-c.invariant.1 c.requires.0).counted, c.loop-c.invariant.0, few (goal.at.overflow_add-k c).At-loop-c)
@@ -71,9 +70,9 @@ loop-c-preserved c =
       omega arith,
       λ h.
           elim c.if-at-c-eq0.branch [
-        then-at-c-eq0 w ↦ rw (w.basis-is, w.k-is) (filled_vector _ _ _ _ _ (l.invariant.1 h) _ (marked_no _ _ w.if-at-c-eq0.true) (w.kernel_vector.ensures h))
-        | else-at-c-eq0 w ↦ rw (w.basis-is, w.k-is) (filled_skip _ _ _ _ _ (l.invariant.1 h) (marked_yes _ _ w.if-at-c-eq0.false))
-    ],
+            | then-at-c-eq0 w ↦ rw (w.basis-is, w.k-is) (filled_vector _ _ _ _ _ (l.invariant.1 h) _ (marked_no _ _ w.if-at-c-eq0.true) (w.kernel_vector.ensures h))
+            | else-at-c-eq0 w ↦ rw (w.basis-is, w.k-is) (filled_skip _ _ _ _ _ (l.invariant.1 h) (marked_yes _ _ w.if-at-c-eq0.false))
+          ],
     )
 
 pub overflow_mul-rest : goal.overflow_mul-rest
