@@ -3,4 +3,5 @@ mod FrameTexts
 mod Steps
 mod Loop
 mod Printed
+mod Whole
 pub mod Opened

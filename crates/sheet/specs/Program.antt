@@ -1,6 +1,6 @@
 -- What the parts of the program do to the bytes that the reader has left and to those that the writer holds, where these are known; and
 -- what is still to be written for the bytes that are left.
-use Rattle.std.specs.Prelude.{◌≡◌, List, ◌++◌, ℕ, suc, ltb, Bool, length, take, drop, Option, None, Some, ⊤}
+use Rattle.std.specs.Prelude.{◌≡◌, List, ◌++◌, ℕ, suc, ltb, Bool, length, take, drop, ◌≤◌, Option, None, Some, IfSome, ⊤}
 use Rattle.std.specs.Io.KnownBytes.{Appends}
 use Rattle.algebra.specs.Choice.{choose}
 use Rattle.ledger.specs.Calls.{take_call}
@@ -47,3 +47,7 @@ NextText ws mix bytes text more ws' mix' left =
 -- the text is written for all frames of the bytes, and the ending is to write
 abbrev pub AllText : (ws mix bytes text ws' : List ℕ) → Type 0
 AllText ws mix bytes text ws' = frames_by_calls budget ws mix bytes ≡ text ++ ending_of ws'
+
+-- where the reader knows the bytes that it has, no more of them than the budget, the writer holds what is to be printed for them
+abbrev pub Prints : (known held holds : Option (List ℕ)) → (List ℕ → List ℕ) → Type 0
+Prints known held holds text = IfSome known (λ bytes. length bytes ≤ budget → Appends held holds (text bytes))

@@ -1,8 +1,9 @@
 // A heat: its board is opened, all frames are taken, and the records are shown.
-ghost use Rattle.std.specs.Prelude.{◌≡◌, ◌≤◌, length};
+ghost use Rattle.std.specs.Prelude.{◌≡◌, ◌≤◌, length, OnOk};
 ghost use Rattle.checks.specs.Largest.{largest};
 ghost use Rattle.ledger.specs.Board.{header_length, board_length, largest_board};
-ghost use Rattle.sheet_heat.specs.Sheet.{sheet_words};
+ghost use Rattle.sheet_heat.specs.Sheet.{sheet_words, heat_of};
+ghost use Rattle.sheet.specs.Program.{Prints};
 
 use super::{frames, lent, lines};
 use board_calls::OpenAnswer;
@@ -32,6 +33,8 @@ fn open_in<R: Read, W: Write>(
     board: &mut [u32],
 ) -> io::Result<()>
     requires { header_length ≤ length board.old }
+    ensures { OnOk result ((n ≤ largest → length board.old ≡ board_length n sheet_words)
+        → Prints (R.remaining input.old) (W.contents output.old) (W.contents output.new) (heat_of p n)) }
 {
     match board_calls::open(p, n, WORDS, board) {
         OpenAnswer::Opened => {
@@ -43,7 +46,9 @@ fn open_in<R: Read, W: Write>(
 }
 
 // The heat that the header opens.
-pub fn open<R: Read, W: Write>(input: &mut R, output: &mut W, p: u32, n: u32) -> io::Result<()> {
+pub fn open<R: Read, W: Write>(input: &mut R, output: &mut W, p: u32, n: u32) -> io::Result<()>
+    ensures { OnOk result (Prints (R.remaining input.old) (W.contents output.old) (W.contents output.new) (heat_of p n)) }
+{
     let mut words = lent::board();
     let size = board_length(n);
     open_in(input, output, p, n, &mut words[..size])

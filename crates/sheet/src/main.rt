@@ -1,8 +1,12 @@
 // The sheet: document 01's program. It reads p, n and frames from standard input and prints a line for each frame as soon as the
 // frame has come, then the records and how many frames are missing. What is a cut header or frame is sheet_text's, what is written
-// of a frame and at the end sheet_heat's. This crate reads, lends memory and writes: what such a program writes is `sheet_by_calls` of
-// sheet_heat, for the memory that it lends and its budget of frames, and that is 01's sheet.
+// of a frame and at the end sheet_heat's. This crate reads, lends memory and writes: of every input that is no longer than its budget
+// of frames what it writes is 01's sheet.
 #![tactic(auto)]
+
+ghost use Rattle.std.specs.Prelude.{OnOk};
+ghost use Rattle.sheet_heat.specs.Sheet.{sheet_of};
+ghost use Rattle.sheet.specs.Program.{Prints};
 
 mod frames;
 mod heat;
@@ -13,14 +17,20 @@ mod lines;
 use checks::Refusal;
 use sheet_text::HeaderAnswer;
 use std::io;
+use std::io::{Read, Write};
+
+// Reads the whole input and writes its sheet.
+fn run<R: Read, W: Write>(input: &mut R, output: &mut W) -> io::Result<()>
+    ensures { OnOk result (Prints (R.remaining input.old) (W.contents output.old) (W.contents output.new) sheet_of) }
+{
+    let mut bytes = lent::header();
+    let came = input::read_full(input, &mut bytes)?;
+    match sheet_text::header(&bytes[..came]) {
+        HeaderAnswer::Cut => lines::refused(output, Refusal::FrameLength),
+        HeaderAnswer::Open(p, n) => heat::open(input, output, p, n),
+    }
+}
 
 fn main(rt: HostRuntime) -> io::Result<()> {
-    let mut input = rt.stdin();
-    let mut output = rt.stdout();
-    let mut bytes = lent::header();
-    let came = input::read_full(&mut input, &mut bytes)?;
-    match sheet_text::header(&bytes[..came]) {
-        HeaderAnswer::Cut => lines::refused(&mut output, Refusal::FrameLength),
-        HeaderAnswer::Open(p, n) => heat::open(&mut input, &mut output, p, n),
-    }
+    run(&mut rt.stdin(), &mut rt.stdout())
 }

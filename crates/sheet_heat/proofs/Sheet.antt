@@ -157,32 +157,35 @@ module _ (p n : ℕ) (ok : IsModulus p) (small : FrameSize n) where
 
 -- ---- the whole input
 
--- the memory lent for n records: the words of a board and a mix, of any contents
+-- for n records: the words lent for the board and the mix, of any contents
+module _ (n : ℕ) (board mix : List ℕ) (board-long : n ≤ largest → length board ≡ board_length n sheet_words)
+    (mix_long : n ≤ largest → length mix ≡ n) where
+  -- what is written behind the header
+  abbrev pub opened : (budget p : ℕ) → List ℕ → List ℕ
+  opened budget p bytes =
+      let o = open_call p n sheet_words board in
+      choose (eqb o.told.number 0) (frames_by_calls budget o.lent mix bytes) (refused_line o.told.number)
+
+  opened_refused : (budget p : ℕ) (bytes : List ℕ) (k : Refusal) → FirstFailing (frame_sizes p n sheet_words) k
+      → opened budget p bytes ≡ refused_line (refusal_number k)
+  opened_refused budget p bytes k f =
+      rw (← open_no_sizes p n sheet_words board f, ne_eqb (refusal_number k) 0 (λ z. omega (arith, refusal_number_lem k)))
+
+  opened_done : (budget p : ℕ) (bytes : List ℕ) (ok : IsModulus p) → FrameSize n → length bytes ≤ budget
+      → opened budget p bytes ≡ lines_within p ok n (length bytes) (ledger []) bytes
+  opened_done budget p bytes ok small h =
+      rw (open_done p n sheet_words board ok small one_word (board-long small.1))
+      (frames_by_calls_lem p n ok small budget (length bytes) (ledger []) (empty_proper p n sheet_words) mix (mix_long small.1) bytes h (omega arith))
+
+  pub heat_by_calls : (budget p : ℕ) (bytes : List ℕ) → length bytes ≤ budget → opened budget p bytes ≡ heat_of p n bytes
+  unfolding heat_of
+  heat_by_calls budget p bytes h =
+      in_order_elim _ _ (λ x. opened budget p bytes ≡ x) (λ hs. opened_done budget p bytes hs.0 hs.1.0 h)
+      (λ k f. opened_refused budget p bytes k f)
+
+-- the memory lent for any number of records
 module _ (board mix : ℕ → List ℕ) (board-long : (n : ℕ) → n ≤ largest → length (board n) ≡ board_length n sheet_words)
     (mix_long : (n : ℕ) → n ≤ largest → length (mix n) ≡ n) where
-  -- what is written behind the header
-  abbrev opened : (budget p n : ℕ) → List ℕ → List ℕ
-  opened budget p n bytes =
-      let o = open_call p n sheet_words (board n) in
-      choose (eqb o.told.number 0) (frames_by_calls budget o.lent (mix n) bytes) (refused_line o.told.number)
-
-  opened_refused : (budget p n : ℕ) (bytes : List ℕ) (k : Refusal) → FirstFailing (frame_sizes p n sheet_words) k
-      → opened budget p n bytes ≡ refused_line (refusal_number k)
-  opened_refused budget p n bytes k f =
-      rw (← open_no_sizes p n sheet_words (board n) f, ne_eqb (refusal_number k) 0 (λ z. omega (arith, refusal_number_lem k)))
-
-  opened_done : (budget p n : ℕ) (bytes : List ℕ) (ok : IsModulus p) → FrameSize n → length bytes ≤ budget
-      → opened budget p n bytes ≡ lines_within p ok n (length bytes) (ledger []) bytes
-  opened_done budget p n bytes ok small h =
-      rw (open_done p n sheet_words (board n) ok small one_word (board-long n small.1))
-      (frames_by_calls_lem p n ok small budget (length bytes) (ledger []) (empty_proper p n sheet_words) (mix n) (mix_long n small.1) bytes h (omega arith))
-
-  heat_by_calls : (budget p n : ℕ) (bytes : List ℕ) → length bytes ≤ budget → opened budget p n bytes ≡ heat_of p n bytes
-  unfolding heat_of
-  heat_by_calls budget p n bytes h =
-      in_order_elim _ _ (λ x. opened budget p n bytes ≡ x) (λ hs. opened_done budget p n bytes hs.0 hs.1.0 h)
-      (λ k f. opened_refused budget p n bytes k f)
-
   -- for every input that is no longer than the budget
   pub sheet_by_calls_lem : (budget : ℕ) (input : List ℕ) → length input ≤ budget → sheet_by_calls board mix budget input ≡ sheet_of input
   unfolding sheet_by_calls sheet_of header_call number_at
@@ -193,4 +196,4 @@ module _ (board mix : ℕ → List ℕ) (board-long : (n : ℕ) → n ≤ larges
   sheet_by_calls_lem budget (a ∷ b ∷ c ∷ d ∷ []) h = refl
   sheet_by_calls_lem budget (a ∷ b ∷ c ∷ d ∷ n ∷ bytes) h =
       rw (le-ltb (length (a ∷ b ∷ c ∷ d ∷ n ∷ bytes)) 5 (omega arith))
-      (heat_by_calls budget (number_from 0 (a ∷ b ∷ c ∷ d ∷ [])) n bytes (omega arith))
+      (heat_by_calls n (board n) (mix n) (board-long n) (mix_long n) budget (number_from 0 (a ∷ b ∷ c ∷ d ∷ [])) bytes (omega arith))

@@ -1,0 +1,16 @@
+-- A cut header is one line; behind a whole one stands the heat.
+use Rattle.std.proofs.Common.{arith}
+use Rattle.sheet.proofs.Whole.{on_ok, prints_cut, prints_behind}
+use Rattle.sheet.proofs.run.Goals as goal
+
+pub returns-in-Cut : goal.returns-in-Cut
+returns-in-Cut g c =
+    let long = c.header-bytes.ensures in
+    on_ok _ _ _ c.refused.ensures
+    (prints_cut _ _ _ _ _ _ (omega (arith, long, c.read_full.auto.buffer)) c.in-Cut.ensures c.in_ok-came.ensures.bytes
+    (λ h. c.in_ok-came.ensures.end (omega (arith, h, long, c.read_full.auto.buffer))))
+
+pub returns-in-Open : goal.returns-in-Open
+returns-in-Open g c =
+    prints_behind _ _ _ _ _ _ _ _ _ (omega (arith, c.header-bytes.ensures, c.read_full.auto.buffer)) c.in-Open.ensures c.in_ok-came.ensures.bytes
+    c.«open».ensures
