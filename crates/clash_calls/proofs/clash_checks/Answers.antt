@@ -9,17 +9,10 @@ use Rattle.checks.specs.Sizes.{table_sizes}
 use Rattle.checks.proofs.InOrder.{fails_here, ◌then◌, none_left, ◌and_then◌}
 use Rattle.checks.proofs.TableSizes.{past_sizes, sizes_passed, sizes_failed}
 use Rattle.clash_calls.proofs.clash_checks.Goals as goal
-use Rattle.clash_calls.proofs.clash_checks.Goals.{Else-n-lt1, Else-s-gt-MOST_WORDS, In_default}
+use Rattle.clash_calls.proofs.clash_checks.Goals.{In_default}
 
 sized : (c : In_default) → Given (table_sizes c.args.p c.args.m c.args.n)
 sized c = sizes_passed c.table_sizes.ensures c.in_default.is
-
--- past 2 and 12
-size : (c : Else-n-lt1) → (sized : Given (table_sizes c.args.p c.args.m c.args.n)) → FrameSize c.args.n
-size c sized = omega (arith, sized.1.0.1)
-
-words : (c : Else-s-gt-MOST_WORDS) → WordCount c.args.s
-words c = omega arith
 
 pub returns-in-Refused : goal.returns-in-Refused
 returns-in-Refused c = sizes_failed c.table_sizes.ensures c.in-Refused.is
@@ -28,28 +21,47 @@ pub returns-then-n-lt1 : goal.returns-then-n-lt1
 returns-then-n-lt1 c = past_sizes (sized (goal.at.returns-then-n-lt1 c).In_default) (fails_here (λ h. omega arith))
 
 pub returns-then-s-lt1 : goal.returns-then-s-lt1
-returns-then-s-lt1 c = past_sizes (sized (goal.at.returns-then-s-lt1 c).In_default) (size (goal.at.returns-then-s-lt1 c).Else-n-lt1 (sized (goal.at.returns-then-s-lt1 c).In_default) then fails_here (λ h. omega arith))
+returns-then-s-lt1 c =
+    let s = sized (goal.at.returns-then-s-lt1 c).In_default in
+    let size : FrameSize c.args.n = omega (arith, s.1.0.1) in
+    past_sizes s (size then fails_here (λ h. omega arith))
 
 pub returns-then-s-gt-MOST_WORDS : goal.returns-then-s-gt-MOST_WORDS
-returns-then-s-gt-MOST_WORDS c = past_sizes (sized (goal.at.returns-then-s-gt-MOST_WORDS c).In_default) (size (goal.at.returns-then-s-gt-MOST_WORDS c).Else-n-lt1 (sized (goal.at.returns-then-s-gt-MOST_WORDS c).In_default) then fails_here (λ h. omega arith))
+returns-then-s-gt-MOST_WORDS c =
+    let s = sized (goal.at.returns-then-s-gt-MOST_WORDS c).In_default in
+    let size : FrameSize c.args.n = omega (arith, s.1.0.1) in
+    past_sizes s (size then fails_here (λ h. omega arith))
 
 pub overflow_mul-m : goal.overflow_mul-m
 overflow_mul-m c =
+    let s = sized (goal.at.overflow_mul-m c).In_default in
+    let words : WordCount c.args.s = omega arith in
     let a = c.args in
-    let few = (sized (goal.at.overflow_mul-m c).In_default).1.0 in
-    omega (arith, mul-le-mul {n₁ = a.m} {m₁ = a.n + a.s} {n₂ = 64} {m₂ = 80} few.0 (omega (arith, few.1, (words (goal.at.overflow_mul-m c).Else-s-gt-MOST_WORDS).1)))
+    let few = s.1.0 in
+    omega (arith, mul-le-mul {n₁ = a.m} {m₁ = a.n + a.s} {n₂ = 64} {m₂ = 80} few.0 (omega (arith, few.1, words.1)))
 
 pub returns-then-log-m : goal.returns-then-log-m
-returns-then-log-m c = past_sizes (sized (goal.at.returns-then-log-m c).In_default) (size (goal.at.returns-then-log-m c).Else-n-lt1 (sized (goal.at.returns-then-log-m c).In_default) then words (goal.at.returns-then-log-m c).Else-s-gt-MOST_WORDS then fails_here c.if-log-m.true)
+returns-then-log-m c =
+    let s = sized (goal.at.returns-then-log-m c).In_default in
+    let size : FrameSize c.args.n = omega (arith, s.1.0.1) in
+    let words : WordCount c.args.s = omega arith in
+    past_sizes s (size then words then fails_here c.if-log-m.true)
 
 pub returns-then-marks-m : goal.returns-then-marks-m
-returns-then-marks-m c = past_sizes (sized (goal.at.returns-then-marks-m c).In_default) (size (goal.at.returns-then-marks-m c).Else-n-lt1 (sized (goal.at.returns-then-marks-m c).In_default) then words (goal.at.returns-then-marks-m c).Else-s-gt-MOST_WORDS then c.if-log-m.false then fails_here c.if-marks-m.true)
+returns-then-marks-m c =
+    let s = sized (goal.at.returns-then-marks-m c).In_default in
+    let size : FrameSize c.args.n = omega (arith, s.1.0.1) in
+    let words : WordCount c.args.s = omega arith in
+    past_sizes s (size then words then c.if-log-m.false then fails_here c.if-marks-m.true)
 
 pub returns-then-not-all_below : goal.returns-then-not-all_below
 returns-then-not-all_below c =
-    past_sizes (sized (goal.at.returns-then-not-all_below c).In_default)
-    (size (goal.at.returns-then-not-all_below c).Else-n-lt1 (sized (goal.at.returns-then-not-all_below c).In_default)
-    then words (goal.at.returns-then-not-all_below c).Else-s-gt-MOST_WORDS
+    let s = sized (goal.at.returns-then-not-all_below c).In_default in
+    let size : FrameSize c.args.n = omega (arith, s.1.0.1) in
+    let words : WordCount c.args.s = omega arith in
+    past_sizes s
+    (size
+    then words
     then c.if-log-m.false
     then c.if-marks-m.false
     then fails_here (guard_taken c.all_below.ensures c.if-not-all_below.true-raw))
@@ -57,10 +69,12 @@ returns-then-not-all_below c =
 pub returns : goal.returns
 returns c =
     let s = sized (goal.at.returns c).In_default in
+    let size : FrameSize c.args.n = omega (arith, s.1.0.1) in
+    let words : WordCount c.args.s = omega arith in
     s.0
     and_then s.1.0
-    and_then size (goal.at.returns c).Else-n-lt1 (sized (goal.at.returns c).In_default)
-    and_then words (goal.at.returns c).Else-s-gt-MOST_WORDS
+    and_then size
+    and_then words
     and_then c.if-log-m.false
     and_then c.if-marks-m.false
     and_then guard_left c.all_below.ensures c.if-not-all_below.false-raw

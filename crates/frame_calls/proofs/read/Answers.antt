@@ -9,7 +9,7 @@ use Rattle.frame.specs.Reading.{read_frame}
 use Rattle.frame.specs.Calls.{read_outcome}
 use Rattle.frame.proofs.Calls.{read_no_sizes, read_refused, read_done}
 use Rattle.frame_calls.proofs.read.Goals as goal
-use Rattle.frame_calls.proofs.read.Goals.{Else-multipliers-size, Else-values-words, In_default}
+use Rattle.frame_calls.proofs.read.Goals.{Else-multipliers-size, In_default}
 
 -- past checks 1, 2 and 12
 sized : (c : In_default) → let a = c.args in AllHold (frame_sizes a.p a.n a.s)
@@ -18,9 +18,6 @@ sized c = c.in_default.ensures
 -- n multipliers and s values are lent
 counted : (c : Else-multipliers-size) → let a = c.args in length a.multipliers.now ≡ a.n
 counted c = c.if-multipliers-size.false
-
-valued : (c : Else-values-words) → let a = c.args in length a.values.now ≡ a.s
-valued c = c.if-values-words.false
 
 pub returns-in-Refused : goal.returns-in-Refused
 returns-in-Refused c = read_no_sizes _ _ _ _ _ _ (c.in-Refused.ensures)
@@ -34,11 +31,18 @@ returns-then-values-words c = read_refused _ _ _ _ _ _ (sized (goal.at.returns-t
 pub read_frame-requires : goal.read_frame-requires
 read_frame-requires c =
     let hs = given (sized (goal.at.read_frame-requires c).In_default) in
-    (omega (arith, hs.0.prime.two_or_more), hs.1.0.0, hs.1.0.1, counted (goal.at.read_frame-requires c).Else-multipliers-size, omega (arith, valued (goal.at.read_frame-requires c).Else-values-words, hs.1.1.0.1))
+    let valued : length c.args.values.now ≡ c.args.s = omega arith in (
+      omega (arith, hs.0.prime.two_or_more),
+      hs.1.0.0,
+      hs.1.0.1,
+      counted (goal.at.read_frame-requires c).Else-multipliers-size,
+      omega (arith, valued, hs.1.1.0.1),
+    )
 
 pub returns : goal.returns
 returns c =
     let a = c.args in
+    let valued : length a.values.now ≡ a.s = omega arith in
     c.read_frame.ensures
-    ∙ ap (λ s. read_outcome s (a.multipliers.now, a.values.now) (read_frame a.p a.n s a.bytes.now)) (valued (goal.at.returns c).Else-values-words)
-    ∙ read_done _ _ _ _ _ _ (sized (goal.at.returns c).In_default) (counted (goal.at.returns c).Else-multipliers-size) (valued (goal.at.returns c).Else-values-words)
+    ∙ ap (λ s. read_outcome s (a.multipliers.now, a.values.now) (read_frame a.p a.n s a.bytes.now)) valued
+    ∙ read_done _ _ _ _ _ _ (sized (goal.at.returns c).In_default) (counted (goal.at.returns c).Else-multipliers-size) valued

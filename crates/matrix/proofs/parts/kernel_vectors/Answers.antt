@@ -12,7 +12,8 @@ use Rattle.field.proofs.Lines.{part_long}
 use Rattle.matrix.proofs.Memory.{table_most}
 use Rattle.matrix.proofs.Vectors.{filled_none, filled_skip, filled_vector, filled_room, filled_next, filled_long, filled_all}
 use Rattle.matrix.proofs.parts.kernel_vectors.Goals as goal
-use Rattle.matrix.proofs.parts.kernel_vectors.Goals.{At-loop-c, In-loop-c, else-at-c-eq0, then-at-c-eq0}
+use Rattle.matrix.proofs.parts.kernel_vectors.Goals.{At-loop-c, In-loop-c}
+use Rattle.matrix.proofs.parts.kernel_vectors.Goals.{else-at-c-eq0, then-at-c-eq0}
 
 pub loop-c-init : goal.loop-c-init
 loop-c-init c = (omega arith, λ h. filled_none _ _ _ _ _ _)
@@ -54,7 +55,7 @@ slice_bounds-kernel_vector-end c = omega (arith, next (goal.at.slice_bounds-kern
 pub kernel_vector-requires : goal.kernel_vector-requires
 kernel_vector-requires c = (
   c.requires.0,
-  (c.loop-c-test.true, c.if-at-c-eq0.true),
+  (c.loop-c-test.true, omega arith),
   part_long c.loop-c.basis _ c.args.n (omega (arith, next (goal.at.kernel_vector-requires c).In-loop-c, long (goal.at.kernel_vector-requires c).At-loop-c)),
 )
 
