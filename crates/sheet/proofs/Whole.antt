@@ -1,6 +1,6 @@
 -- The whole input: its header, the open, the frames and the ending come to 01's sheet.
 use Rattle.std.proofs.Common.{◌≡◌, List, [], ◌∷◌, ◌++◌, ℕ, ◌<◌, ◌≤◌, length, take, drop, sym, ap, ap₂, ◌∙◌, subst, arith, append-nil}
-use Rattle.std.specs.Prelude.{Option, None, Some, Result, Ok, Err, OnOk, ⊤, pos, nat_abs, get_or, eqb, replicate}
+use Rattle.std.specs.Prelude.{Option, None, Some, Result, Ok, Err, OnOk, pos, nat_abs, get_or, eqb, replicate}
 use Rattle.std.specs.Io.KnownBytes.{Appends, Consumes, IsAtEnd}
 use borrow.Author.Tests.{ne_eqb, lt-ltb, le-ltb}
 use native.Mathlib.Decide.{dec_le}

@@ -21,3 +21,13 @@ pub fn read_full<R: Read>(input: &mut R, buffer: &mut [u8]) -> io::Result<usize>
     }
     Ok(came)
 }
+
+// A reader of which a read that fails counts as the end of the input, so that what came before it is still shown.
+#[derive(Drop)]
+pub struct UntilFailure<R>(pub R);
+
+impl<R: Read> Read for UntilFailure<R> {
+    fn read(&mut self, buffer: &mut [u8]) -> io::Result<usize> {
+        Ok(self.0.read(buffer).unwrap_or(0))
+    }
+}

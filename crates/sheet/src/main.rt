@@ -15,6 +15,7 @@ mod lent;
 mod lines;
 
 use checks::Refusal;
+use input::UntilFailure;
 use sheet_text::HeaderAnswer;
 use std::io;
 use std::io::{Read, Write};
@@ -32,5 +33,5 @@ fn run<R: Read, W: Write>(input: &mut R, output: &mut W) -> io::Result<()>
 }
 
 fn main(rt: HostRuntime) -> io::Result<()> {
-    run(&mut rt.stdin(), &mut rt.stdout())
+    run(&mut UntilFailure(rt.stdin()), &mut rt.stdout())
 }
