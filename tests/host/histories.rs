@@ -118,12 +118,8 @@ impl History {
                 Call::Withdraw(if t > few && t == k && !rng.once_in(3) { 1 } else { t })
             }
             1 => Call::Show(low, n, named),
-            2 => match rng.below(6) {
-                0 => Call::Show(low, length(rng, n), off_by_one(rng, named)),
-                1 => Call::Show(low, off_by_one(rng, n), named),
-                2 => Call::Show(low, n, n),
-                _ => Call::Take(self.any_frame(rng), off_by_one(rng, n)),
-            },
+            2 if rng.once_in(2) => Call::Show(low, length(rng, n), off_by_one(rng, named)),
+            2 => Call::Take(self.any_frame(rng), off_by_one(rng, n)),
             _ => Call::Take(self.any_frame(rng), n),
         }
     }
@@ -140,10 +136,18 @@ impl History {
         answer
     }
 
-    /// One call, whichever, and its answer.
+    /// One call, whichever, and its answer. With a show of a wrong length come one with wrong marks alone and one with a number a record.
     pub fn step(&mut self, g: &mut Group) -> (Call, u32) {
         let call = self.any_call(&mut g.rng);
         let answer = self.make(g, &call);
+        let (n, named) = (self.ledger.n, self.ledger.n * self.ledger.s);
+        if matches!(call, Call::Show(_, _, numbers_len) if numbers_len != named) {
+            let low = any_low(&mut g.rng, self.ledger.p);
+            let marks_len = off_by_one(&mut g.rng, n);
+            self.make(g, &Call::Show(low, marks_len, named));
+            let low = any_low(&mut g.rng, self.ledger.p);
+            self.make(g, &Call::Show(low, n, n));
+        }
         (call, answer)
     }
 

@@ -43,6 +43,16 @@ module _ (R : Ring) (L : IsCommutativeRing R) where
 
   infixl 60 ◌⊕◌
   infixl 70 ◌⊗◌
+  -- multipliers that are zero from k on mix the first k rows only
+  pub mixed_ends : (k m : ℕ) (u : Vector R) (X : Matrix R) (j : ℕ) → k ≤ m → ((t : ℕ) → k ≤ t → u t ≡ 𝟘)
+      → mixed R m u X j ≡ mixed R k u X j
+  mixed_ends k m u X j h ends = applied.mixed_ends R L k m u X j h ends
+
+  -- multipliers times a number
+  pub scaled_mixed : (k : ℕ) (q : Carrier) (u : Vector R) (X : Matrix R) (j : ℕ)
+      → q ⊗ mixed R k u X j ≡ mixed R k (λ t. q ⊗ u t) X j
+  scaled_mixed k q u X j = sym (applied.times_mixed R L k q u X j)
+
   -- a row is a combination of rows among which it stands
   pub own_combination : {k n : ℕ} (X : Matrix R) (y : ℕ) → y < k → IsCombination R k n X (X y)
   own_combination {k} X y h = (unit R y, λ j l. sym (applied.unit_mixed R L k X y j h))

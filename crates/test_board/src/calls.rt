@@ -7,7 +7,7 @@ use test_support::told::Told;
 use test_support::{counts, input, lent, told};
 
 // Counts a take by its answer, which the file says next: the number, and the count, which new and repeat carry.
-fn expect_take(stored: &mut Stored<'_>, answer: Told, tally: &mut [u32; 16]) {
+fn expect_take(stored: &mut Stored, answer: Told, tally: &mut [u32; 16]) {
     let number = input::word(stored);
     let count = input::word(stored);
     counts::count(tally, report::TAKES);
@@ -18,7 +18,7 @@ fn expect_take(stored: &mut Stored<'_>, answer: Told, tally: &mut [u32; 16]) {
 }
 
 // A take of the frame, with the mix from the file.
-fn take_frame(stored: &mut Stored<'_>, board: &mut [u32], frame: &[u8], tally: &mut [u32; 16]) {
+fn take_frame(stored: &mut Stored, board: &mut [u32], frame: &[u8], tally: &mut [u32; 16]) {
     let room = input::length(stored, 66);
     let mut words = lent::words(memory::WORD);
     let mix = lent::front(&mut words, room);
@@ -30,7 +30,7 @@ fn take_frame(stored: &mut Stored<'_>, board: &mut [u32], frame: &[u8], tally: &
 }
 
 // A take, with the frame from the file.
-fn take(stored: &mut Stored<'_>, board: &mut [u32], tally: &mut [u32; 16]) {
+fn take(stored: &mut Stored, board: &mut [u32], tally: &mut [u32; 16]) {
     let length = input::length(stored, 332);
     let mut bytes = lent::bytes(0);
     let frame = lent::front_bytes(&mut bytes, length);
@@ -38,7 +38,7 @@ fn take(stored: &mut Stored<'_>, board: &mut [u32], tally: &mut [u32; 16]) {
     take_frame(stored, board, frame, tally);
 }
 
-fn withdraw(stored: &mut Stored<'_>, board: &mut [u32], tally: &mut [u32; 16]) {
+fn withdraw(stored: &mut Stored, board: &mut [u32], tally: &mut [u32; 16]) {
     let answer = report::count_told(board_calls::withdraw(board, input::word(stored)));
     counts::count_if(
         tally,
@@ -50,7 +50,7 @@ fn withdraw(stored: &mut Stored<'_>, board: &mut [u32], tally: &mut [u32; 16]) {
 
 // A show with the low end and the marks, and with the numbers from the file.
 fn show_marks(
-    stored: &mut Stored<'_>,
+    stored: &mut Stored,
     board: &[u32],
     low: u32,
     marks: &mut [u32],
@@ -67,7 +67,7 @@ fn show_marks(
 }
 
 // A show, with the low end and the marks from the file.
-fn show(stored: &mut Stored<'_>, board: &[u32], tally: &mut [u32; 16]) {
+fn show(stored: &mut Stored, board: &[u32], tally: &mut [u32; 16]) {
     let low = input::word(stored);
     let room = input::length(stored, 66);
     let mut words = lent::words(memory::WORD);
@@ -77,7 +77,7 @@ fn show(stored: &mut Stored<'_>, board: &[u32], tally: &mut [u32; 16]) {
 }
 
 // Writes a word into the board, as nobody should.
-fn tamper(stored: &mut Stored<'_>, board: &mut [u32], tally: &mut [u32; 16]) {
+fn tamper(stored: &mut Stored, board: &mut [u32], tally: &mut [u32; 16]) {
     counts::count(tally, report::TAMPERED);
     let place = input::word(stored) as usize;
     let word = input::word(stored);
@@ -87,7 +87,7 @@ fn tamper(stored: &mut Stored<'_>, board: &mut [u32], tally: &mut [u32; 16]) {
 }
 
 // The next call, and whether there was one. A kind above 4 is none of the script's.
-fn next_call(stored: &mut Stored<'_>, board: &mut [u32], tally: &mut [u32; 16]) -> bool {
+fn next_call(stored: &mut Stored, board: &mut [u32], tally: &mut [u32; 16]) -> bool {
     let kind = input::word(stored);
     if kind == 1 {
         take(stored, board, tally);
@@ -112,7 +112,7 @@ fn next_call(stored: &mut Stored<'_>, board: &mut [u32], tally: &mut [u32; 16]) 
 }
 
 // All calls of a history, of which there are at most 1,000.
-fn play_calls(stored: &mut Stored<'_>, board: &mut [u32], tally: &mut [u32; 16]) {
+fn play_calls(stored: &mut Stored, board: &mut [u32], tally: &mut [u32; 16]) {
     for _ in 0..1000 {
         if !next_call(stored, board, tally) {
             return;
@@ -121,13 +121,13 @@ fn play_calls(stored: &mut Stored<'_>, board: &mut [u32], tally: &mut [u32; 16])
 }
 
 // Counts an open by its answer, which the file says next.
-fn expect_open(stored: &mut Stored<'_>, answer: Told, tally: &mut [u32; 16]) {
+fn expect_open(stored: &mut Stored, answer: Told, tally: &mut [u32; 16]) {
     let number = input::word(stored);
     counts::count_if(tally, report::open_place(number), answer.number == number);
 }
 
 // A history behind open's p, n and s, with so many words for its board as the file says. Calls follow a refused open as well.
-fn play(stored: &mut Stored<'_>, p: u32, n: u32, s: u32, tally: &mut [u32; 16]) {
+fn play(stored: &mut Stored, p: u32, n: u32, s: u32, tally: &mut [u32; 16]) {
     let length = input::length(stored, LARGEST_BOARD);
     let mut words = memory::board();
     let board = lent::front(&mut words, length);
@@ -138,7 +138,7 @@ fn play(stored: &mut Stored<'_>, p: u32, n: u32, s: u32, tally: &mut [u32; 16]) 
 }
 
 // The next history, and whether there was one.
-fn next_history(stored: &mut Stored<'_>, tally: &mut [u32; 16]) -> bool {
+fn next_history(stored: &mut Stored, tally: &mut [u32; 16]) -> bool {
     let p = input::word(stored);
     if p == 0 {
         return false;
@@ -150,7 +150,7 @@ fn next_history(stored: &mut Stored<'_>, tally: &mut [u32; 16]) -> bool {
 }
 
 // All histories, of which there are at most 100,000.
-pub fn run(stored: &mut Stored<'_>, tally: &mut [u32; 16]) {
+pub fn run(stored: &mut Stored, tally: &mut [u32; 16]) {
     for _ in 0..100000 {
         if !next_history(stored, tally) {
             return;

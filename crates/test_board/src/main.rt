@@ -23,8 +23,7 @@ use test_support::input::Stored;
 use test_support::{counts, input, output};
 
 fn main(rt: HostRuntime) -> io::Result<()> {
-    let bytes = input::read_all(&rt)?;
-    let mut stored = Stored::new(bytes.as_slice());
+    let mut stored = Stored::new(rt.stdin());
     let mut tally = counts::none();
     calls::run(&mut stored, &mut tally);
     report::print_calls(&rt, &tally)?;

@@ -5,7 +5,7 @@ use test_support::{counts, input, lent};
 
 // A call on the log, with the marks from the file.
 fn compare_marks(
-    stored: &mut Stored<'_>,
+    stored: &mut Stored,
     p: u32,
     m: u32,
     n: u32,
@@ -24,7 +24,7 @@ fn compare_marks(
 }
 
 // The next call, with its sizes and its log from the file.
-fn compare_next(stored: &mut Stored<'_>, tally: &mut [u32; 16]) {
+fn compare_next(stored: &mut Stored, tally: &mut [u32; 16]) {
     let p = input::word(stored);
     let m = input::word(stored);
     let n = input::word(stored);
@@ -38,7 +38,7 @@ fn compare_next(stored: &mut Stored<'_>, tally: &mut [u32; 16]) {
 }
 
 // All calls, of which there are so many as the file says first, at most 100,000.
-pub fn run(stored: &mut Stored<'_>, tally: &mut [u32; 16]) {
+pub fn run(stored: &mut Stored, tally: &mut [u32; 16]) {
     let count = input::length(stored, 100000);
     for _ in 0..count {
         compare_next(stored, tally);

@@ -11,7 +11,7 @@ pub const RESIDUES: usize = 1;
 pub const REFUSED: usize = 2;
 
 // A residue that is read, with the answer and the record from the input.
-fn read(stored: &mut Stored<'_>, p: u32, low: u32, tally: &mut [u32; 16]) {
+fn read(stored: &mut Stored, p: u32, low: u32, tally: &mut [u32; 16]) {
     let answer = signed::signed(p, low, input::word(stored));
     let number = input::word(stored);
     let record = input::number(stored);
@@ -26,7 +26,7 @@ fn read(stored: &mut Stored<'_>, p: u32, low: u32, tally: &mut [u32; 16]) {
 }
 
 // The other way round.
-fn unread(stored: &mut Stored<'_>, p: u32, low: u32, tally: &mut [u32; 16]) {
+fn unread(stored: &mut Stored, p: u32, low: u32, tally: &mut [u32; 16]) {
     let answer = signed::residue(p, low, input::number(stored));
     let number = input::word(stored);
     let residue = input::word(stored);
@@ -41,7 +41,7 @@ fn unread(stored: &mut Stored<'_>, p: u32, low: u32, tally: &mut [u32; 16]) {
 }
 
 // The next case, and whether there was one. A kind above 2 is none of the script's.
-fn next(stored: &mut Stored<'_>, tally: &mut [u32; 16]) -> bool {
+fn next(stored: &mut Stored, tally: &mut [u32; 16]) -> bool {
     let kind = input::word(stored);
     if kind == 0 {
         return false;
@@ -60,7 +60,7 @@ fn next(stored: &mut Stored<'_>, tally: &mut [u32; 16]) -> bool {
 }
 
 // All cases, of which there are at most 100,000.
-pub fn run(stored: &mut Stored<'_>, tally: &mut [u32; 16]) {
+pub fn run(stored: &mut Stored, tally: &mut [u32; 16]) {
     for _ in 0..100000 {
         if !next(stored, tally) {
             return;

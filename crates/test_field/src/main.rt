@@ -187,8 +187,7 @@ fn print_old(out: &impl Print) -> io::Result<()> {
 
 fn main(rt: HostRuntime) -> io::Result<()> {
     print_old(&rt)?;
-    let bytes = input::read_all(&rt)?;
-    let mut stored = Stored::new(bytes.as_slice());
+    let mut stored = Stored::new(rt.stdin());
     let mut tally = counts::none();
     cases::run(&mut stored, &mut tally);
     print_count(&rt, b"readings", &tally, cases::READINGS)?;

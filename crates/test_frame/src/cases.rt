@@ -11,7 +11,7 @@ pub enum Call {
 }
 
 // One case behind its sizes.
-fn compare(stored: &mut Stored<'_>, call: Call, p: u32, n: u32, s: u32, tally: &mut [u32; 16]) {
+fn compare(stored: &mut Stored, call: Call, p: u32, n: u32, s: u32, tally: &mut [u32; 16]) {
     match call {
         Call::Read => reads::compare(stored, p, n, s, tally),
         Call::Seal => seals::compare(stored, p, n, s, tally),
@@ -20,7 +20,7 @@ fn compare(stored: &mut Stored<'_>, call: Call, p: u32, n: u32, s: u32, tally: &
 }
 
 // The next case of the call, and whether there was one.
-fn next(stored: &mut Stored<'_>, call: Call, tally: &mut [u32; 16]) -> bool {
+fn next(stored: &mut Stored, call: Call, tally: &mut [u32; 16]) -> bool {
     let p = input::word(stored);
     if p == 0 {
         return false;
@@ -32,7 +32,7 @@ fn next(stored: &mut Stored<'_>, call: Call, tally: &mut [u32; 16]) -> bool {
 }
 
 // All cases of the call, of which there are at most 100,000.
-pub fn run(stored: &mut Stored<'_>, call: Call, tally: &mut [u32; 16]) {
+pub fn run(stored: &mut Stored, call: Call, tally: &mut [u32; 16]) {
     for _ in 0..100000 {
         if !next(stored, call, tally) {
             return;

@@ -7,14 +7,14 @@ use test_support::told::Told;
 use test_support::{counts, input, lent, told};
 
 // Counts the answer by the number that the input says, and hands that number on.
-pub fn expect_number(stored: &mut Stored<'_>, answer: Told, tally: &mut [u32; 16]) -> u32 {
+pub fn expect_number(stored: &mut Stored, answer: Told, tally: &mut [u32; 16]) -> u32 {
     let number = input::word(stored);
     counts::count_if(tally, report::place(number), answer.number == number);
     number
 }
 
 // Lent words are the next ones of the input where the call is done, and as they were where it is refused.
-pub fn expect_words(stored: &mut Stored<'_>, number: u32, words: &[u32], tally: &mut [u32; 16]) {
+pub fn expect_words(stored: &mut Stored, number: u32, words: &[u32], tally: &mut [u32; 16]) {
     if told::is_refused(number) {
         counts::expect(tally, lent::are_untouched(words, memory::WORD));
     } else {
@@ -36,7 +36,7 @@ fn length_of(number: u32) -> usize
 }
 
 // Lent bytes begin with the next ones of the input, as many as the number tells, and behind them are as they were.
-pub fn expect_frame(stored: &mut Stored<'_>, number: u32, bytes: &[u8], tally: &mut [u32; 16]) {
+pub fn expect_frame(stored: &mut Stored, number: u32, bytes: &[u8], tally: &mut [u32; 16]) {
     let length = length_of(number);
     let mut space = lent::bytes(0);
     let frame = lent::front_bytes(&mut space, length);

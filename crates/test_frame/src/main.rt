@@ -29,7 +29,7 @@ use test_support::{counts, input, output};
 // The cases of a call that stand behind those of reading.
 fn print_calls(
     out: &impl Print,
-    stored: &mut Stored<'_>,
+    stored: &mut Stored,
     call: Call,
     done: &[u8],
 ) -> io::Result<()> {
@@ -39,8 +39,7 @@ fn print_calls(
 }
 
 fn main(rt: HostRuntime) -> io::Result<()> {
-    let bytes = input::read_all(&rt)?;
-    let mut stored = Stored::new(bytes.as_slice());
+    let mut stored = Stored::new(rt.stdin());
     let mut tally = counts::none();
     cases::run(&mut stored, Call::Read, &mut tally);
     report::print_cases(&rt, &tally)?;

@@ -25,7 +25,7 @@ fn rewrite(
 // One case from its frame on, with words lent for its multipliers and values: the input says the number next, and of an accepted
 // frame the words. A refusal leaves them as they were.
 fn compare_lent(
-    stored: &mut Stored<'_>,
+    stored: &mut Stored,
     p: u32,
     n: u32,
     s: u32,
@@ -45,7 +45,7 @@ fn compare_lent(
 }
 
 // One case behind its sizes, with memory for its multipliers, its values and its frame.
-pub fn compare(stored: &mut Stored<'_>, p: u32, n: u32, s: u32, tally: &mut [u32; 16]) {
+pub fn compare(stored: &mut Stored, p: u32, n: u32, s: u32, tally: &mut [u32; 16]) {
     let room = input::length(stored, 66);
     let mut words = lent::words(memory::WORD);
     let multipliers = lent::front(&mut words, room);

@@ -5,7 +5,7 @@ use test_support::{input, lent};
 
 // One case from its values on, for which there are so many lent words as the input says.
 fn compare_lent(
-    stored: &mut Stored<'_>,
+    stored: &mut Stored,
     p: u32,
     n: u32,
     s: u32,
@@ -23,7 +23,7 @@ fn compare_lent(
 }
 
 // One case behind its sizes, with room for its records and multipliers.
-pub fn compare(stored: &mut Stored<'_>, p: u32, n: u32, s: u32, tally: &mut [u32; 16]) {
+pub fn compare(stored: &mut Stored, p: u32, n: u32, s: u32, tally: &mut [u32; 16]) {
     let low = input::word(stored);
     let count = input::length(stored, 1026);
     let mut signed = lent::numbers(0);

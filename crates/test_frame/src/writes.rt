@@ -5,7 +5,7 @@ use test_support::{input, lent};
 
 // One case from its bytes on, of which there are so many lent as the input says.
 fn compare_lent(
-    stored: &mut Stored<'_>,
+    stored: &mut Stored,
     p: u32,
     n: u32,
     s: u32,
@@ -22,7 +22,7 @@ fn compare_lent(
 }
 
 // One case behind its sizes, with room for its multipliers and values.
-pub fn compare(stored: &mut Stored<'_>, p: u32, n: u32, s: u32, tally: &mut [u32; 16]) {
+pub fn compare(stored: &mut Stored, p: u32, n: u32, s: u32, tally: &mut [u32; 16]) {
     let room = input::length(stored, 66);
     let mut words = lent::words(0);
     let multipliers = lent::front(&mut words, room);

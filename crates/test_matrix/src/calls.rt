@@ -14,7 +14,7 @@ fn check_own(p: u32, m: u32, n: u32, a: &[u32], d: &[u32], rank: u32, tally: &mu
 }
 
 // The quasiinverse, with memory for D and both marks, and its check. Answers the rank that the case says.
-fn invert(stored: &mut Stored<'_>, p: u32, m: u32, n: u32, a: &[u32], tally: &mut [u32; 16]) -> u32
+fn invert(stored: &mut Stored, p: u32, m: u32, n: u32, a: &[u32], tally: &mut [u32; 16]) -> u32
     requires { (m ≤ 64) × (n ≤ 64) }
 {
     let size = memory::size(n, m);
@@ -36,7 +36,7 @@ fn invert(stored: &mut Stored<'_>, p: u32, m: u32, n: u32, a: &[u32], tally: &mu
 }
 
 // The kernel, with memory for its basis.
-fn kernel(stored: &mut Stored<'_>, p: u32, m: u32, n: u32, a: &[u32], tally: &mut [u32; 16])
+fn kernel(stored: &mut Stored, p: u32, m: u32, n: u32, a: &[u32], tally: &mut [u32; 16])
     requires { n ≤ 64 }
 {
     let size = memory::size(n, n);
@@ -50,7 +50,7 @@ fn kernel(stored: &mut Stored<'_>, p: u32, m: u32, n: u32, a: &[u32], tally: &mu
 
 // The system of the right side w. The cases say what is left where z was lent holding 7 and u holding 9.
 fn solve_side(
-    stored: &mut Stored<'_>,
+    stored: &mut Stored,
     p: u32,
     m: u32,
     n: u32,
@@ -73,7 +73,7 @@ fn solve_side(
 
 // The nearest fit of the right side w, with its remainder. The answer is the rank, as the quasiinverse's.
 fn fit_side(
-    stored: &mut Stored<'_>,
+    stored: &mut Stored,
     p: u32,
     m: u32,
     n: u32,
@@ -97,7 +97,7 @@ fn fit_side(
 
 // The system whose right side comes from the input, solved and fitted.
 fn system(
-    stored: &mut Stored<'_>,
+    stored: &mut Stored,
     p: u32,
     m: u32,
     n: u32,
@@ -115,7 +115,7 @@ fn system(
 }
 
 // The calls on a table, which comes from the input behind its sizes.
-pub fn compare(stored: &mut Stored<'_>, p: u32, m: u32, n: u32, tally: &mut [u32; 16])
+pub fn compare(stored: &mut Stored, p: u32, m: u32, n: u32, tally: &mut [u32; 16])
     requires { (m ≤ 64) × (n ≤ 64) }
 {
     let size = memory::size(m, n);

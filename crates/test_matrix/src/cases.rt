@@ -13,7 +13,7 @@ pub enum Kind {
 }
 
 // One case behind its sizes.
-fn compare(stored: &mut Stored<'_>, kind: Kind, p: u32, m: u32, n: u32, tally: &mut [u32; 16])
+fn compare(stored: &mut Stored, kind: Kind, p: u32, m: u32, n: u32, tally: &mut [u32; 16])
     requires { (m ≤ 64) × (n ≤ 64) }
 {
     match kind {
@@ -24,7 +24,7 @@ fn compare(stored: &mut Stored<'_>, kind: Kind, p: u32, m: u32, n: u32, tally: &
 
 // The next case of the list, and whether there was one. A table of more rows or columns than there is room for is none of the
 // script's.
-fn next(stored: &mut Stored<'_>, kind: Kind, tally: &mut [u32; 16]) -> bool {
+fn next(stored: &mut Stored, kind: Kind, tally: &mut [u32; 16]) -> bool {
     let p = input::word(stored);
     if p == 0 {
         return false;
@@ -42,7 +42,7 @@ fn next(stored: &mut Stored<'_>, kind: Kind, tally: &mut [u32; 16]) -> bool {
 }
 
 // All cases of the list, of which there are at most 100,000.
-pub fn run(stored: &mut Stored<'_>, kind: Kind, tally: &mut [u32; 16]) {
+pub fn run(stored: &mut Stored, kind: Kind, tally: &mut [u32; 16]) {
     for _ in 0..100000 {
         if !next(stored, kind, tally) {
             return;

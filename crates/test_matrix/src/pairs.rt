@@ -6,7 +6,7 @@ use test_support::input::Stored;
 use test_support::{counts, input, lent};
 
 // The next D of the table, with its answer.
-fn compare_next(stored: &mut Stored<'_>, p: u32, m: u32, n: u32, a: &[u32], tally: &mut [u32; 16])
+fn compare_next(stored: &mut Stored, p: u32, m: u32, n: u32, a: &[u32], tally: &mut [u32; 16])
     requires { (m ≤ 64) × (n ≤ 64) }
 {
     let size = memory::size(n, m);
@@ -19,7 +19,7 @@ fn compare_next(stored: &mut Stored<'_>, p: u32, m: u32, n: u32, a: &[u32], tall
 }
 
 // All D of the table, of which there are so many as the input says, at most 1,000.
-fn compare_all(stored: &mut Stored<'_>, p: u32, m: u32, n: u32, a: &[u32], tally: &mut [u32; 16])
+fn compare_all(stored: &mut Stored, p: u32, m: u32, n: u32, a: &[u32], tally: &mut [u32; 16])
     requires { (m ≤ 64) × (n ≤ 64) }
 {
     let count = input::length(stored, 1000);
@@ -29,7 +29,7 @@ fn compare_all(stored: &mut Stored<'_>, p: u32, m: u32, n: u32, a: &[u32], tally
 }
 
 // A table with its D, which come from the input behind the sizes.
-pub fn compare(stored: &mut Stored<'_>, p: u32, m: u32, n: u32, tally: &mut [u32; 16])
+pub fn compare(stored: &mut Stored, p: u32, m: u32, n: u32, tally: &mut [u32; 16])
     requires { (m ≤ 64) × (n ≤ 64) }
 {
     let size = memory::size(m, n);

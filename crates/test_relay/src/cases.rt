@@ -6,7 +6,7 @@ use test_support::input::Stored;
 use test_support::{counts, input, lent, told};
 
 // The front of the bytes becomes what the file says next.
-fn read_front(stored: &mut Stored<'_>, bytes: &mut [u8], k: usize) {
+fn read_front(stored: &mut Stored, bytes: &mut [u8], k: usize) {
     let length = memory::at_most(k, bytes.len());
     let front = lent::front_bytes(bytes, length);
     input::read_bytes(stored, front);
@@ -14,7 +14,7 @@ fn read_front(stored: &mut Stored<'_>, bytes: &mut [u8], k: usize) {
 
 // The bytes are expected to have the frame of this length, which the file says next, and behind it what they were filled with.
 fn expect_bytes(
-    stored: &mut Stored<'_>,
+    stored: &mut Stored,
     bytes: &[u8],
     first: u32,
     k: usize,
@@ -29,7 +29,7 @@ fn expect_bytes(
 
 // A call for the wanted row with the mix, and with the bytes from the file.
 fn compare_bytes(
-    stored: &mut Stored<'_>,
+    stored: &mut Stored,
     board: &mut [u32],
     wanted: &[u32],
     mix: &mut [u32],
@@ -52,7 +52,7 @@ fn compare_bytes(
 }
 
 // A call for the wanted row, with the mix from the file.
-fn compare_mix(stored: &mut Stored<'_>, board: &mut [u32], wanted: &[u32], tally: &mut [u32; 16]) {
+fn compare_mix(stored: &mut Stored, board: &mut [u32], wanted: &[u32], tally: &mut [u32; 16]) {
     let room = input::length(stored, 66);
     let mut words = lent::words(0);
     let mix = lent::front(&mut words, room);
@@ -61,7 +61,7 @@ fn compare_mix(stored: &mut Stored<'_>, board: &mut [u32], wanted: &[u32], tally
 }
 
 // The next call on the board, with the wanted row from the file.
-fn compare_next(stored: &mut Stored<'_>, board: &mut [u32], tally: &mut [u32; 16]) {
+fn compare_next(stored: &mut Stored, board: &mut [u32], tally: &mut [u32; 16]) {
     let length = input::length(stored, 66);
     let mut words = lent::words(0);
     let wanted = lent::front(&mut words, length);
@@ -71,7 +71,7 @@ fn compare_next(stored: &mut Stored<'_>, board: &mut [u32], tally: &mut [u32; 16
 }
 
 // All calls on the board, of which there are so many as the file says first, at most 1,000.
-fn run_calls(stored: &mut Stored<'_>, board: &mut [u32], tally: &mut [u32; 16]) {
+fn run_calls(stored: &mut Stored, board: &mut [u32], tally: &mut [u32; 16]) {
     let count = input::length(stored, 1000);
     for _ in 0..count {
         compare_next(stored, board, tally);
@@ -79,7 +79,7 @@ fn run_calls(stored: &mut Stored<'_>, board: &mut [u32], tally: &mut [u32; 16]) 
 }
 
 // The next board, with its words from the file, and its calls.
-fn run_next(stored: &mut Stored<'_>, tally: &mut [u32; 16]) {
+fn run_next(stored: &mut Stored, tally: &mut [u32; 16]) {
     let length = input::length(stored, LARGEST_BOARD);
     let mut words = memory::board();
     let board = lent::front(&mut words, length);
@@ -89,7 +89,7 @@ fn run_next(stored: &mut Stored<'_>, tally: &mut [u32; 16]) {
 }
 
 // All boards, of which there are so many as the file says first, at most 10,000.
-pub fn run(stored: &mut Stored<'_>, tally: &mut [u32; 16]) {
+pub fn run(stored: &mut Stored, tally: &mut [u32; 16]) {
     let count = input::length(stored, 10000);
     for _ in 0..count {
         run_next(stored, tally);

@@ -40,6 +40,6 @@ pub fn stop(tally: &mut [u32; 16]) -> bool {
 }
 
 // The words are expected to be the next ones of the input.
-pub fn expect_words(stored: &mut Stored<'_>, tally: &mut [u32; 16], words: &[u32]) {
+pub fn expect_words(stored: &mut Stored, tally: &mut [u32; 16], words: &[u32]) {
     expect(tally, input::are_next_words(stored, words));
 }

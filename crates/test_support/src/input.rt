@@ -2,35 +2,19 @@
 // that a file that was cut short ends the run early, and the counts show it.
 ghost use Rattle.std.specs.Prelude.{◌≤◌};
 
-use std::io;
-use std::io::Read;
+use std::io::{Read, Stdin};
 
-// What is left of the stored cases.
+// What is left of the stored cases: what standard input still gives. A read that fails counts as its end.
 #[derive(Drop)]
-pub struct Stored<'a> {
-    rest: &'a [u8],
+pub struct Stored {
+    input: Stdin,
 }
 
-// All bytes of standard input.
-pub fn read_all<R: Input + AllocGlobal>(rt: &R) -> io::Result<Vec<u8>> {
-    let mut bytes = Vec::new(rt.alloc());
-    rt.reader().read_to_end(&mut bytes)?;
-    Ok(bytes)
-}
-
-impl<'a> Stored<'a> {
-    // The cases that these bytes store.
-    pub fn new(bytes: &'a [u8]) -> Self {
-        Stored { rest: bytes }
+impl Stored {
+    // The cases that standard input has.
+    pub fn new(input: Stdin) -> Self {
+        Stored { input }
     }
-}
-
-fn next_byte(stored: &mut Stored<'_>) -> u8 {
-    let Some((first, rest)) = stored.rest.split_first() else {
-        return 0;
-    };
-    stored.rest = rest;
-    *first
 }
 
 // The number whose bytes these are, most significant first; of more than four bytes, the last four.
@@ -52,20 +36,20 @@ fn signed_of(word: u32) -> i32 {
 }
 
 // The number in the next four bytes.
-pub fn word(stored: &mut Stored<'_>) -> u32 {
+pub fn word(stored: &mut Stored) -> u32 {
     let mut bytes = [0u8; 4];
     read_bytes(stored, &mut bytes);
     number_of(&bytes)
 }
 
 // The signed number in the next four bytes.
-pub fn number(stored: &mut Stored<'_>) -> i32 {
+pub fn number(stored: &mut Stored) -> i32 {
     signed_of(word(stored))
 }
 
 // The next word as a length. The scripts have none above `most`; were there one, all that follows would be read out of step,
 // and the mismatches would show it.
-pub fn length(stored: &mut Stored<'_>, most: usize) -> usize
+pub fn length(stored: &mut Stored, most: usize) -> usize
     ensures { result ≤ most }
 {
     let length = word(stored) as usize;
@@ -76,35 +60,43 @@ pub fn length(stored: &mut Stored<'_>, most: usize) -> usize
 }
 
 // The bytes become the next ones of the input.
-pub fn read_bytes(stored: &mut Stored<'_>, bytes: &mut [u8]) {
-    for byte in bytes.iter_mut() {
-        *byte = next_byte(stored);
+pub fn read_bytes(stored: &mut Stored, bytes: &mut [u8]) {
+    let mut came = 0;
+    while came < bytes.len() {
+        let size = stored.input.read(&mut bytes[came..]).unwrap_or(0);
+        if size == 0 {
+            break;
+        }
+        came += size;
+    }
+    for byte in bytes[came..].iter_mut() {
+        *byte = 0;
     }
 }
 
 // The same where the input has a word for each byte.
-pub fn read_wide_bytes(stored: &mut Stored<'_>, bytes: &mut [u8]) {
+pub fn read_wide_bytes(stored: &mut Stored, bytes: &mut [u8]) {
     for byte in bytes.iter_mut() {
         *byte = (word(stored) % 256) as u8;
     }
 }
 
 // The words become the next ones of the input.
-pub fn read_words(stored: &mut Stored<'_>, words: &mut [u32]) {
+pub fn read_words(stored: &mut Stored, words: &mut [u32]) {
     for x in words.iter_mut() {
         *x = word(stored);
     }
 }
 
 // The same of signed numbers.
-pub fn read_numbers(stored: &mut Stored<'_>, numbers: &mut [i32]) {
+pub fn read_numbers(stored: &mut Stored, numbers: &mut [i32]) {
     for z in numbers.iter_mut() {
         *z = number(stored);
     }
 }
 
 // Whether the words are the next ones of the input, all of which are read.
-pub fn are_next_words(stored: &mut Stored<'_>, words: &[u32]) -> bool {
+pub fn are_next_words(stored: &mut Stored, words: &[u32]) -> bool {
     let mut is_same = true;
     for x in words {
         if word(stored) != *x {
@@ -115,7 +107,7 @@ pub fn are_next_words(stored: &mut Stored<'_>, words: &[u32]) -> bool {
 }
 
 // The same of signed numbers.
-pub fn are_next_numbers(stored: &mut Stored<'_>, numbers: &[i32]) -> bool {
+pub fn are_next_numbers(stored: &mut Stored, numbers: &[i32]) -> bool {
     let mut is_same = true;
     for z in numbers {
         if number(stored) != *z {
