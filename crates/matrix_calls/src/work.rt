@@ -69,7 +69,8 @@ pub fn fit_of(
 {
     let plain = plain_grid(m, n);
     let rank = reduced::solution(p, plain, a, w, 1, z);
-    if rank == m {
+    let full = m;
+    if rank == full {
         words::clear(rest);
         return rank as u32;
     }

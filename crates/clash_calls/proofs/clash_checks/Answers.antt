@@ -2,6 +2,8 @@
 use Prim.Native.Nat.{◌+◌}
 use native.Mathlib.Nat.{mul-le-mul}
 use native.Mathlib.Omega.{arith}
+use mathlib.Core.Path.{◌≡◌}
+use lib.ListN.{length}
 use Rattle.algebra.proofs.Answers.{guard_left, guard_taken}
 use Rattle.checks.specs.InOrder.{Given}
 use Rattle.checks.specs.Largest.{FrameSize, WordCount}
@@ -59,11 +61,12 @@ returns-then-not-all_below c =
     let s = sized (goal.at.returns-then-not-all_below c).In_default in
     let size : FrameSize c.args.n = omega (arith, s.1.0.1) in
     let words : WordCount c.args.s = omega arith in
+    let marked : length c.args.marks.now ≡ c.args.m = omega arith in
     past_sizes s
     (size
     then words
     then c.if-log-m.false
-    then c.if-marks-m.false
+    then marked
     then fails_here (guard_taken c.all_below.ensures c.if-not-all_below.true-raw))
 
 pub returns : goal.returns
@@ -71,11 +74,12 @@ returns c =
     let s = sized (goal.at.returns c).In_default in
     let size : FrameSize c.args.n = omega (arith, s.1.0.1) in
     let words : WordCount c.args.s = omega arith in
+    let marked : length c.args.marks.now ≡ c.args.m = omega arith in
     s.0
     and_then s.1.0
     and_then size
     and_then words
     and_then c.if-log-m.false
-    and_then c.if-marks-m.false
+    and_then marked
     and_then guard_left c.all_below.ensures c.if-not-all_below.false-raw
     and_then none_left

@@ -9,7 +9,7 @@ pub returns-then-bytes-eq0 : goal.returns-then-bytes-eq0
 returns-then-bytes-eq0 c = record { result_value = sym (start_end c.args.bytes.now (omega arith)); result_bound = omega arith }
 
 pub returns-then-bytes-lt2 : goal.returns-then-bytes-lt2
-returns-then-bytes-lt2 c = record { result_value = sym (start_cut c.args.bytes.now c.if-bytes-eq0.false (omega arith)); result_bound = omega arith }
+returns-then-bytes-lt2 c = record { result_value = sym (start_cut c.args.bytes.now (λ e. omega (arith, e)) (omega arith)); result_bound = omega arith }
 
 pub returns : goal.returns
 returns c =

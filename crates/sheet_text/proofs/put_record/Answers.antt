@@ -20,4 +20,4 @@ returns-then-mark-eq1 c =
 
 pub returns : goal.returns
 unfolding record_text unknown_word
-returns c = rw (ne_eqb c.args.mark 1 c.if-mark-eq1.false) c.put_bytes.ensures
+returns c = rw (ne_eqb c.args.mark 1 (λ e. omega (arith, e))) c.put_bytes.ensures

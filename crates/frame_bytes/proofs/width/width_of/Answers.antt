@@ -4,8 +4,8 @@ use native.Mathlib.Omega.{arith}
 use Rattle.frame.proofs.Widths.{width_one, width_two, width_three, width_four}
 use Rattle.frame_bytes.proofs.width.width_of.Goals as goal
 
-pub returns-then-p-le256 : goal.returns-then-p-le256
-returns-then-p-le256 c = sym (width_one _ (omega arith))
+pub returns-then-p-le-ONE_BYTE : goal.returns-then-p-le-ONE_BYTE
+returns-then-p-le-ONE_BYTE c = sym (width_one _ (omega arith))
 
 pub returns-then-p-le65536 : goal.returns-then-p-le65536
 returns-then-p-le65536 c = sym (width_two _ (omega arith) (omega arith))

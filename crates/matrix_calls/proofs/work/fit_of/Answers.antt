@@ -22,14 +22,14 @@ found c =
 pub overflow_cast-result : goal.overflow_cast-result
 overflow_cast-result c = omega (arith, rank_within _ _ _ _ (found (goal.at.overflow_cast-result c).After-solution-rank).rank, c.requires.0.n_most)
 
-pub shape_of-z-then-rank-m : goal.shape_of-z-then-rank-m
-shape_of-z-then-rank-m c = c.solution-rank.auto.z
+pub shape_of-z-then-rank-full : goal.shape_of-z-then-rank-full
+shape_of-z-then-rank-full c = c.solution-rank.auto.z
 
-pub shape_of-rest-then-rank-m : goal.shape_of-rest-then-rank-m
-shape_of-rest-then-rank-m c = c.clear.auto.xs
+pub shape_of-rest-then-rank-full : goal.shape_of-rest-then-rank-full
+shape_of-rest-then-rank-full c = c.clear.auto.xs
 
-pub returns-then-rank-m : goal.returns-then-rank-m
-returns-then-rank-m c = fit_full _ _ _ _ _ _ (found (goal.at.returns-then-rank-m c).After-solution-rank) _ (c.clear.ensures.0 ∙ c.requires.1.u_long) c.clear.ensures.1 c.if-rank-m.true
+pub returns-then-rank-full : goal.returns-then-rank-full
+returns-then-rank-full c = fit_full _ _ _ _ _ _ (found (goal.at.returns-then-rank-full c).After-solution-rank) _ (c.clear.ensures.0 ∙ c.requires.1.u_long) c.clear.ensures.1 c.if-rank-full.true
 
 pub remainder-requires : goal.remainder-requires
 remainder-requires c =
