@@ -64,7 +64,7 @@ def table(root):
                 foreign.update(x.strip().split(" as ")[0] for x in items.split(",") if x.strip())
     new = {it: OTHERWISE.get(it, snake(it)) for it in own}
     # a lemma that would have its function's name ends in _lem
-    for it in own:
+    for it in sorted(own):
         if "-" in it and any(a != it and b == new[it] for a, b in new.items()):
             new[it] += "_lem"
     return {a: b for a, b in new.items() if a != b}, foreign
