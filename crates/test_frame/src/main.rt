@@ -27,12 +27,7 @@ use test_support::input::Stored;
 use test_support::{counts, input, output};
 
 // The cases of a call that stand behind those of reading.
-fn print_calls(
-    out: &impl Print,
-    stored: &mut Stored,
-    call: Call,
-    done: &[u8],
-) -> io::Result<()> {
+fn print_calls(out: &impl Print, stored: &mut Stored, call: Call, done: &[u8]) -> io::Result<()> {
     let mut tally = counts::none();
     cases::run(stored, call, &mut tally);
     report::print_calls(out, done, &tally)

@@ -96,15 +96,7 @@ fn fit_side(
 }
 
 // The system whose right side comes from the input, solved and fitted.
-fn system(
-    stored: &mut Stored,
-    p: u32,
-    m: u32,
-    n: u32,
-    a: &[u32],
-    rank: u32,
-    tally: &mut [u32; 16],
-)
+fn system(stored: &mut Stored, p: u32, m: u32, n: u32, a: &[u32], rank: u32, tally: &mut [u32; 16])
     requires { (m ≤ 64) × (n ≤ 64) }
 {
     let mut words = lent::words(0);

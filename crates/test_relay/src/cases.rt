@@ -13,13 +13,7 @@ fn read_front(stored: &mut Stored, bytes: &mut [u8], k: usize) {
 }
 
 // The bytes are expected to have the frame of this length, which the file says next, and behind it what they were filled with.
-fn expect_bytes(
-    stored: &mut Stored,
-    bytes: &[u8],
-    first: u32,
-    k: usize,
-    tally: &mut [u32; 16],
-) {
+fn expect_bytes(stored: &mut Stored, bytes: &[u8], first: u32, k: usize, tally: &mut [u32; 16]) {
     let mut space = lent::bytes(0);
     let expected = lent::front_bytes(&mut space, memory::at_most(bytes.len(), 332));
     memory::fill(expected, first);
