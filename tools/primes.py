@@ -9,22 +9,27 @@ each part starts stands in crates/checks/specs/Inverses.antt too, and the proof 
 
   tools/primes.py             (prints the source file)
 """
+import textwrap
+
 FIRST = 33
 IN_PART = 38
 LAST = 46340
 BASE = 2 ** 32
+# the lines of the table, as rt fmt lays them out
+WIDTH = 99
+INDENT = ' ' * 12
 
 HEAD = """\
 // The inverses modulo 2^32 of the primes from %d past 46,340, %d to a part. Each part opens with the number that it starts
 // from, and its primes lie below twice that; places that are left are filled with ones. Printed by tools/primes.py. The
 // parts are arms of a match, which become tables; an array constant would be copied to the stack whole.
-ghost use Prim.Native.Nat.{_<_};
-ghost use Rattle·checks·specs.specs.Inverses.{Part};
+ghost use Rattle.std.specs.Prelude.{◌<◌};
+ghost use Rattle.checks.specs.Inverses.{Part};
 
 // The start of a part, and its inverses.
 pub fn inverses(part: usize) -> [u32; %d]
-    requires { ⌜ part < %d ⌝ }
-    ensures { λ r. ⌜ Part part r ⌝ }
+    requires { part < %d }
+    ensures { Part part result }
 {
     match part {
 """
@@ -58,9 +63,8 @@ def main():
     for part, (start, mine) in enumerate(table):
         key = '_' if part == len(table) - 1 else str(part)
         print(f'        {key} => [')
-        print(f'            {start},')
-        for at in range(IN_PART):
-            print(f'            {pow(mine[at], -1, BASE) if at < len(mine) else 1:#010x},')
+        numbers = [f'{pow(mine[at], -1, BASE) if at < len(mine) else 1:#010x},' for at in range(IN_PART)]
+        print(textwrap.fill(' '.join([f'{start},'] + numbers), WIDTH, initial_indent=INDENT, subsequent_indent=INDENT))
         print('        ],')
     print('    }\n}')
 
