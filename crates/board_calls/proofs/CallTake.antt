@@ -8,13 +8,11 @@ use lib.ListN.{length, take, drop, length-append}
 use lib.Seq.{take_at}
 use Rattle.checks.specs.declared.Refusal.{Refusal}
 use Rattle.checks.specs.declared.Refusal.TheVariants.{Length}
-use Rattle.checks.specs.Told.{refused, results}
+use Rattle.checks.specs.Told.{refused, results, result_told}
+use Rattle.std.specs.Prelude.{Result, Ok, Err}
 use Rattle.words.specs.Words.{Below}
 use Rattle.checks.specs.Outcome.{Outcome, outcome, untouched}
 use Rattle.checks.proofs.Refusals.{refusal_number_lem}
-use Rattle.frame.specs.declared.ReadAnswer.{ReadAnswer}
-use Rattle.frame.specs.declared.ReadAnswer.TheVariants.{Words, Refused}
-use Rattle.frame.specs.Told.{read_told}
 use Rattle.frame.specs.Reading.{Found, accepted, rejected, read_frame}
 use Rattle.frame.specs.Calls.{read_outcome}
 use Rattle.ledger.specs.Ledger.{Ledger}
@@ -32,11 +30,11 @@ use Rattle.board_solve.specs.Taking.{TakesRow}
 -- ---- what reading found
 
 -- where r is what `read_frame` answers: words tell that the numbers were accepted which stand in the memory lent
-module _ (s : ℕ) (lent : List ℕ × List ℕ) (written values : List ℕ) (r : ReadAnswer) (f : Found)
-    (told : outcome (read_told r) (written, values) ≡ read_outcome s lent f) where
-  pub found_words : (t : ℕ) → r ≡ Words t → f ≡ accepted written values
+module _ (s : ℕ) (lent : List ℕ × List ℕ) (written values : List ℕ) (r : Result ℕ Refusal) (f : Found)
+    (told : outcome (result_told r) (written, values) ≡ read_outcome s lent f) where
+  pub found_words : (t : ℕ) → r ≡ Ok t → f ≡ accepted written values
   unfolding read_outcome
-  found_words t e = go f (ap (λ (a : ReadAnswer). outcome (read_told a) (written, values)) (sym e) ∙ told)
+  found_words t e = go f (ap (λ (a : Result ℕ Refusal). outcome (result_told a) (written, values)) (sym e) ∙ told)
     where
       go : (g : Found) → outcome (results t) (written, values) ≡ read_outcome s lent g → g ≡ accepted written values
       go (accepted xs vs) h =
@@ -44,9 +42,9 @@ module _ (s : ℕ) (lent : List ℕ × List ℕ) (written values : List ℕ) (r 
       go (rejected k) h = absurd (omega (arith, refusal_number_lem k, ap (λ (o : Outcome (List ℕ × List ℕ)). o.told.number) h))
 
   -- and a refusal is that of what was rejected
-  pub found_refusal : (k : Refusal) → r ≡ Refused k → (l : Refusal) × (f ≡ rejected l) × (refused k ≡ refused l)
+  pub found_refusal : (k : Refusal) → r ≡ Err k → (l : Refusal) × (f ≡ rejected l) × (refused k ≡ refused l)
   unfolding read_outcome
-  found_refusal k e = go f (ap (λ (a : ReadAnswer). outcome (read_told a) (written, values)) (sym e) ∙ told)
+  found_refusal k e = go f (ap (λ (a : Result ℕ Refusal). outcome (result_told a) (written, values)) (sym e) ∙ told)
     where
       go : (g : Found) → outcome (refused k) (written, values) ≡ read_outcome s lent g
           → (l : Refusal) × (g ≡ rejected l) × (refused k ≡ refused l)
@@ -54,8 +52,8 @@ module _ (s : ℕ) (lent : List ℕ × List ℕ) (written values : List ℕ) (r 
       go (rejected l) h = (l, refl, ap (λ (o : Outcome (List ℕ × List ℕ)). o.told) h)
 
 -- words tell that n multipliers and s values below p were found
-pub numbers_found : (p n s : ℕ) (frame : List ℕ) (lent : List ℕ × List ℕ) (written values : List ℕ) (r : ReadAnswer) → 0 < p
-    → outcome (read_told r) (written, values) ≡ read_outcome s lent (read_frame p n s frame) → (t : ℕ) → r ≡ Words t
+pub numbers_found : (p n s : ℕ) (frame : List ℕ) (lent : List ℕ × List ℕ) (written values : List ℕ) (r : Result ℕ Refusal) → 0 < p
+    → outcome (result_told r) (written, values) ≡ read_outcome s lent (read_frame p n s frame) → (t : ℕ) → r ≡ Ok t
     → Numbers p n s written values
 numbers_found p n s frame lent written values r positive told t e =
     accepted_numbers p n s frame written values positive (found_words s lent written values r (read_frame p n s frame) told t e)
@@ -100,21 +98,21 @@ module _ (ws : List ℕ) (b : IsBoard ws) (frame mix : List ℕ) where
   pub take_no_length : (length mix ≡ size_word ws → ⊥) → untouched (ws, mix) Length ≡ take_call ws frame mix
   take_no_length h = by_refusal Length (take_length_first (modulus_word ws) b.prime (size_word ws) (values_word ws) (ledger_of ws) frame mix h)
 
-  module _ (l : length mix ≡ size_word ws) (lent : List ℕ × List ℕ) (written values : List ℕ) (r : ReadAnswer)
-      (told : outcome (read_told r) (written, values)
+  module _ (l : length mix ≡ size_word ws) (lent : List ℕ × List ℕ) (written values : List ℕ) (r : Result ℕ Refusal)
+      (told : outcome (result_told r) (written, values)
       ≡ read_outcome (values_word ws) lent (read_frame (modulus_word ws) (size_word ws) (values_word ws) frame)) where
     abbrev found : Found
     found = read_frame (modulus_word ws) (size_word ws) (values_word ws) frame
 
     -- what reading refuses
-    pub take_unread : (k : Refusal) → r ≡ Refused k → untouched (ws, mix) k ≡ take_call ws frame mix
+    pub take_unread : (k : Refusal) → r ≡ Err k → untouched (ws, mix) k ≡ take_call ws frame mix
     take_unread k e =
         let (j, rejects, same) = found_refusal (values_word ws) lent written values r found told k e in
         ap (λ t. outcome {M = List ℕ × List ℕ} t (ws, mix)) same
         ∙ by_refusal j (take_rejected (modulus_word ws) b.prime (size_word ws) (values_word ws) (entries_of ws) frame mix j l rejects)
 
     -- the numbers that it found decide, by what `take_row` leaves
-    pub take_read : (t : ℕ) → r ≡ Words t → (room values_room : List ℕ) (left : Outcome (List ℕ × List ℕ))
+    pub take_read : (t : ℕ) → r ≡ Ok t → (room values_room : List ℕ) (left : Outcome (List ℕ × List ℕ))
         → TakesRow ws (take (size_word ws) (written ++ drop (size_word ws) room)) (take (values_word ws) (values ++ drop (values_word ws) values_room)) mix left
         → left ≡ take_call ws frame mix
     take_read t e room values_room left h =

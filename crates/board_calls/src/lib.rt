@@ -3,53 +3,38 @@
 
 ghost use Rattle.std.specs.Prelude.{◌≡◌};
 ghost use Rattle.checks.specs.Outcome.{outcome};
-ghost use Rattle.board_calls.specs.Told.{open_told, answer_told};
+ghost use Rattle.checks.specs.Told.{done_told, result_told};
 ghost use Rattle.board_solve.specs.Told.{take_told};
 ghost use Rattle.ledger.specs.Calls.{open_call, take_call, withdraw_call, show_call};
 
-pub use board_solve::TakeAnswer;
+pub use board_solve::Taken;
 use board_solve::{combination, records, take_row};
 use board_words::{change, layout, test};
-use checks::{Refusal, Verdict};
+use checks::Refusal;
 use words::{row_room, wide_table};
-
-#[derive(Drop)]
-pub enum OpenAnswer {
-    Opened,
-    Refused(Refusal),
-}
-
-// What withdraw and show answer: the count, or how many frames are missing.
-#[derive(Drop)]
-pub enum CountAnswer {
-    Count(u32),
-    Refused(Refusal),
-}
 
 // Writes a fresh board for n records of s words modulo p. Refused are 1, p no modulus; 2, n not 1 to 64; 12, s not 1 to 16; and 3,
 // another length than a board for n records of s words has.
-pub fn open(p: u32, n: u32, s: u32, board: &mut [u32]) -> OpenAnswer
-    ensures { outcome (open_told result) board.new ≡ open_call p n s board.old }
+pub fn open(p: u32, n: u32, s: u32, board: &mut [u32]) -> Result<(), Refusal>
+    ensures { outcome (done_told result) board.new ≡ open_call p n s board.old }
 {
-    if let Verdict::Refused(kind) = checks::frame_sizes(p, n, s) {
-        return OpenAnswer::Refused(kind);
-    }
+    checks::frame_sizes(p, n, s)?;
     if board.len() != layout::board_length(n as usize, s as usize) {
-        return OpenAnswer::Refused(Refusal::Length);
+        return Err(Refusal::Length);
     }
     change::make_fresh(p, n, s, board);
-    OpenAnswer::Opened
+    Ok(())
 }
 
 // Takes a frame: new where its multipliers are no combination of the standing rows, and then it stands; otherwise repeat, or
 // conflict (9) where its values are not what the same combination of values gives, with the combination in the mix. The frame is
 // read first, since the elimination that tells whether the rows are independent carries its multipliers along; what reading
 // answers is looked at last.
-pub fn take(board: &mut [u32], frame: &[u8], mix: &mut [u32]) -> TakeAnswer
+pub fn take(board: &mut [u32], frame: &[u8], mix: &mut [u32]) -> Result<Taken, Refusal>
     ensures { outcome (take_told result) (board.new, mix.new) ≡ take_call board.old frame.now mix.old }
 {
     if !test::is_laid_out(board) {
-        return TakeAnswer::Refused(Refusal::NotBoard);
+        return Err(Refusal::NotBoard);
     }
     let p = board[layout::MODULUS];
     let n = board[layout::SIZE] as usize;
@@ -59,61 +44,59 @@ pub fn take(board: &mut [u32], frame: &[u8], mix: &mut [u32]) -> TakeAnswer
     let read = frame_bytes::reading::read_frame(p, n, frame, &mut f[..n], &mut v[..s]);
     let mut c = row_room();
     if !combination::candidate(board, &f[..n], &mut c) {
-        return TakeAnswer::Refused(Refusal::NotBoard);
+        return Err(Refusal::NotBoard);
     }
     if mix.len() != n {
-        return TakeAnswer::Refused(Refusal::Length);
+        return Err(Refusal::Length);
     }
-    match read {
-        frame::ReadAnswer::Words(_) => take_row(board, &f[..n], &v[..s], &c, mix),
-        frame::ReadAnswer::Refused(kind) => TakeAnswer::Refused(kind),
-    }
+    read?;
+    take_row(board, &f[..n], &v[..s], &c, mix)
 }
 
 // Drops the last t frames; their words become 0.
-pub fn withdraw(board: &mut [u32], t: u32) -> CountAnswer
-    ensures { outcome (answer_told result) board.new ≡ withdraw_call board.old t }
+pub fn withdraw(board: &mut [u32], t: u32) -> Result<u32, Refusal>
+    ensures { outcome (result_told result) board.new ≡ withdraw_call board.old t }
 {
     if !test::is_board(board) {
-        return CountAnswer::Refused(Refusal::NotBoard);
+        return Err(Refusal::NotBoard);
     }
     let k = board[layout::COUNT];
     if k < t {
-        return CountAnswer::Refused(Refusal::Withdrawal);
+        return Err(Refusal::Withdrawal);
     }
     let n = board[layout::SIZE] as usize;
     let s = board[layout::VALUES] as usize;
     let left = k - t;
     change::drop_rows(board, n, s, k, left);
-    CountAnswer::Count(left)
+    Ok(left)
 }
 
 // Marks the records that all assignments meeting the standing frames agree on, with the signed readings of their words from -low to
 // p - 1 - low, record after record.
-pub fn show(board: &[u32], low: u32, marks: &mut [u32], numbers: &mut [i32]) -> CountAnswer
-    ensures { outcome (answer_told result) (marks.new, numbers.new) ≡ show_call board.now low marks.old numbers.old }
+pub fn show(board: &[u32], low: u32, marks: &mut [u32], numbers: &mut [i32]) -> Result<u32, Refusal>
+    ensures { outcome (result_told result) (marks.new, numbers.new) ≡ show_call board.now low marks.old numbers.old }
 {
     if !test::is_laid_out(board) {
-        return CountAnswer::Refused(Refusal::NotBoard);
+        return Err(Refusal::NotBoard);
     }
     let mut e = wide_table();
     let mut pivots = row_room();
     if !records::reduce_board(board, &mut e, &mut pivots) {
-        return CountAnswer::Refused(Refusal::NotBoard);
+        return Err(Refusal::NotBoard);
     }
     let n = board[layout::SIZE] as usize;
     if marks.len() != n {
-        return CountAnswer::Refused(Refusal::Length);
+        return Err(Refusal::Length);
     }
     let s = board[layout::VALUES] as usize;
     if numbers.len() != n * s {
-        return CountAnswer::Refused(Refusal::Length);
+        return Err(Refusal::Length);
     }
     if board[layout::MODULUS] <= low {
-        return CountAnswer::Refused(Refusal::Number);
+        return Err(Refusal::Number);
     }
     records::show_records(board, low, &e, &pivots, marks, numbers);
     let count = board[layout::COUNT];
     let missing = board[layout::SIZE] - count;
-    CountAnswer::Count(missing)
+    Ok(missing)
 }

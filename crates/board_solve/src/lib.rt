@@ -13,12 +13,11 @@ use checks::Refusal;
 pub mod combination;
 pub mod records;
 
-// New and repeat carry the count; a refusal carries its kind.
-#[derive(Drop)]
-pub enum TakeAnswer {
+// What take answers where it does not refuse: whether the frame is new or a repeat, with the count.
+#[derive(Clone, Copy, Debug, PartialEq, Eq)]
+pub enum Taken {
     New(u32),
     Repeat(u32),
-    Refused(Refusal),
 }
 
 // Whether the combination c of the standing rows gives the values v, each of them.
@@ -43,18 +42,24 @@ fn values_agree(board: &[u32], c: &[u32], v: &[u32]) -> bool
 
 // Takes the row f, n multipliers, with the values v: appends it where it is no combination of the standing rows, and else writes
 // the combination, the candidate c, to the mix and compares the same combination of the values with v.
-pub fn take_row(board: &mut [u32], f: &[u32], v: &[u32], c: &[u32], mix: &mut [u32]) -> TakeAnswer
+pub fn take_row(
+    board: &mut [u32],
+    f: &[u32],
+    v: &[u32],
+    c: &[u32],
+    mix: &mut [u32],
+) -> Result<Taken, Refusal>
     requires { Takeable board.old f.now v.now c.now mix.old }
     ensures { TakesRow board.old f.now v.now mix.old (outcome (take_told result) (board.new, mix.new)) }
 {
     let count = board[layout::COUNT];
     if !combination::find(board, f, c) {
         change::append(board, count, f, v);
-        return TakeAnswer::New(count + 1);
+        return Ok(Taken::New(count + 1));
     }
     words::put(&c[..f.len()], mix, 0);
     if !values_agree(board, c, v) {
-        return TakeAnswer::Refused(Refusal::Conflict);
+        return Err(Refusal::Conflict);
     }
-    TakeAnswer::Repeat(count)
+    Ok(Taken::Repeat(count))
 }

@@ -6,7 +6,6 @@ ghost use Rattle.board_words.specs.Tested.{Header, Filled, LaidOut};
 
 use super::layout;
 use super::layout::{COUNT, HEADER, MODULUS, SIZE, VALUES};
-use checks::Verdict;
 
 // Whether the words begin as a board does: the clauses up to k ≤ n.
 fn has_header(board: &[u32]) -> bool
@@ -15,9 +14,9 @@ fn has_header(board: &[u32]) -> bool
     if board.len() < HEADER {
         return false;
     }
-    let Verdict::Passed = checks::frame_sizes(board[MODULUS], board[SIZE], board[VALUES]) else {
+    if checks::frame_sizes(board[MODULUS], board[SIZE], board[VALUES]).is_err() {
         return false;
-    };
+    }
     let n = board[SIZE] as usize;
     let s = board[VALUES] as usize;
     if board.len() != layout::board_length(n, s) {

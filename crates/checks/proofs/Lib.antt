@@ -5,3 +5,4 @@ pub mod Trial
 pub mod Wrapped
 pub mod Covered
 pub mod Modulus
+pub mod PassedOn

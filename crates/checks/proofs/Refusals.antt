@@ -1,6 +1,6 @@
 -- The numbers of refusals: from 1, and below 100, where the numbers of other answers begin. A new kind adds its line here. So a
 -- refusal is never taken for an answer with a value.
-use mathlib.Core.Path.{◌≡◌, ap}
+use mathlib.Core.Path.{◌≡◌, refl, ap}
 use native.Mathlib.Omega.{arith}
 use lib.IntN.{ℤ}
 use Rattle.checks.specs.declared.Refusal.{Refusal}
@@ -25,6 +25,24 @@ refusal_number_lem Words = omega arith
 refusal_number_lem NotInSpan = omega arith
 refusal_number_lem NotInner = omega arith
 refusal_number_lem NotOuter = omega arith
+
+-- a conflict is the only kind with the number 9
+pub conflict_number_only : (k : Refusal) → refusal_number k ≡ 9 → k ≡ Conflict
+conflict_number_only Conflict e = refl
+conflict_number_only Modulus e = absurd (omega (arith, e))
+conflict_number_only Size e = absurd (omega (arith, e))
+conflict_number_only Length e = absurd (omega (arith, e))
+conflict_number_only Number e = absurd (omega (arith, e))
+conflict_number_only Insoluble e = absurd (omega (arith, e))
+conflict_number_only FrameLength e = absurd (omega (arith, e))
+conflict_number_only Padding e = absurd (omega (arith, e))
+conflict_number_only ZeroMultiplier e = absurd (omega (arith, e))
+conflict_number_only Withdrawal e = absurd (omega (arith, e))
+conflict_number_only NotBoard e = absurd (omega (arith, e))
+conflict_number_only Words e = absurd (omega (arith, e))
+conflict_number_only NotInSpan e = absurd (omega (arith, e))
+conflict_number_only NotInner e = absurd (omega (arith, e))
+conflict_number_only NotOuter e = absurd (omega (arith, e))
 
 -- a value that is told is the one that was given, and a refusal tells none
 pub given_value : {y z : ℤ} → gives y ≡ gives z → y ≡ z

@@ -1,10 +1,8 @@
 -- 01: "A table A has m rows and n columns, each from 0 to 64"; a heat has 1 to 64 records; a lent slice has the length named.
 -- What several calls check alike, as the front of their lists of checks: the modulus, then the size, then the words of a record.
-use Rattle.std.specs.Prelude.{ℕ}
+use Rattle.std.specs.Prelude.{ℕ, Result, Ok, Err}
 use Rattle.checks.specs.declared.Refusal.{Refusal}
 use Rattle.checks.specs.declared.Refusal.TheVariants.{Modulus, Size, Words}
-use Rattle.checks.specs.declared.Verdict.{Verdict}
-use Rattle.checks.specs.declared.Verdict.TheVariants as verdict
 use Rattle.checks.specs.InOrder.{Checks, passed, ◌else◌, ◌⨾◌, AllHold, FirstFailing}
 use Rattle.checks.specs.Decide.{modulus?, sizes?, frame_size?, word_count?}
 
@@ -16,7 +14,7 @@ table_sizes p m n = modulus? p else Modulus ⨾ sizes? m n else Size ⨾ passed
 abbrev pub frame_sizes : (p n s : ℕ) → Checks Refusal
 frame_sizes p n s = modulus? p else Modulus ⨾ frame_size? n else Size ⨾ word_count? s else Words ⨾ passed
 
--- what a function that goes through a list tells: all hold, or the kind of the first that fails
-abbrev pub Judges : Checks Refusal → Verdict → Type 0
-Judges cs verdict.Passed = AllHold cs
-Judges cs (verdict.Refused k) = FirstFailing cs k
+-- what a function that goes through a list answers: all hold, or the kind of the first that fails
+abbrev pub Judges : Checks Refusal → Result Unit Refusal → Type 0
+Judges cs (Ok _) = AllHold cs
+Judges cs (Err k) = FirstFailing cs k

@@ -20,7 +20,7 @@ pub const MOST_WORDS: u32 = 16;
 pub const LARGEST_MODULUS: u32 = 2147483647;
 
 // Why a call refuses: the kinds 1 to 11 of document 01's table, and those that document 02 adds.
-#[derive(Drop)]
+#[derive(Clone, Copy, Debug, PartialEq, Eq)]
 pub enum Refusal {
     // 1: p is no prime in range
     Modulus,
@@ -55,25 +55,27 @@ pub enum Refusal {
 }
 
 // The number that the documents give the kind.
-pub fn number_of(kind: Refusal) -> u32
-    ensures { result ≡ refusal_number kind }
-{
-    match kind {
-        Refusal::Modulus => 1,
-        Refusal::Size => 2,
-        Refusal::Length => 3,
-        Refusal::Number => 4,
-        Refusal::Insoluble => 5,
-        Refusal::FrameLength => 6,
-        Refusal::Padding => 7,
-        Refusal::ZeroMultiplier => 8,
-        Refusal::Conflict => 9,
-        Refusal::Withdrawal => 10,
-        Refusal::NotBoard => 11,
-        Refusal::Words => 12,
-        Refusal::NotInSpan => 15,
-        Refusal::NotInner => 17,
-        Refusal::NotOuter => 18,
+impl From<Refusal> for u32 {
+    ghost from_gives = { λ kind number. number ≡ refusal_number kind };
+
+    fn from(kind: Refusal) -> u32 {
+        match kind {
+            Refusal::Modulus => 1,
+            Refusal::Size => 2,
+            Refusal::Length => 3,
+            Refusal::Number => 4,
+            Refusal::Insoluble => 5,
+            Refusal::FrameLength => 6,
+            Refusal::Padding => 7,
+            Refusal::ZeroMultiplier => 8,
+            Refusal::Conflict => 9,
+            Refusal::Withdrawal => 10,
+            Refusal::NotBoard => 11,
+            Refusal::Words => 12,
+            Refusal::NotInSpan => 15,
+            Refusal::NotInner => 17,
+            Refusal::NotOuter => 18,
+        }
     }
 }
 
@@ -107,47 +109,40 @@ pub fn is_modulus(p: u32) -> bool
     table::is_prime(p)
 }
 
-// What going through checks in order tells: all hold, or the kind of the first that fails.
-#[derive(Drop)]
-pub enum Verdict {
-    Passed,
-    Refused(Refusal),
-}
-
 // 1 and 2 of the calls on tables: the modulus, then m and n at most 64.
-pub fn table_sizes(p: u32, m: u32, n: u32) -> Verdict
+pub fn table_sizes(p: u32, m: u32, n: u32) -> Result<(), Refusal>
     ensures { Judges (table_sizes p m n) result }
 {
     if !is_modulus(p) {
-        return Verdict::Refused(Refusal::Modulus);
+        return Err(Refusal::Modulus);
     }
     if LARGEST < m {
-        return Verdict::Refused(Refusal::Size);
+        return Err(Refusal::Size);
     }
     if LARGEST < n {
-        return Verdict::Refused(Refusal::Size);
+        return Err(Refusal::Size);
     }
-    Verdict::Passed
+    Ok(())
 }
 
 // 1, 2 and 12 of the calls on frames, and of open: the modulus, then n from 1 to 64, then s from 1 to 16.
-pub fn frame_sizes(p: u32, n: u32, s: u32) -> Verdict
+pub fn frame_sizes(p: u32, n: u32, s: u32) -> Result<(), Refusal>
     ensures { Judges (frame_sizes p n s) result }
 {
     if !is_modulus(p) {
-        return Verdict::Refused(Refusal::Modulus);
+        return Err(Refusal::Modulus);
     }
     if n < 1 {
-        return Verdict::Refused(Refusal::Size);
+        return Err(Refusal::Size);
     }
     if LARGEST < n {
-        return Verdict::Refused(Refusal::Size);
+        return Err(Refusal::Size);
     }
     if s < 1 {
-        return Verdict::Refused(Refusal::Words);
+        return Err(Refusal::Words);
     }
     if MOST_WORDS < s {
-        return Verdict::Refused(Refusal::Words);
+        return Err(Refusal::Words);
     }
-    Verdict::Passed
+    Ok(())
 }

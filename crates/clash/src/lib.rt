@@ -17,16 +17,8 @@ ghost use Rattle.clash.specs.Calls.{contradiction, combination_of, clash_of};
 ghost use Rattle.clash.specs.Parts.{Logged, WorkedRows, carried_number, word_number, WordRead};
 ghost use Rattle.clash.specs.Parts.{WordLooked, FirstOther, FirstByWords};
 
-use checks::Refusal;
 use matrix_echelon::{Grid, reduced};
 use words::ROW;
-
-// What clash answers: how many frames it selected, or why it refuses.
-#[derive(Drop)]
-pub enum ClashAnswer {
-    Selected(u32),
-    Refused(Refusal),
-}
 
 // What a worked row carries for word w. The row is counted from 1; 0 says that there is none, and gives 0.
 fn carried_number(n: usize, s: usize, w: usize, row: usize, e: &[u32]) -> u32

@@ -3,104 +3,44 @@
 #![tactic(auto)]
 
 ghost use Rattle.std.specs.Prelude.{◌≡◌};
-ghost use Rattle.matrix.specs.Told.{table_told};
-ghost use Rattle.frame.specs.Told.{read_told, write_told, seal_told};
+ghost use Rattle.checks.specs.Told.{done_told, result_told};
 ghost use Rattle.board_solve.specs.Told.{take_told};
-ghost use Rattle.board_calls.specs.Told.{open_told, answer_told};
-ghost use Rattle.clash.specs.Told.{clash_told};
 ghost use Rattle.dauneroad.specs.Exports.{Small, answer, open_answer, take_answer, withdraw_answer, show_answer, relay_answer};
 ghost use Rattle.dauneroad.specs.Exports.{read_answer, write_answer, seal_answer, signed_answer, residue_answer};
 ghost use Rattle.dauneroad.specs.Exports.{quasiinverse_answer, kernel_answer, solve_answer, fit_answer, check_answer, clash_answer};
 
-use board_calls::{CountAnswer, OpenAnswer, TakeAnswer};
-use clash_calls::ClashAnswer;
-use frame_calls::{ReadAnswer, SealAnswer, WriteAnswer};
-use matrix_calls::TableAnswer;
+use board_calls::Taken;
+use checks::Refusal;
 
 // The number of what open answers: 0 when done, or the refusal's.
-fn open_number(answer: OpenAnswer) -> u32
-    ensures { result ≡ (open_told answer).number }
+fn done_number(answer: Result<(), Refusal>) -> u32
+    ensures { result ≡ (done_told answer).number }
 {
     match answer {
-        OpenAnswer::Opened => 0,
-        OpenAnswer::Refused(kind) => checks::number_of(kind),
+        Ok(()) => 0,
+        Err(kind) => u32::from(kind),
     }
 }
 
 // The number of what take answers: 0 for new, 100 for repeat, or the refusal's.
-fn take_number(answer: TakeAnswer) -> u32
+fn take_number(answer: Result<Taken, Refusal>) -> u32
     ensures { result ≡ (take_told answer).number }
 {
     match answer {
-        TakeAnswer::New(_) => 0,
-        TakeAnswer::Repeat(_) => 100,
-        TakeAnswer::Refused(kind) => checks::number_of(kind),
+        Ok(Taken::New(_)) => 0,
+        Ok(Taken::Repeat(_)) => 100,
+        Err(kind) => u32::from(kind),
     }
 }
 
-// The number of what withdraw and show answer: 200 plus the count, or the refusal's.
-fn count_number(answer: CountAnswer) -> u32
-    requires { Small (answer_told answer) }
-    ensures { result ≡ (answer_told answer).number }
+// The number of what the other calls answer: 200 plus the result, or the refusal's.
+fn result_number(answer: Result<u32, Refusal>) -> u32
+    requires { Small (result_told answer) }
+    ensures { result ≡ (result_told answer).number }
 {
     match answer {
-        CountAnswer::Count(k) => 200 + k,
-        CountAnswer::Refused(kind) => checks::number_of(kind),
-    }
-}
-
-// The number of what read answers: 200 plus s, or the refusal's.
-fn read_number(answer: ReadAnswer) -> u32
-    requires { Small (read_told answer) }
-    ensures { result ≡ (read_told answer).number }
-{
-    match answer {
-        ReadAnswer::Words(s) => 200 + s,
-        ReadAnswer::Refused(kind) => checks::number_of(kind),
-    }
-}
-
-// The number of what seal answers: 200 plus s, or the refusal's.
-fn seal_number(answer: SealAnswer) -> u32
-    requires { Small (seal_told answer) }
-    ensures { result ≡ (seal_told answer).number }
-{
-    match answer {
-        SealAnswer::Words(s) => 200 + s,
-        SealAnswer::Refused(kind) => checks::number_of(kind),
-    }
-}
-
-// The number of what write and relay answer: 200 plus the length, or the refusal's.
-fn write_number(answer: WriteAnswer) -> u32
-    requires { Small (write_told answer) }
-    ensures { result ≡ (write_told answer).number }
-{
-    match answer {
-        WriteAnswer::Length(k) => 200 + k,
-        WriteAnswer::Refused(kind) => checks::number_of(kind),
-    }
-}
-
-// The number of what the calls on tables answer: 200 plus the result, or the refusal's.
-fn table_number(answer: TableAnswer) -> u32
-    requires { Small (table_told answer) }
-    ensures { result ≡ (table_told answer).number }
-{
-    match answer {
-        TableAnswer::Done(k) => 200 + k,
-        TableAnswer::Refused(kind) => checks::number_of(kind),
-    }
-}
-
-// The number of what clash answers: 200 plus the number of frames that are selected, or the refusal's.
-fn clash_number(answer: ClashAnswer) -> u32
-    requires { Small (clash_told answer) }
-    ensures { result ≡ (clash_told answer).number }
-{
-    match answer {
-        ClashAnswer::Selected(k) => 200 + k,
-        ClashAnswer::Refused(kind) => checks::number_of(kind),
+        Ok(k) => 200 + k,
+        Err(kind) => u32::from(kind),
     }
 }
 
@@ -108,7 +48,7 @@ fn clash_number(answer: ClashAnswer) -> u32
 pub extern "C" fn dauneroad_open(p: u32, n: u32, s: u32, board: &mut [u32]) -> u32
     ensures { answer result board.new ≡ open_answer p n s board.old }
 {
-    open_number(board_calls::open(p, n, s, board))
+    done_number(board_calls::open(p, n, s, board))
 }
 
 #[unsafe(no_mangle)]
@@ -122,7 +62,7 @@ pub extern "C" fn dauneroad_take(board: &mut [u32], frame: &[u8], mix: &mut [u32
 pub extern "C" fn dauneroad_withdraw(board: &mut [u32], t: u32) -> u32
     ensures { answer result board.new ≡ withdraw_answer board.old t }
 {
-    count_number(board_calls::withdraw(board, t))
+    result_number(board_calls::withdraw(board, t))
 }
 
 #[unsafe(no_mangle)]
@@ -135,7 +75,7 @@ pub extern "C" fn dauneroad_show(
     ensures { answer result (marks.new, numbers.new)
         ≡ show_answer board.now low marks.old numbers.old }
 {
-    count_number(board_calls::show(board, low, marks, numbers))
+    result_number(board_calls::show(board, low, marks, numbers))
 }
 
 #[unsafe(no_mangle)]
@@ -148,7 +88,7 @@ pub extern "C" fn dauneroad_relay(
     ensures { answer result (mix.new, bytes.new)
         ≡ relay_answer board.now wanted.now mix.old bytes.old }
 {
-    write_number(relay_calls::relay(board, wanted, mix, bytes))
+    result_number(relay_calls::relay(board, wanted, mix, bytes))
 }
 
 #[unsafe(no_mangle)]
@@ -163,7 +103,7 @@ pub extern "C" fn dauneroad_read(
     ensures { answer result (multipliers.new, values.new)
         ≡ read_answer p n s frame.now multipliers.old values.old }
 {
-    read_number(frame_calls::read(p, n, s, frame, multipliers, values))
+    result_number(frame_calls::read(p, n, s, frame, multipliers, values))
 }
 
 #[unsafe(no_mangle)]
@@ -178,7 +118,7 @@ pub extern "C" fn dauneroad_write(
     ensures { answer result bytes.new
         ≡ write_answer p n s multipliers.now values.now bytes.old }
 {
-    write_number(frame_calls::write(p, n, s, multipliers, values, bytes))
+    result_number(frame_calls::write(p, n, s, multipliers, values, bytes))
 }
 
 #[unsafe(no_mangle)]
@@ -194,7 +134,7 @@ pub extern "C" fn dauneroad_seal(
     ensures { answer result values.new
         ≡ seal_answer p n s low records.now multipliers.now values.old }
 {
-    seal_number(frame_calls::seal(p, n, s, low, records, multipliers, values))
+    result_number(frame_calls::seal(p, n, s, low, records, multipliers, values))
 }
 
 #[unsafe(no_mangle)]
@@ -202,11 +142,11 @@ pub extern "C" fn dauneroad_signed(p: u32, low: u32, v: u32, record: &mut i32) -
     ensures { answer result «record».new ≡ signed_answer p low v «record».old }
 {
     match signed::signed(p, low, v) {
-        signed::SignedAnswer::Record(z) => {
+        Ok(z) => {
             *record = z;
             0
         }
-        signed::SignedAnswer::Refused(kind) => checks::number_of(kind),
+        Err(kind) => u32::from(kind),
     }
 }
 
@@ -215,11 +155,11 @@ pub extern "C" fn dauneroad_residue(p: u32, low: u32, record: i32, residue: &mut
     ensures { answer result residue.new ≡ residue_answer p low «record» residue.old }
 {
     match signed::residue(p, low, record) {
-        signed::ResidueAnswer::Residue(v) => {
+        Ok(v) => {
             *residue = v;
             0
         }
-        signed::ResidueAnswer::Refused(kind) => checks::number_of(kind),
+        Err(kind) => u32::from(kind),
     }
 }
 
@@ -236,14 +176,14 @@ pub extern "C" fn dauneroad_quasiinverse(
     ensures { answer result (d.new, (columns.new, rows.new))
         ≡ quasiinverse_answer p m n a.now d.old columns.old rows.old }
 {
-    table_number(matrix_calls::quasiinverse(p, m, n, a, d, columns, rows))
+    result_number(matrix_calls::quasiinverse(p, m, n, a, d, columns, rows))
 }
 
 #[unsafe(no_mangle)]
 pub extern "C" fn dauneroad_kernel(p: u32, m: u32, n: u32, a: &[u32], basis: &mut [u32]) -> u32
     ensures { answer result basis.new ≡ kernel_answer p m n a.now basis.old }
 {
-    table_number(matrix_calls::kernel(p, m, n, a, basis))
+    result_number(matrix_calls::kernel(p, m, n, a, basis))
 }
 
 #[unsafe(no_mangle)]
@@ -259,7 +199,7 @@ pub extern "C" fn dauneroad_solve(
     ensures { answer result (z.new, u.new)
         ≡ solve_answer p m n a.now w.now z.old u.old }
 {
-    table_number(matrix_calls::solve(p, m, n, a, w, z, u))
+    result_number(matrix_calls::solve(p, m, n, a, w, z, u))
 }
 
 #[unsafe(no_mangle)]
@@ -275,14 +215,14 @@ pub extern "C" fn dauneroad_fit(
     ensures { answer result (z.new, rest.new)
         ≡ fit_answer p m n a.now w.now z.old rest.old }
 {
-    table_number(matrix_calls::fit(p, m, n, a, w, z, rest))
+    result_number(matrix_calls::fit(p, m, n, a, w, z, rest))
 }
 
 #[unsafe(no_mangle)]
 pub extern "C" fn dauneroad_check(p: u32, m: u32, n: u32, a: &[u32], d: &[u32]) -> u32
     ensures { answer result tt ≡ check_answer p m n a.now d.now }
 {
-    table_number(matrix_calls::check(p, m, n, a, d))
+    result_number(matrix_calls::check(p, m, n, a, d))
 }
 
 #[unsafe(no_mangle)]
@@ -296,5 +236,5 @@ pub extern "C" fn dauneroad_clash(
 ) -> u32
     ensures { answer result marks.new ≡ clash_answer p m n s log.now marks.old }
 {
-    clash_number(clash_calls::clash(p, m, n, s, log, marks))
+    result_number(clash_calls::clash(p, m, n, s, log, marks))
 }

@@ -4,7 +4,6 @@ pub mod Bitmap
 pub mod Sealing
 pub mod Decide
 pub mod Reading
-pub mod Told
 pub mod Calls
 pub mod EarlierOrder
 pub mod Promises

@@ -8,14 +8,13 @@ ghost use Rattle.checks.specs.Sizes.{Judges};
 ghost use Rattle.words.specs.Words.{Below};
 ghost use Rattle.frame.specs.Bitmap.{record_bits, standing};
 ghost use Rattle.frame.specs.Reading.{numbers_in, read_frame};
-ghost use Rattle.frame.specs.Told.{read_told};
+ghost use Rattle.checks.specs.Told.{result_told};
 ghost use Rattle.frame.specs.Calls.{read_outcome};
 ghost use Rattle.frame_bytes.specs.Stages.{checks_from, multipliers_from};
 
 use super::bitmap;
 use super::width::width_of;
-use checks::{Refusal, Verdict};
-use frame::ReadAnswer;
+use checks::Refusal;
 
 // Whether the s numbers that stand from the place on are below p.
 fn values_below(p: u32, w: usize, bytes: &[u8], start: usize, s: usize) -> bool
@@ -35,7 +34,7 @@ fn values_below(p: u32, w: usize, bytes: &[u8], start: usize, s: usize) -> bool
 }
 
 // Judges the multipliers that stand from the place on, and the s values behind them: why the first bad one is refused.
-fn judged(p: u32, w: usize, bytes: &[u8], start: usize, count: usize, s: usize) -> Verdict
+fn judged(p: u32, w: usize, bytes: &[u8], start: usize, count: usize, s: usize) -> Result<(), Refusal>
     requires { (w ≤ 4) × (length bytes.now ≡ start + w * count + w * s) }
     ensures { Judges (checks_from p w s bytes.now start count) result }
 {
@@ -44,18 +43,18 @@ fn judged(p: u32, w: usize, bytes: &[u8], start: usize, count: usize, s: usize) 
     while 0 < left {
         let x = codec::number_at(bytes, at, w);
         if x == 0 {
-            return Verdict::Refused(Refusal::ZeroMultiplier);
+            return Err(Refusal::ZeroMultiplier);
         }
         if p <= x {
-            return Verdict::Refused(Refusal::Number);
+            return Err(Refusal::Number);
         }
         at += w;
         left -= 1;
     }
     if !values_below(p, w, bytes, at, s) {
-        return Verdict::Refused(Refusal::Number);
+        return Err(Refusal::Number);
     }
-    Verdict::Passed
+    Ok(())
 }
 
 // Writes the multipliers: the next number from the place on where the bit stands, and 0 where it does not.
@@ -99,15 +98,15 @@ pub fn read_frame(
     bytes: &[u8],
     multipliers: &mut [u32],
     values: &mut [u32],
-) -> ReadAnswer
+) -> Result<u32, Refusal>
     requires { (0 < p) × (1 ≤ n) × (n ≤ largest) × (length multipliers.old ≡ n) × (length values.old ≤ most_words) }
-    ensures { outcome (read_told result) (multipliers.new, values.new)
+    ensures { outcome (result_told result) (multipliers.new, values.new)
         ≡ read_outcome (length values.old) (multipliers.old, values.old)
         (read_frame p n (length values.old) bytes.now) }
 {
     let len = (n + 7) / 8;
     if bytes.len() < len {
-        return ReadAnswer::Refused(Refusal::FrameLength);
+        return Err(Refusal::FrameLength);
     }
     let map = bitmap::from_bytes(bytes, len);
     let count = bitmap::standing(map);
@@ -115,17 +114,13 @@ pub fn read_frame(
     let s = values.len();
     let end = len + w * count;
     if bytes.len() != end + w * s {
-        return ReadAnswer::Refused(Refusal::FrameLength);
+        return Err(Refusal::FrameLength);
     }
     if !bitmap::unpadded(map, n) {
-        return ReadAnswer::Refused(Refusal::Padding);
+        return Err(Refusal::Padding);
     }
-    match judged(p, w, bytes, len, count, s) {
-        Verdict::Passed => {
-            fill(map, w, bytes, len, multipliers);
-            fill_values(w, bytes, end, values);
-            ReadAnswer::Words(s as u32)
-        }
-        Verdict::Refused(kind) => ReadAnswer::Refused(kind),
-    }
+    judged(p, w, bytes, len, count, s)?;
+    fill(map, w, bytes, len, multipliers);
+    fill_values(w, bytes, end, values);
+    Ok(s as u32)
 }

@@ -4,13 +4,12 @@
 
 ghost use Rattle.std.specs.Prelude.{◌≡◌};
 ghost use Rattle.checks.specs.Outcome.{outcome};
-ghost use Rattle.frame.specs.Told.{read_told, write_told, seal_told};
+ghost use Rattle.checks.specs.Told.{result_told};
 ghost use Rattle.frame.specs.Calls.{read_call, write_call, seal_call};
 
 mod sealer;
 
-use checks::{Refusal, Verdict};
-pub use frame::{ReadAnswer, SealAnswer, WriteAnswer};
+use checks::Refusal;
 use frame_bytes::reading::read_frame;
 use frame_bytes::records::all_records;
 use frame_bytes::writer::{longest, write_frame};
@@ -25,20 +24,18 @@ pub fn read(
     bytes: &[u8],
     multipliers: &mut [u32],
     values: &mut [u32],
-) -> ReadAnswer
-    ensures { outcome (read_told result) (multipliers.new, values.new)
+) -> Result<u32, Refusal>
+    ensures { outcome (result_told result) (multipliers.new, values.new)
         ≡ read_call p n s bytes.now multipliers.old values.old }
 {
-    if let Verdict::Refused(kind) = checks::frame_sizes(p, n, s) {
-        return ReadAnswer::Refused(kind);
-    }
+    checks::frame_sizes(p, n, s)?;
     let size = n as usize;
     if multipliers.len() != size {
-        return ReadAnswer::Refused(Refusal::Length);
+        return Err(Refusal::Length);
     }
     let words = s as usize;
     if values.len() != words {
-        return ReadAnswer::Refused(Refusal::Length);
+        return Err(Refusal::Length);
     }
     read_frame(p, size, bytes, multipliers, values)
 }
@@ -53,29 +50,27 @@ pub fn write(
     multipliers: &[u32],
     values: &[u32],
     bytes: &mut [u8],
-) -> WriteAnswer
-    ensures { outcome (write_told result) bytes.new
+) -> Result<u32, Refusal>
+    ensures { outcome (result_told result) bytes.new
         ≡ write_call p n s multipliers.now values.now bytes.old }
 {
-    if let Verdict::Refused(kind) = checks::frame_sizes(p, n, s) {
-        return WriteAnswer::Refused(kind);
-    }
+    checks::frame_sizes(p, n, s)?;
     if multipliers.len() != n as usize {
-        return WriteAnswer::Refused(Refusal::Length);
+        return Err(Refusal::Length);
     }
     if values.len() != s as usize {
-        return WriteAnswer::Refused(Refusal::Length);
+        return Err(Refusal::Length);
     }
     if bytes.len() != longest(s as usize) {
-        return WriteAnswer::Refused(Refusal::Length);
+        return Err(Refusal::Length);
     }
     if !all_below(p, multipliers) {
-        return WriteAnswer::Refused(Refusal::Number);
+        return Err(Refusal::Number);
     }
     if !all_below(p, values) {
-        return WriteAnswer::Refused(Refusal::Number);
+        return Err(Refusal::Number);
     }
-    WriteAnswer::Length(write_frame(p, n as usize, multipliers, values, bytes) as u32)
+    Ok(write_frame(p, n as usize, multipliers, values, bytes) as u32)
 }
 
 // The s values of the frame of n records of s words, each from -low to p - 1 - low, record after record, and n multipliers modulo p, to
@@ -89,31 +84,29 @@ pub fn seal(
     records: &[i32],
     multipliers: &[u32],
     values: &mut [u32],
-) -> SealAnswer
-    ensures { outcome (seal_told result) values.new
+) -> Result<u32, Refusal>
+    ensures { outcome (result_told result) values.new
         ≡ seal_call p n s low records.now multipliers.now values.old }
 {
-    if let Verdict::Refused(kind) = checks::frame_sizes(p, n, s) {
-        return SealAnswer::Refused(kind);
-    }
+    checks::frame_sizes(p, n, s)?;
     if records.len() != (n as usize) * (s as usize) {
-        return SealAnswer::Refused(Refusal::Length);
+        return Err(Refusal::Length);
     }
     if multipliers.len() != n as usize {
-        return SealAnswer::Refused(Refusal::Length);
+        return Err(Refusal::Length);
     }
     if values.len() != s as usize {
-        return SealAnswer::Refused(Refusal::Length);
+        return Err(Refusal::Length);
     }
     if !all_below(p, multipliers) {
-        return SealAnswer::Refused(Refusal::Number);
+        return Err(Refusal::Number);
     }
     if p <= low {
-        return SealAnswer::Refused(Refusal::Number);
+        return Err(Refusal::Number);
     }
     if !all_records(p, low, records) {
-        return SealAnswer::Refused(Refusal::Number);
+        return Err(Refusal::Number);
     }
     sealer::put_values(p, low, records, multipliers, values);
-    SealAnswer::Words(s)
+    Ok(s)
 }

@@ -3,13 +3,12 @@
 #![tactic(auto)]
 
 ghost use Rattle.std.specs.Prelude.{◌≡◌};
-ghost use Rattle.matrix.specs.Told.{table_told};
+ghost use Rattle.checks.specs.Told.{result_told};
 ghost use Rattle.matrix.specs.Calls.{quasiinverse_call, kernel_call, system_checks, solve_call, fit_call, pair_checks, check_call};
 ghost use Rattle.checks.specs.Outcome.{outcome};
 ghost use Rattle.checks.specs.Sizes.{Judges};
 
-use checks::{Refusal, Verdict};
-pub use matrix::TableAnswer;
+use checks::Refusal;
 use matrix_check::absorbs;
 use words::all_below;
 
@@ -24,83 +23,85 @@ pub fn quasiinverse(
     d: &mut [u32],
     columns: &mut [u32],
     rows: &mut [u32],
-) -> TableAnswer
-    ensures { outcome (table_told result) (d.new, (columns.new, rows.new))
+) -> Result<u32, Refusal>
+    ensures { outcome (result_told result) (d.new, (columns.new, rows.new))
         ≡ quasiinverse_call p m n a.now d.old columns.old rows.old }
 {
-    if let Verdict::Refused(kind) = checks::table_sizes(p, m, n) {
-        return TableAnswer::Refused(kind);
-    }
+    checks::table_sizes(p, m, n)?;
     let height = m as usize;
     let width = n as usize;
     if a.len() != height * width {
-        return TableAnswer::Refused(Refusal::Length);
+        return Err(Refusal::Length);
     }
     if d.len() != width * height {
-        return TableAnswer::Refused(Refusal::Length);
+        return Err(Refusal::Length);
     }
     if columns.len() != width {
-        return TableAnswer::Refused(Refusal::Length);
+        return Err(Refusal::Length);
     }
     if rows.len() != height {
-        return TableAnswer::Refused(Refusal::Length);
+        return Err(Refusal::Length);
     }
     if !all_below(p, a) {
-        return TableAnswer::Refused(Refusal::Number);
+        return Err(Refusal::Number);
     }
-    TableAnswer::Done(work::invert_ranked(p, height, width, a, d, columns, rows))
+    Ok(work::invert_ranked(p, height, width, a, d, columns, rows))
 }
 
 // The kernel of the table: one vector for each column outside I, vector after vector at the front of the basis, the rest 0, and
 // how many they are.
-pub fn kernel(p: u32, m: u32, n: u32, a: &[u32], basis: &mut [u32]) -> TableAnswer
-    ensures { outcome (table_told result) basis.new ≡ kernel_call p m n a.now basis.old }
+pub fn kernel(p: u32, m: u32, n: u32, a: &[u32], basis: &mut [u32]) -> Result<u32, Refusal>
+    ensures { outcome (result_told result) basis.new ≡ kernel_call p m n a.now basis.old }
 {
-    if let Verdict::Refused(kind) = checks::table_sizes(p, m, n) {
-        return TableAnswer::Refused(kind);
-    }
+    checks::table_sizes(p, m, n)?;
     let height = m as usize;
     let width = n as usize;
     if a.len() != height * width {
-        return TableAnswer::Refused(Refusal::Length);
+        return Err(Refusal::Length);
     }
     if basis.len() != width * width {
-        return TableAnswer::Refused(Refusal::Length);
+        return Err(Refusal::Length);
     }
     if !all_below(p, a) {
-        return TableAnswer::Refused(Refusal::Number);
+        return Err(Refusal::Number);
     }
-    TableAnswer::Done(work::kernel_of(p, height, width, a, basis))
+    Ok(work::kernel_of(p, height, width, a, basis))
 }
 
 // What solve and fit check: 1 and 2; 3 for a, w, z and the last slice, which is lent as many numbers as w has; 4 for a, then w.
-fn system_checks(p: u32, m: u32, n: u32, a: &[u32], w: &[u32], z: &[u32], u: &[u32]) -> Verdict
+fn system_checks(
+    p: u32,
+    m: u32,
+    n: u32,
+    a: &[u32],
+    w: &[u32],
+    z: &[u32],
+    u: &[u32],
+) -> Result<(), Refusal>
     ensures { Judges (system_checks p m n a.now w.now z.now u.now) result }
 {
-    if let Verdict::Refused(kind) = checks::table_sizes(p, m, n) {
-        return Verdict::Refused(kind);
-    }
+    checks::table_sizes(p, m, n)?;
     let height = m as usize;
     let width = n as usize;
     if a.len() != height * width {
-        return Verdict::Refused(Refusal::Length);
+        return Err(Refusal::Length);
     }
     if w.len() != height {
-        return Verdict::Refused(Refusal::Length);
+        return Err(Refusal::Length);
     }
     if z.len() != width {
-        return Verdict::Refused(Refusal::Length);
+        return Err(Refusal::Length);
     }
     if u.len() != height {
-        return Verdict::Refused(Refusal::Length);
+        return Err(Refusal::Length);
     }
     if !all_below(p, a) {
-        return Verdict::Refused(Refusal::Number);
+        return Err(Refusal::Number);
     }
     if !all_below(p, w) {
-        return Verdict::Refused(Refusal::Number);
+        return Err(Refusal::Number);
     }
-    Verdict::Passed
+    Ok(())
 }
 
 // A solution z of A x = w, with the mix u 0 and the rank; or 5, with z as it was and a mix u that shows that there is none.
@@ -112,12 +113,10 @@ pub fn solve(
     w: &[u32],
     z: &mut [u32],
     u: &mut [u32],
-) -> TableAnswer
-    ensures { outcome (table_told result) (z.new, u.new) ≡ solve_call p m n a.now w.now z.old u.old }
+) -> Result<u32, Refusal>
+    ensures { outcome (result_told result) (z.new, u.new) ≡ solve_call p m n a.now w.now z.old u.old }
 {
-    if let Verdict::Refused(kind) = system_checks(p, m, n, a, w, z, u) {
-        return TableAnswer::Refused(kind);
-    }
+    system_checks(p, m, n, a, w, z, u)?;
     work::solve_of(p, m as usize, n as usize, a, w, z, u)
 }
 
@@ -130,54 +129,48 @@ pub fn fit(
     w: &[u32],
     z: &mut [u32],
     rest: &mut [u32],
-) -> TableAnswer
-    ensures { outcome (table_told result) (z.new, rest.new) ≡ fit_call p m n a.now w.now z.old rest.old }
+) -> Result<u32, Refusal>
+    ensures { outcome (result_told result) (z.new, rest.new) ≡ fit_call p m n a.now w.now z.old rest.old }
 {
-    if let Verdict::Refused(kind) = system_checks(p, m, n, a, w, z, rest) {
-        return TableAnswer::Refused(kind);
-    }
-    TableAnswer::Done(work::fit_of(p, m as usize, n as usize, a, w, z, rest))
+    system_checks(p, m, n, a, w, z, rest)?;
+    Ok(work::fit_of(p, m as usize, n as usize, a, w, z, rest))
 }
 
 // What check checks first: 1 and 2; 3 for a, then d; 4 for a, then d.
-fn pair_checks(p: u32, m: u32, n: u32, a: &[u32], d: &[u32]) -> Verdict
+fn pair_checks(p: u32, m: u32, n: u32, a: &[u32], d: &[u32]) -> Result<(), Refusal>
     ensures { Judges (pair_checks p m n a.now d.now) result }
 {
-    if let Verdict::Refused(kind) = checks::table_sizes(p, m, n) {
-        return Verdict::Refused(kind);
-    }
+    checks::table_sizes(p, m, n)?;
     let height = m as usize;
     let width = n as usize;
     if a.len() != height * width {
-        return Verdict::Refused(Refusal::Length);
+        return Err(Refusal::Length);
     }
     if d.len() != width * height {
-        return Verdict::Refused(Refusal::Length);
+        return Err(Refusal::Length);
     }
     if !all_below(p, a) {
-        return Verdict::Refused(Refusal::Number);
+        return Err(Refusal::Number);
     }
     if !all_below(p, d) {
-        return Verdict::Refused(Refusal::Number);
+        return Err(Refusal::Number);
     }
-    Verdict::Passed
+    Ok(())
 }
 
 // Whether d, n rows and m columns, is a quasiinverse of a, on whatever rows and columns: the rank of a; 17, A D A is not A; or 18,
 // D A D is not D. Nothing is lent to be written.
-pub fn check(p: u32, m: u32, n: u32, a: &[u32], d: &[u32]) -> TableAnswer
-    ensures { outcome (table_told result) tt ≡ check_call p m n a.now d.now }
+pub fn check(p: u32, m: u32, n: u32, a: &[u32], d: &[u32]) -> Result<u32, Refusal>
+    ensures { outcome (result_told result) tt ≡ check_call p m n a.now d.now }
 {
-    if let Verdict::Refused(kind) = pair_checks(p, m, n, a, d) {
-        return TableAnswer::Refused(kind);
-    }
+    pair_checks(p, m, n, a, d)?;
     let height = m as usize;
     let width = n as usize;
     if !absorbs(p, height, width, a, d) {
-        return TableAnswer::Refused(Refusal::NotInner);
+        return Err(Refusal::NotInner);
     }
     if !absorbs(p, width, height, d, a) {
-        return TableAnswer::Refused(Refusal::NotOuter);
+        return Err(Refusal::NotOuter);
     }
-    TableAnswer::Done(work::rank_of(p, height, width, a))
+    Ok(work::rank_of(p, height, width, a))
 }

@@ -2,11 +2,11 @@
 ghost use Rattle.std.specs.Prelude.{◌≡◌, ◌*◌, length};
 ghost use Rattle.checks.specs.Prime.{IsModulus};
 ghost use Rattle.matrix.specs.Calls.{table_rank};
-ghost use Rattle.matrix.specs.Told.{table_told};
+ghost use Rattle.checks.specs.Told.{result_told};
 ghost use Rattle.matrix.specs.Parts.{plain, Checked, InverseRoom, StoresInverse, StoresBasis, System, StoresFit, IsSolution};
 
 use checks::Refusal;
-use matrix::{TableAnswer, parts};
+use matrix::parts;
 use matrix_echelon::{Grid, forward, reduced};
 
 // The table as it stands, for the eliminations, which read it in place.
@@ -89,18 +89,18 @@ fn solve_with(
     x: &mut [u32],
     z: &mut [u32],
     u: &mut [u32],
-) -> TableAnswer
+) -> Result<u32, Refusal>
     requires { Checked p m n a.now × System p m n w.now z.old u.old × (length x.old ≡ n) }
-    ensures { IsSolution p m n a.now w.now z.old (table_told result) z.new u.new }
+    ensures { IsSolution p m n a.now w.now z.old (result_told result) z.new u.new }
 {
     let rank = fit_of(p, m, n, a, w, x, u);
     let y = words::least_nonzero(u);
     if y < m {
         parts::row_mix(p, m, n, a, y, u);
-        return TableAnswer::Refused(Refusal::Insoluble);
+        return Err(Refusal::Insoluble);
     }
     words::copy(x, 0, n, z);
-    TableAnswer::Done(rank)
+    Ok(rank)
 }
 
 // The same, with room for Dw made here.
@@ -112,9 +112,9 @@ pub fn solve_of(
     w: &[u32],
     z: &mut [u32],
     u: &mut [u32],
-) -> TableAnswer
+) -> Result<u32, Refusal>
     requires { Checked p m n a.now × System p m n w.now z.old u.old }
-    ensures { IsSolution p m n a.now w.now z.old (table_told result) z.new u.new }
+    ensures { IsSolution p m n a.now w.now z.old (result_told result) z.new u.new }
 {
     let mut x = words::row_room();
     solve_with(p, m, n, a, w, &mut x[..n], z, u)

@@ -3,7 +3,7 @@
 
 ghost use Rattle.std.specs.Prelude.{◌≡◌, ℕ, ◌<◌, length, get_or};
 ghost use Rattle.checks.specs.Outcome.{outcome};
-ghost use Rattle.frame.specs.Told.{write_told};
+ghost use Rattle.checks.specs.Told.{result_told};
 ghost use Rattle.ledger.specs.Board.{values_word};
 ghost use Rattle.board_solve.specs.Taking.{Comparable, combined_value};
 ghost use Rattle.relay.specs.Calls.{relay_call};
@@ -12,7 +12,6 @@ ghost use Rattle.relay_calls.specs.Parts.{Relayable, RelaysRow};
 use board_solve::combination;
 use board_words::{layout, test};
 use checks::Refusal;
-pub use frame::WriteAnswer;
 use frame_bytes::writer::{longest, write_frame};
 use words::{all_below, row_room};
 
@@ -43,13 +42,13 @@ fn relay_row(
     c: &[u32],
     mix: &mut [u32],
     bytes: &mut [u8],
-) -> WriteAnswer
+) -> Result<u32, Refusal>
     requires { Relayable board.now wanted.now c.now mix.old bytes.old }
     ensures { RelaysRow board.now wanted.now mix.old bytes.old
-        (outcome (write_told result) (mix.new, bytes.new)) }
+        (outcome (result_told result) (mix.new, bytes.new)) }
 {
     if !combination::find(board, wanted, c) {
-        return WriteAnswer::Refused(Refusal::NotInSpan);
+        return Err(Refusal::NotInSpan);
     }
     let s = board[layout::VALUES] as usize;
     let mut v = row_room();
@@ -57,40 +56,40 @@ fn relay_row(
     words::put(&c[..wanted.len()], mix, 0);
     let p = board[layout::MODULUS];
     let length = write_frame(p, wanted.len(), wanted, &v[..s], bytes) as u32;
-    WriteAnswer::Length(length)
+    Ok(length)
 }
 
 // Writes the one frame with the wanted row of multipliers that the frames on the board combine to, to the front of the lent
 // 264 + 4 × s bytes, and the combination to the mix; answers the frame's length. Refused are 11, no board; 3, not n wanted numbers, not n
 // words of mix or not that many bytes; 4, a wanted number not below p; 15, the wanted row is no combination of the standing rows.
 // Whether the rows are independent is told by the elimination that finds the candidate; a wanted row of another length has none.
-pub fn relay(board: &[u32], wanted: &[u32], mix: &mut [u32], bytes: &mut [u8]) -> WriteAnswer
-    ensures { outcome (write_told result) (mix.new, bytes.new)
+pub fn relay(board: &[u32], wanted: &[u32], mix: &mut [u32], bytes: &mut [u8]) -> Result<u32, Refusal>
+    ensures { outcome (result_told result) (mix.new, bytes.new)
         ≡ relay_call board.now wanted.now mix.old bytes.old }
 {
     if !test::is_laid_out(board) {
-        return WriteAnswer::Refused(Refusal::NotBoard);
+        return Err(Refusal::NotBoard);
     }
     let n = board[layout::SIZE] as usize;
     if wanted.len() != n {
         if !test::is_board(board) {
-            return WriteAnswer::Refused(Refusal::NotBoard);
+            return Err(Refusal::NotBoard);
         }
-        return WriteAnswer::Refused(Refusal::Length);
+        return Err(Refusal::Length);
     }
     let mut c = row_room();
     if !combination::candidate(board, wanted, &mut c) {
-        return WriteAnswer::Refused(Refusal::NotBoard);
+        return Err(Refusal::NotBoard);
     }
     if mix.len() != n {
-        return WriteAnswer::Refused(Refusal::Length);
+        return Err(Refusal::Length);
     }
     let s = board[layout::VALUES] as usize;
     if bytes.len() != longest(s) {
-        return WriteAnswer::Refused(Refusal::Length);
+        return Err(Refusal::Length);
     }
     if !all_below(board[layout::MODULUS], wanted) {
-        return WriteAnswer::Refused(Refusal::Number);
+        return Err(Refusal::Number);
     }
     relay_row(board, wanted, &c, mix, bytes)
 }

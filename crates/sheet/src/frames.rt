@@ -7,8 +7,6 @@ ghost use Rattle.sheet.specs.Program.{Reads, Writes, FrameText, NextText, AllTex
 use super::input::read_full;
 use super::{lent, lines};
 use board_words::layout;
-use checks::Refusal;
-use sheet_text::FrameInput;
 use std::io;
 use std::io::{Read, Write};
 
@@ -27,10 +25,10 @@ fn take_body<R: Read, W: Write>(
         FrameText board.old mix.old (length frame.old) known text more board.new mix.new left))) }
 {
     let came = read_full(input, frame)?;
-    let FrameInput::Frame(_) = sheet_text::frame_body(frame.len(), came) else {
-        lines::refused(output, Refusal::FrameLength)?;
+    if let Err(kind) = sheet_text::frame_body(frame.len(), came) {
+        lines::refused(output, kind)?;
         return Ok(false);
-    };
+    }
     lines::frame(output, board, frame, mix)?;
     Ok(true)
 }
@@ -52,12 +50,12 @@ fn take_next<R: Read, W: Write>(
     let mut pair = lent::frame_length();
     let came = read_full(input, &mut pair)?;
     match sheet_text::frame_start(&pair[..came]) {
-        FrameInput::End => Ok(false),
-        FrameInput::Cut => {
-            lines::refused(output, Refusal::FrameLength)?;
+        Ok(None) => Ok(false),
+        Ok(Some(length)) => take_body(input, output, board, &mut bytes[..length], mix),
+        Err(kind) => {
+            lines::refused(output, kind)?;
             Ok(false)
         }
-        FrameInput::Frame(length) => { take_body(input, output, board, &mut bytes[..length], mix) }
     }
 }
 

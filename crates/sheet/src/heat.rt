@@ -6,7 +6,6 @@ ghost use Rattle.sheet_heat.specs.Sheet.{sheet_words, heat_of};
 ghost use Rattle.sheet.specs.Program.{Prints};
 
 use super::{frames, lent, lines};
-use board_calls::OpenAnswer;
 use board_words::layout;
 use std::io;
 use std::io::{Read, Write};
@@ -37,11 +36,11 @@ fn open_in<R: Read, W: Write>(
         → Prints (R.remaining input.old) (W.contents output.old) (W.contents output.new) (heat_of p n)) }
 {
     match board_calls::open(p, n, WORDS, board) {
-        OpenAnswer::Opened => {
+        Ok(()) => {
             frames::take_all(input, output, board)?;
             lines::ending(output, board)
         }
-        OpenAnswer::Refused(kind) => lines::refused(output, kind),
+        Err(kind) => lines::refused(output, kind),
     }
 }
 

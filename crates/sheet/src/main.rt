@@ -14,9 +14,7 @@ mod input;
 mod lent;
 mod lines;
 
-use checks::Refusal;
 use input::UntilFailure;
-use sheet_text::HeaderAnswer;
 use std::io;
 use std::io::{Read, Write};
 
@@ -27,8 +25,8 @@ fn run<R: Read, W: Write>(input: &mut R, output: &mut W) -> io::Result<()>
     let mut bytes = lent::header();
     let came = input::read_full(input, &mut bytes)?;
     match sheet_text::header(&bytes[..came]) {
-        HeaderAnswer::Cut => lines::refused(output, Refusal::FrameLength),
-        HeaderAnswer::Open(p, n) => heat::open(input, output, p, n),
+        Ok((p, n)) => heat::open(input, output, p, n),
+        Err(kind) => lines::refused(output, kind),
     }
 }
 

@@ -10,7 +10,6 @@ ghost use Rattle.sheet_text.specs.Lines.{record_lines};
 ghost use Rattle.sheet_text.specs.Written.{Printed};
 ghost use Rattle.sheet_heat.specs.Calls.{FrameWritten, ending_of, SheetBoard};
 
-use board_calls::CountAnswer;
 use board_words::layout;
 use words::ROW;
 
@@ -53,11 +52,11 @@ fn show_lines(board: &[u32], marks: &mut [u32], numbers: &mut [i32], out: &mut [
 {
     let low = signed::balanced_low(board[layout::MODULUS]);
     match board_calls::show(board, low, marks, numbers) {
-        CountAnswer::Count(missing) => {
+        Ok(missing) => {
             let at = record_lines(marks, numbers, out);
             sheet_text::missing_line(out, at, missing)
         }
-        CountAnswer::Refused(_) => 0,
+        Err(_) => 0,
     }
 }
 

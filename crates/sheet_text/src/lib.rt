@@ -4,30 +4,15 @@
 ghost use Rattle.std.specs.Prelude.{◌≡◌, ◌+◌, ◌≤◌, ◌<◌, length};
 ghost use Rattle.checks.specs.Largest.{largest};
 ghost use Rattle.checks.specs.Refusal.{refusal_number};
-ghost use Rattle.checks.specs.Told.{refused};
+ghost use Rattle.checks.specs.Told.{refused, value_told};
 ghost use Rattle.codec.specs.Placed.{Put};
 ghost use Rattle.board_solve.specs.Told.{take_told};
 ghost use Rattle.sheet_text.specs.Lines.{word_line, refused_line, missing_line, frame_line, record_text, record_line};
 ghost use Rattle.sheet_text.specs.Written.{Printed};
 ghost use Rattle.sheet_text.specs.Input.{header_told, header_call, frame_told, frame_start, frame_body, length_in};
 
-use board_solve::TakeAnswer;
+use board_solve::Taken;
 use checks::Refusal;
-
-// What the first bytes of the input are: a cut header, or p and n.
-#[derive(Drop)]
-pub enum HeaderAnswer {
-    Cut,
-    Open(u32, u32),
-}
-
-// What came where a frame could: the end of the input, a cut frame, or a frame of so many bytes.
-#[derive(Drop)]
-pub enum FrameInput {
-    End,
-    Cut,
-    Frame(usize),
-}
 
 // Writes a record's signed number from `at` on where its mark is 1, otherwise `unknown`.
 fn put_record(out: &mut [u8], at: usize, mark: u32, number: i32) -> usize
@@ -55,22 +40,21 @@ fn refusal_line(kind: Refusal, count: u32, out: &mut [u8]) -> usize
     requires { 32 ≤ length out.old }
     ensures { Printed (frame_line (refused kind) count) out.old out.new result }
 {
-    let number = checks::number_of(kind);
-    if number == 9 {
-        return word_line(out, 0, b"conflict ", count);
+    match kind {
+        Refusal::Conflict => word_line(out, 0, b"conflict ", count),
+        _ => refused_line(kind, out),
     }
-    word_line(out, 0, b"refused ", number)
 }
 
 // The line of a frame, from take's answer and the count afterwards, at the front of the buffer.
-pub fn answer_line(answer: TakeAnswer, count: u32, out: &mut [u8]) -> usize
+pub fn answer_line(answer: Result<Taken, Refusal>, count: u32, out: &mut [u8]) -> usize
     requires { 32 ≤ length out.old }
     ensures { Printed (frame_line (take_told answer) count) out.old out.new result }
 {
     match answer {
-        TakeAnswer::New(_) => word_line(out, 0, b"new ", count),
-        TakeAnswer::Repeat(_) => word_line(out, 0, b"repeat ", count),
-        TakeAnswer::Refused(kind) => refusal_line(kind, count, out),
+        Ok(Taken::New(_)) => word_line(out, 0, b"new ", count),
+        Ok(Taken::Repeat(_)) => word_line(out, 0, b"repeat ", count),
+        Err(kind) => refusal_line(kind, count, out),
     }
 }
 
@@ -79,7 +63,7 @@ pub fn refused_line(kind: Refusal, out: &mut [u8]) -> usize
     requires { 32 ≤ length out.old }
     ensures { Printed (refused_line (refusal_number kind)) out.old out.new result }
 {
-    word_line(out, 0, b"refused ", checks::number_of(kind))
+    word_line(out, 0, b"refused ", u32::from(kind))
 }
 
 // The line of a record, from show's mark and number, from `at` on: two digits, a space, eleven bytes and the line's end at most.
@@ -102,36 +86,37 @@ pub fn missing_line(out: &mut [u8], at: usize, missing: u32) -> usize
     word_line(out, at, b"missing ", missing)
 }
 
-// The header in the first bytes of the input: p in four bytes, most significant first, then n in one.
-pub fn header(bytes: &[u8]) -> HeaderAnswer
+// The header in the first bytes of the input: p in four bytes, most significant first, then n in one. Refused is 6, a cut header.
+pub fn header(bytes: &[u8]) -> Result<(u32, u32), Refusal>
     ensures { header_told result ≡ header_call bytes.now }
 {
     if bytes.len() < 5 {
-        return HeaderAnswer::Cut;
+        return Err(Refusal::FrameLength);
     }
-    HeaderAnswer::Open(codec::number_at(bytes, 0, 4), bytes[4] as u32)
+    Ok((codec::number_at(bytes, 0, 4), bytes[4] as u32))
 }
 
-// What comes next, from the bytes that came of a frame's two length bytes: none where the input ends.
-pub fn frame_start(bytes: &[u8]) -> FrameInput
+// The length of the next frame, from the bytes that came of its two length bytes: none where the input ends. Refused is 6, a cut
+// length.
+pub fn frame_start(bytes: &[u8]) -> Result<Option<usize>, Refusal>
     ensures result_value { frame_told result ≡ frame_start bytes.now }
     ensures result_bound { length_in result ≤ 65535 }
 {
     if bytes.len() == 0 {
-        return FrameInput::End;
+        return Ok(None);
     }
     if bytes.len() < 2 {
-        return FrameInput::Cut;
+        return Err(Refusal::FrameLength);
     }
-    FrameInput::Frame(codec::number_at(bytes, 0, 2) as usize)
+    Ok(Some(codec::number_at(bytes, 0, 2) as usize))
 }
 
-// Whether a frame of that length is whole, from how many of its bytes came.
-pub fn frame_body(length: usize, came: usize) -> FrameInput
-    ensures { frame_told result ≡ frame_body length came }
+// The length of a frame, of whose bytes so many came. Refused is 6, a cut frame.
+pub fn frame_body(length: usize, came: usize) -> Result<usize, Refusal>
+    ensures { value_told result ≡ frame_body length came }
 {
     if came < length {
-        return FrameInput::Cut;
+        return Err(Refusal::FrameLength);
     }
-    FrameInput::Frame(length)
+    Ok(length)
 }

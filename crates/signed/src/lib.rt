@@ -7,23 +7,11 @@ ghost use Rattle.algebra.specs.Answers.{Tells};
 ghost use Rattle.checks.specs.Outcome.{outcome};
 ghost use Rattle.signed.specs.Reading.{reading, residue_of, IsRecord};
 ghost use Rattle.signed.specs.Balanced.{balanced_low};
-ghost use Rattle.signed.specs.Told.{signed_told, residue_told};
+ghost use Rattle.checks.specs.Told.{signed_told, value_told};
 ghost use Rattle.checks.specs.Sizes.{Judges};
 ghost use Rattle.signed.specs.Calls.{low_checks, signed_call, residue_call};
 
-use checks::{Refusal, Verdict};
-
-#[derive(Drop)]
-pub enum SignedAnswer {
-    Record(i32),
-    Refused(Refusal),
-}
-
-#[derive(Drop)]
-pub enum ResidueAnswer {
-    Residue(u32),
-    Refused(Refusal),
-}
+use checks::Refusal;
 
 // The old low end, (p - 1)/2 rounded down: with it records are read as document 01 says.
 pub fn balanced_low(p: u32) -> u32
@@ -69,42 +57,38 @@ pub fn residue_from(p: u32, low: u32, record: i32) -> u32
 }
 
 // What both calls check first: 1, p no modulus, then 4, the low end not below p.
-fn low_checks(p: u32, low: u32) -> Verdict
+fn low_checks(p: u32, low: u32) -> Result<(), Refusal>
     ensures { Judges (low_checks p low) result }
 {
     if !checks::is_modulus(p) {
-        return Verdict::Refused(Refusal::Modulus);
+        return Err(Refusal::Modulus);
     }
     if p <= low {
-        return Verdict::Refused(Refusal::Number);
+        return Err(Refusal::Number);
     }
-    Verdict::Passed
+    Ok(())
 }
 
 // The signed reading of the residue v modulo p, with records from -low to p - 1 - low. Refused are 1, p no modulus, and 4, the low end
 // or then v not below p.
-pub fn signed(p: u32, low: u32, v: u32) -> SignedAnswer
+pub fn signed(p: u32, low: u32, v: u32) -> Result<i32, Refusal>
     ensures { outcome (signed_told result) tt ≡ signed_call p low v }
 {
-    if let Verdict::Refused(kind) = low_checks(p, low) {
-        return SignedAnswer::Refused(kind);
-    }
+    low_checks(p, low)?;
     if p <= v {
-        return SignedAnswer::Refused(Refusal::Number);
+        return Err(Refusal::Number);
     }
-    SignedAnswer::Record(read_from(p, low, v))
+    Ok(read_from(p, low, v))
 }
 
 // The residue that the record modulo p is read from, with records from -low to p - 1 - low. Refused are 1, p no modulus, and 4, the low
 // end not below p or then the record out of range.
-pub fn residue(p: u32, low: u32, record: i32) -> ResidueAnswer
-    ensures { outcome (residue_told result) tt ≡ residue_call p low «record» }
+pub fn residue(p: u32, low: u32, record: i32) -> Result<u32, Refusal>
+    ensures { outcome (value_told result) tt ≡ residue_call p low «record» }
 {
-    if let Verdict::Refused(kind) = low_checks(p, low) {
-        return ResidueAnswer::Refused(kind);
-    }
+    low_checks(p, low)?;
     if !in_range(p, low, record) {
-        return ResidueAnswer::Refused(Refusal::Number);
+        return Err(Refusal::Number);
     }
-    ResidueAnswer::Residue(residue_from(p, low, record))
+    Ok(residue_from(p, low, record))
 }

@@ -27,34 +27,34 @@ pub const TAMPERED: usize = 8;
 // Histories whose open was refused.
 pub const UNOPENED: usize = 9;
 
-pub fn open_told(answer: OpenAnswer) -> Told {
+pub fn open_told(answer: Result<(), Refusal>) -> Told {
     match answer {
-        OpenAnswer::Opened => Told {
+        Ok(()) => Told {
             number: 0,
             value: 0,
         },
-        OpenAnswer::Refused(kind) => told::refused(kind),
+        Err(kind) => told::refused(kind),
     }
 }
 
-pub fn take_told(answer: TakeAnswer) -> Told {
+pub fn take_told(answer: Result<Taken, Refusal>) -> Told {
     match answer {
-        TakeAnswer::New(count) => Told {
+        Ok(Taken::New(count)) => Told {
             number: 0,
             value: count,
         },
-        TakeAnswer::Repeat(count) => Told {
+        Ok(Taken::Repeat(count)) => Told {
             number: 100,
             value: count,
         },
-        TakeAnswer::Refused(kind) => told::refused(kind),
+        Err(kind) => told::refused(kind),
     }
 }
 
-pub fn count_told(answer: CountAnswer) -> Told {
+pub fn count_told(answer: Result<u32, Refusal>) -> Told {
     match answer {
-        CountAnswer::Count(count) => told::done(count),
-        CountAnswer::Refused(kind) => told::refused(kind),
+        Ok(count) => told::done(count),
+        Err(kind) => told::refused(kind),
     }
 }
 

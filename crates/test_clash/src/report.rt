@@ -21,10 +21,10 @@ pub const REFUSED_3: usize = 6;
 pub const REFUSED_4: usize = 7;
 
 // The number of an answer: 200 plus the number of frames selected, or that of the refusal.
-pub fn number_of(answer: ClashAnswer) -> u32 {
+pub fn number_of(answer: Result<u32, Refusal>) -> u32 {
     match answer {
-        ClashAnswer::Selected(count) => told::number_of(count),
-        ClashAnswer::Refused(kind) => checks::number_of(kind),
+        Ok(count) => told::number_of(count),
+        Err(kind) => checks::number_of(kind),
     }
 }
 

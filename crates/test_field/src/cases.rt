@@ -16,8 +16,8 @@ fn read(stored: &mut Stored, p: u32, low: u32, tally: &mut [u32; 16]) {
     let number = input::word(stored);
     let record = input::number(stored);
     match answer {
-        SignedAnswer::Record(z) => counts::count_if(tally, READINGS, number == 0 && z == record),
-        SignedAnswer::Refused(kind) => counts::count_if(
+        Ok(z) => counts::count_if(tally, READINGS, number == 0 && z == record),
+        Err(kind) => counts::count_if(
             tally,
             REFUSED,
             checks::number_of(kind) == number,
@@ -31,8 +31,8 @@ fn unread(stored: &mut Stored, p: u32, low: u32, tally: &mut [u32; 16]) {
     let number = input::word(stored);
     let residue = input::word(stored);
     match answer {
-        ResidueAnswer::Residue(v) => counts::count_if(tally, RESIDUES, number == 0 && v == residue),
-        ResidueAnswer::Refused(kind) => counts::count_if(
+        Ok(v) => counts::count_if(tally, RESIDUES, number == 0 && v == residue),
+        Err(kind) => counts::count_if(
             tally,
             REFUSED,
             checks::number_of(kind) == number,

@@ -81,8 +81,8 @@ fn print_signed(out: &impl Print, p: u32, v: u32) -> io::Result<()>
     print_number(out, p)?;
     print_number(out, v)?;
     match signed::signed(p, signed::balanced_low(p), v) {
-        signed::SignedAnswer::Record(z) => print_record(out, z)?,
-        signed::SignedAnswer::Refused(kind) => print_refused(out, kind)?,
+        Ok(z) => print_record(out, z)?,
+        Err(kind) => print_refused(out, kind)?,
     }
     print_end(out)
 }
@@ -94,8 +94,8 @@ fn print_residue(out: &impl Print, p: u32, z: i32) -> io::Result<()>
     print_number(out, p)?;
     print_record(out, z)?;
     match signed::residue(p, signed::balanced_low(p), z) {
-        signed::ResidueAnswer::Residue(v) => print_number(out, v)?,
-        signed::ResidueAnswer::Refused(kind) => print_refused(out, kind)?,
+        Ok(v) => print_number(out, v)?,
+        Err(kind) => print_refused(out, kind)?,
     }
     print_end(out)
 }

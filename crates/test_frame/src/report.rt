@@ -11,24 +11,24 @@ pub const FRAMES: usize = 13;
 
 pub const REWRITTEN: usize = 14;
 
-pub fn read_told(answer: ReadAnswer) -> Told {
+pub fn read_told(answer: Result<u32, Refusal>) -> Told {
     match answer {
-        ReadAnswer::Words(s) => told::done(s),
-        ReadAnswer::Refused(kind) => told::refused(kind),
+        Ok(s) => told::done(s),
+        Err(kind) => told::refused(kind),
     }
 }
 
-pub fn write_told(answer: WriteAnswer) -> Told {
+pub fn write_told(answer: Result<u32, Refusal>) -> Told {
     match answer {
-        WriteAnswer::Length(length) => told::done(length),
-        WriteAnswer::Refused(kind) => told::refused(kind),
+        Ok(length) => told::done(length),
+        Err(kind) => told::refused(kind),
     }
 }
 
-pub fn seal_told(answer: SealAnswer) -> Told {
+pub fn seal_told(answer: Result<u32, Refusal>) -> Told {
     match answer {
-        SealAnswer::Words(s) => told::done(s),
-        SealAnswer::Refused(kind) => told::refused(kind),
+        Ok(s) => told::done(s),
+        Err(kind) => told::refused(kind),
     }
 }
 

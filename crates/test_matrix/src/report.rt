@@ -25,10 +25,10 @@ pub const NOT_INNER: usize = 8;
 pub const NOT_OUTER: usize = 9;
 
 // The number that document 01 gives an answer.
-pub fn number_of(answer: TableAnswer) -> u32 {
+pub fn number_of(answer: Result<u32, Refusal>) -> u32 {
     match answer {
-        TableAnswer::Done(result) => told::number_of(result),
-        TableAnswer::Refused(kind) => checks::number_of(kind),
+        Ok(result) => told::number_of(result),
+        Err(kind) => checks::number_of(kind),
     }
 }
 

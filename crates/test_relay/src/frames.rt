@@ -10,10 +10,10 @@ fn header_word(board: &[u32], place: usize) -> u32 {
 }
 
 // Whether reading was not refused.
-fn is_read(answer: ReadAnswer) -> bool {
+fn is_read(answer: Result<u32, Refusal>) -> bool {
     match answer {
-        ReadAnswer::Words(_) => true,
-        ReadAnswer::Refused(_) => false,
+        Ok(_) => true,
+        Err(_) => false,
     }
 }
 

@@ -24,10 +24,10 @@ pub const REPEATS: usize = 7;
 pub const READS: usize = 8;
 
 // The number of an answer: 200 plus the frame's length, or that of the refusal.
-pub fn number_of(answer: WriteAnswer) -> u32 {
+pub fn number_of(answer: Result<u32, Refusal>) -> u32 {
     match answer {
-        WriteAnswer::Length(length) => told::number_of(length),
-        WriteAnswer::Refused(kind) => checks::number_of(kind),
+        Ok(length) => told::number_of(length),
+        Err(kind) => checks::number_of(kind),
     }
 }
 
@@ -40,11 +40,11 @@ pub fn length_of(number: u32) -> usize {
 }
 
 // Whether a take is answered repeat, with this count.
-pub fn is_repeat(answer: TakeAnswer, count: u32) -> bool {
+pub fn is_repeat(answer: Result<Taken, Refusal>, count: u32) -> bool {
     match answer {
-        TakeAnswer::New(_) => false,
-        TakeAnswer::Repeat(stand) => stand == count,
-        TakeAnswer::Refused(_) => false,
+        Ok(Taken::New(_)) => false,
+        Ok(Taken::Repeat(stand)) => stand == count,
+        Err(_) => false,
     }
 }
 

@@ -10,8 +10,9 @@ use borrow.Author.Tests.{not-false}
 use Rattle.algebra.proofs.Answers.{guard_left, guard_taken}
 use Rattle.ledger.specs.Board.{IsBoard, modulus_word, size_word, values_word}
 use Rattle.checks.specs.Outcome.{outcome}
+use Rattle.checks.proofs.PassedOn.{refused_on}
 use Rattle.frame.specs.Reading.{read_frame}
-use Rattle.frame.specs.Told.{read_told}
+use Rattle.checks.specs.Told.{result_told}
 use Rattle.frame.specs.Calls.{read_outcome}
 use Rattle.frame.proofs.Round.{Numbers}
 use Rattle.ledger.proofs.WordsCalls.{take_off_board}
@@ -20,7 +21,7 @@ use Rattle.board_words.proofs.TestBoard.{board_laid}
 use Rattle.board_solve.specs.Combination.{IsCandidate}
 use Rattle.board_calls.proofs.CallTake.{take_no_length, numbers_found, row_inside, row_long, row_for, values_for, take_unread, take_read}
 use Rattle.board_calls.proofs.take.Goals as goal
-use Rattle.board_calls.proofs.take.Goals.{After-read_frame-read, After-row_room-v, Else-not-candidate, Else-not-is_laid_out, In-Words}
+use Rattle.board_calls.proofs.take.Goals.{After-read_frame-read, After-row_room-v, Else-not-candidate, Else-not-is_laid_out, In_ok-read}
 
 -- past the first test the words are laid out as a board's
 laid : (c : Else-not-is_laid_out) → LaidOut c.args.board.now
@@ -69,20 +70,20 @@ answered : (c : After-read_frame-read) → (values-room-long : let s = values_wo
     let ws = a.board.now in
     let room : List ℕ × List ℕ =
     (take (size_word ws) c.row_room-f.result, take (values_word ws) c.row_room-v.result) in
-    outcome (read_told c.read_frame-read.result) (c.read_frame-read.new.multipliers, c.read_frame-read.new.values)
+    outcome (result_told c.read_frame-read.result) (c.read_frame-read.new.multipliers, c.read_frame-read.new.values)
     ≡ read_outcome (values_word ws) room (read_frame (modulus_word ws) (size_word ws) (values_word ws) a.frame.now)
 answered c values-room-long = rw (values-room-long) at c.read_frame-read.ensures
 
 -- the numbers that reading found
-numbers : (c : In-Words) → (laid : LaidOut c.args.board.now) → (answered : let a = c.args in
+numbers : (c : In_ok-read) → (laid : LaidOut c.args.board.now) → (answered : let a = c.args in
     let ws = a.board.now in
     let room : List ℕ × List ℕ =
     (take (size_word ws) c.row_room-f.result, take (values_word ws) c.row_room-v.result) in
-    outcome (read_told c.read_frame-read.result) (c.read_frame-read.new.multipliers, c.read_frame-read.new.values)
+    outcome (result_told c.read_frame-read.result) (c.read_frame-read.new.multipliers, c.read_frame-read.new.values)
     ≡ read_outcome (values_word ws) room (read_frame (modulus_word ws) (size_word ws) (values_word ws) a.frame.now)) → let a = c.args in
     let ws = a.board.now in
     Numbers (modulus_word ws) (size_word ws) (values_word ws) c.read_frame-read.new.multipliers c.read_frame-read.new.values
-numbers c laid answered = numbers_found _ _ _ _ _ _ _ _ (omega (arith, laid.header.prime.prime.two_or_more)) (answered) _ c.in-Words.is
+numbers c laid answered = numbers_found _ _ _ _ _ _ _ _ (omega (arith, laid.header.prime.prime.two_or_more)) (answered) _ c.in_ok-read.was
 
 pub returns-then-not-is_laid_out : goal.returns-then-not-is_laid_out
 returns-then-not-is_laid_out c = sym (take_off_board _ (λ b. guard_taken c.is_laid_out.ensures c.if-not-is_laid_out.true-raw (board_laid b)) _ _)
@@ -134,21 +135,21 @@ returns-then-not-candidate c = sym (take_off_board _ (guard_taken c.candidate.en
 pub returns-then-mix-n : goal.returns-then-mix-n
 returns-then-mix-n c = take_no_length _ (board (goal.at.returns-then-mix-n c).Else-not-candidate) _ _ c.if-mix-n.true
 
-pub slice_bounds-f-end-in-Words : goal.slice_bounds-f-end-in-Words
-slice_bounds-f-end-in-Words c = multipliers-inside (goal.at.slice_bounds-f-end-in-Words c).After-read_frame-read (written-long (goal.at.slice_bounds-f-end-in-Words c).After-read_frame-read (room_long (goal.at.slice_bounds-f-end-in-Words c).After-row_room-v (laid (goal.at.slice_bounds-f-end-in-Words c).Else-not-is_laid_out)))
+pub slice_bounds-f-end-3 : goal.slice_bounds-f-end-3
+slice_bounds-f-end-3 c = multipliers-inside (goal.at.slice_bounds-f-end-3 c).After-read_frame-read (written-long (goal.at.slice_bounds-f-end-3 c).After-read_frame-read (room_long (goal.at.slice_bounds-f-end-3 c).After-row_room-v (laid (goal.at.slice_bounds-f-end-3 c).Else-not-is_laid_out)))
 
 pub slice_bounds-take_row-end : goal.slice_bounds-take_row-end
 slice_bounds-take_row-end c = sym (front_long (goal.at.slice_bounds-take_row-end c).After-read_frame-read (written-long (goal.at.slice_bounds-take_row-end c).After-read_frame-read (room_long (goal.at.slice_bounds-take_row-end c).After-row_room-v (laid (goal.at.slice_bounds-take_row-end c).Else-not-is_laid_out))))
 
-pub slice_bounds-v-end-in-Words : goal.slice_bounds-v-end-in-Words
-slice_bounds-v-end-in-Words c = values_inside (goal.at.slice_bounds-v-end-in-Words c).After-read_frame-read (values-written-long (goal.at.slice_bounds-v-end-in-Words c).After-read_frame-read (values-room-long (goal.at.slice_bounds-v-end-in-Words c).After-row_room-v (laid (goal.at.slice_bounds-v-end-in-Words c).Else-not-is_laid_out)))
+pub slice_bounds-v-end-2 : goal.slice_bounds-v-end-2
+slice_bounds-v-end-2 c = values_inside (goal.at.slice_bounds-v-end-2 c).After-read_frame-read (values-written-long (goal.at.slice_bounds-v-end-2 c).After-read_frame-read (values-room-long (goal.at.slice_bounds-v-end-2 c).After-row_room-v (laid (goal.at.slice_bounds-v-end-2 c).Else-not-is_laid_out)))
 
-pub slice_bounds-take_row-end-in-Words : goal.slice_bounds-take_row-end-in-Words
-slice_bounds-take_row-end-in-Words c = sym (values_long (goal.at.slice_bounds-take_row-end-in-Words c).After-read_frame-read (values-written-long (goal.at.slice_bounds-take_row-end-in-Words c).After-read_frame-read (values-room-long (goal.at.slice_bounds-take_row-end-in-Words c).After-row_room-v (laid (goal.at.slice_bounds-take_row-end-in-Words c).Else-not-is_laid_out))))
+pub slice_bounds-take_row-end-2 : goal.slice_bounds-take_row-end-2
+slice_bounds-take_row-end-2 c = sym (values_long (goal.at.slice_bounds-take_row-end-2 c).After-read_frame-read (values-written-long (goal.at.slice_bounds-take_row-end-2 c).After-read_frame-read (values-room-long (goal.at.slice_bounds-take_row-end-2 c).After-row_room-v (laid (goal.at.slice_bounds-take_row-end-2 c).Else-not-is_laid_out))))
 
 pub take_row-requires : goal.take_row-requires
 take_row-requires c =
-    let x = numbers (goal.at.take_row-requires c).In-Words (laid (goal.at.take_row-requires c).Else-not-is_laid_out) (answered (goal.at.take_row-requires c).After-read_frame-read (values-room-long (goal.at.take_row-requires c).After-row_room-v (laid (goal.at.take_row-requires c).Else-not-is_laid_out))) in
+    let x = numbers (goal.at.take_row-requires c).In_ok-read (laid (goal.at.take_row-requires c).Else-not-is_laid_out) (answered (goal.at.take_row-requires c).After-read_frame-read (values-room-long (goal.at.take_row-requires c).After-row_room-v (laid (goal.at.take_row-requires c).Else-not-is_laid_out))) in
     let ws = c.args.board.now in
     let written = c.read_frame-read.new.multipliers in
     let written_values = c.read_frame-read.new.values in
@@ -159,8 +160,8 @@ take_row-requires c =
       mix_long = c.if-mix-n.false;
     }
 
-pub returns-in-Words : goal.returns-in-Words
-returns-in-Words c = take_read _ (board (goal.at.returns-in-Words c).Else-not-candidate) _ _ c.if-mix-n.false _ _ _ _ (answered (goal.at.returns-in-Words c).After-read_frame-read (values-room-long (goal.at.returns-in-Words c).After-row_room-v (laid (goal.at.returns-in-Words c).Else-not-is_laid_out))) _ c.in-Words.is _ _ _ c.take_row.ensures
+pub returns : goal.returns
+returns c = take_read _ (board (goal.at.returns c).Else-not-candidate) _ _ c.if-mix-n.false _ _ _ _ (answered (goal.at.returns c).After-read_frame-read (values-room-long (goal.at.returns c).After-row_room-v (laid (goal.at.returns c).Else-not-is_laid_out))) _ c.in_ok-read.was _ _ _ c.take_row.ensures
 
-pub returns-in-Refused : goal.returns-in-Refused
-returns-in-Refused c = take_unread _ (board (goal.at.returns-in-Refused c).Else-not-candidate) _ _ c.if-mix-n.false _ _ _ _ (answered (goal.at.returns-in-Refused c).After-read_frame-read (values-room-long (goal.at.returns-in-Refused c).After-row_room-v (laid (goal.at.returns-in-Refused c).Else-not-is_laid_out))) c.in-Refused.kind c.in-Refused.is
+pub returns-in_err-read : goal.returns-in_err-read
+returns-in_err-read c = rw (refused_on c.from_residual.result c.from_residual.ensures.1) (take_unread _ (board (goal.at.returns-in_err-read c).Else-not-candidate) _ _ c.if-mix-n.false _ _ _ _ (answered (goal.at.returns-in_err-read c).After-read_frame-read (values-room-long (goal.at.returns-in_err-read c).After-row_room-v (laid (goal.at.returns-in_err-read c).Else-not-is_laid_out))) c.in_err-read.field-0.0 c.in_err-read.was)

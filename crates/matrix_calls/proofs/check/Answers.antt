@@ -1,18 +1,17 @@
 -- `matrix_calls::check` meets its contract: the refusal by the first check that fails, or the rank where both products are right.
-use mathlib.Core.Path.{subst}
+use Rattle.checks.proofs.PassedOn.{refused_on}
 use mathlib.Core.List.{List}
 use Prim.Native.Nat.{ℕ}
 use native.Mathlib.Omega.{arith}
 use Rattle.algebra.proofs.Answers.{guard_left, guard_taken}
 use Rattle.checks.specs.InOrder.{AllHold}
-use Rattle.checks.specs.Sizes.{Judges}
 use Rattle.checks.proofs.InOrder.{given}
 use Rattle.matrix.specs.Calls.{pair_checks}
 use Rattle.matrix.specs.Parts.{Checked}
 use Rattle.matrix.proofs.Answers.{pair_given, check_refused, check_not_inner, check_not_outer, check_done}
 use Rattle.matrix_check.specs.Rows.{Pair}
 use Rattle.matrix_calls.proofs.check.Goals as goal
-use Rattle.matrix_calls.proofs.check.Goals.{In_default, Start}
+use Rattle.matrix_calls.proofs.check.Goals.{In_ok-pair_checks, Start}
 
 -- two tables that have passed the checks can be multiplied, either way round
 pair_of : {p m n : ℕ} {a d : List ℕ} → Checked p m n a → Checked p n m d → Pair p m n a d
@@ -29,36 +28,36 @@ pair_of k l =
     }
 
 -- all of it holds: both are tables
-passed : (c : In_default) → AllHold (let a = c.args in pair_checks a.p a.m a.n a.a.now a.d.now)
-passed c = subst (Judges (let a = c.args in pair_checks a.p a.m a.n a.a.now a.d.now)) c.in_default.is c.pair_checks.ensures
+passed : (c : In_ok-pair_checks) → AllHold (let a = c.args in pair_checks a.p a.m a.n a.a.now a.d.now)
+passed c = c.in_ok-pair_checks.ensures
 
-tables : (c : In_default) → let a = c.args in Checked a.p a.m a.n a.a.now × Checked a.p a.n a.m a.d.now
+tables : (c : In_ok-pair_checks) → let a = c.args in Checked a.p a.m a.n a.a.now × Checked a.p a.n a.m a.d.now
 tables c = let a = c.args in pair_given a.p a.m a.n a.a.now a.d.now (given (passed c))
 
-pairs : (c : In_default) → let a = c.args in Pair a.p a.m a.n a.a.now a.d.now × Pair a.p a.n a.m a.d.now a.a.now
+pairs : (c : In_ok-pair_checks) → let a = c.args in Pair a.p a.m a.n a.a.now a.d.now × Pair a.p a.n a.m a.d.now a.a.now
 pairs c = let (k, l) = tables c in (pair_of k l, pair_of l k)
 
-pub returns-in-Refused : goal.returns-in-Refused
-returns-in-Refused c = check_refused _ _ _ _ _ (subst (Judges (let a = c.args in pair_checks a.p a.m a.n a.a.now a.d.now)) c.in-Refused.is c.pair_checks.ensures)
+pub returns-in_err-pair_checks : goal.returns-in_err-pair_checks
+returns-in_err-pair_checks c = rw (refused_on c.from_residual.result c.from_residual.ensures.1) (check_refused _ _ _ _ _ (c.in_err-pair_checks.ensures))
 
 pub absorbs-requires : goal.absorbs-requires
-absorbs-requires c = search ((pairs (goal.at.absorbs-requires c).In_default).0, (pairs (goal.at.absorbs-requires c).In_default).1)
+absorbs-requires c = search ((pairs (goal.at.absorbs-requires c).In_ok-pair_checks).0, (pairs (goal.at.absorbs-requires c).In_ok-pair_checks).1)
 
 pub returns-then-not-absorbs : goal.returns-then-not-absorbs
-returns-then-not-absorbs c = check_not_inner _ _ _ _ _ (passed (goal.at.returns-then-not-absorbs c).In_default) (guard_taken c.absorbs.ensures c.if-not-absorbs.true-raw)
+returns-then-not-absorbs c = check_not_inner _ _ _ _ _ (passed (goal.at.returns-then-not-absorbs c).In_ok-pair_checks) (guard_taken c.absorbs.ensures c.if-not-absorbs.true-raw)
 
 pub absorbs-requires-2 : goal.absorbs-requires-2
-absorbs-requires-2 c = search ((pairs (goal.at.absorbs-requires-2 c).In_default).0, (pairs (goal.at.absorbs-requires-2 c).In_default).1)
+absorbs-requires-2 c = search ((pairs (goal.at.absorbs-requires-2 c).In_ok-pair_checks).0, (pairs (goal.at.absorbs-requires-2 c).In_ok-pair_checks).1)
 
 pub returns-then-not-absorbs-2 : goal.returns-then-not-absorbs-2
 returns-then-not-absorbs-2 c =
-    check_not_outer _ _ _ _ _ (passed (goal.at.returns-then-not-absorbs-2 c).In_default) (guard_left c.absorbs.ensures c.if-not-absorbs.false-raw)
+    check_not_outer _ _ _ _ _ (passed (goal.at.returns-then-not-absorbs-2 c).In_ok-pair_checks) (guard_left c.absorbs.ensures c.if-not-absorbs.false-raw)
     (guard_taken c.absorbs-2.ensures c.if-not-absorbs-2.true-raw)
 
 pub rank_of-requires : goal.rank_of-requires
-rank_of-requires c = (tables (goal.at.rank_of-requires c).In_default).0
+rank_of-requires c = (tables (goal.at.rank_of-requires c).In_ok-pair_checks).0
 
 pub returns : goal.returns
 returns c =
-    check_done _ _ _ _ _ (passed (goal.at.returns c).In_default) (guard_left c.absorbs.ensures c.if-not-absorbs.false-raw)
+    check_done _ _ _ _ _ (passed (goal.at.returns c).In_ok-pair_checks) (guard_left c.absorbs.ensures c.if-not-absorbs.false-raw)
     (guard_left c.absorbs-2.ensures c.if-not-absorbs-2.false-raw) _ c.rank_of.ensures

@@ -1,24 +1,23 @@
 -- `matrix_calls::fit` meets its contract: the refusal by the first check that fails, or the nearest fit and its remainder.
-use mathlib.Core.Path.{subst}
+use Rattle.checks.proofs.PassedOn.{refused_on}
 use Rattle.checks.specs.InOrder.{AllHold}
-use Rattle.checks.specs.Sizes.{Judges}
 use Rattle.checks.proofs.InOrder.{given}
 use Rattle.matrix.specs.Calls.{system_checks}
 use Rattle.matrix.proofs.Answers.{table_given, system_given, fit_refused, fit_done}
 use Rattle.matrix_calls.proofs.fit.Goals as goal
-use Rattle.matrix_calls.proofs.fit.Goals.{In_default, Start}
+use Rattle.matrix_calls.proofs.fit.Goals.{In_ok-system_checks, Start}
 
 -- all of it holds
-passed : (c : In_default) → AllHold (let a = c.args in system_checks a.p a.m a.n a.a.now a.w.now a.z.now a.rest.now)
-passed c = subst (Judges (let a = c.args in system_checks a.p a.m a.n a.a.now a.w.now a.z.now a.rest.now)) c.in_default.is c.system_checks.ensures
+passed : (c : In_ok-system_checks) → AllHold (let a = c.args in system_checks a.p a.m a.n a.a.now a.w.now a.z.now a.rest.now)
+passed c = c.in_ok-system_checks.ensures
 
-pub returns-in-Refused : goal.returns-in-Refused
-returns-in-Refused c = fit_refused _ _ _ _ _ _ _ (subst (Judges (let a = c.args in system_checks a.p a.m a.n a.a.now a.w.now a.z.now a.rest.now)) c.in-Refused.is c.system_checks.ensures)
+pub returns-in_err-system_checks : goal.returns-in_err-system_checks
+returns-in_err-system_checks c = rw (refused_on c.from_residual.result c.from_residual.ensures.1) (fit_refused _ _ _ _ _ _ _ (c.in_err-system_checks.ensures))
 
 pub fit_of-requires : goal.fit_of-requires
 fit_of-requires c =
     let a = c.args in
-    let hs = given (passed (goal.at.fit_of-requires c).In_default) in (
+    let hs = given (passed (goal.at.fit_of-requires c).In_ok-system_checks) in (
       table_given a.p a.m a.n a.a.now a.w.now a.z.now a.rest.now hs,
       system_given a.p a.m a.n a.a.now a.w.now a.z.now a.rest.now hs,
     )
@@ -30,4 +29,4 @@ pub shape_of-rest : goal.shape_of-rest
 shape_of-rest c = c.fit_of.auto.rest
 
 pub returns : goal.returns
-returns c = fit_done _ _ _ _ _ _ _ _ _ _ (passed (goal.at.returns c).In_default) c.fit_of.ensures
+returns c = fit_done _ _ _ _ _ _ _ _ _ _ (passed (goal.at.returns c).In_ok-system_checks) c.fit_of.ensures

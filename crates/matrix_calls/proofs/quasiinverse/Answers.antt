@@ -1,56 +1,57 @@
 -- `matrix_calls::quasiinverse` meets its contract: each return is the refusal by the first check that fails, or D, I and J with the
 -- rank.
+use Rattle.checks.proofs.PassedOn.{refused_on}
 use native.Mathlib.Omega.{arith}
 use Rattle.algebra.proofs.Answers.{guard_left, guard_taken}
 use Rattle.checks.specs.InOrder.{Given}
 use Rattle.checks.specs.Sizes.{table_sizes}
-use Rattle.checks.proofs.InOrder.{fails_here, ◌then◌}
+use Rattle.checks.proofs.InOrder.{given, fails_here, ◌then◌}
 use Rattle.matrix.specs.Parts.{Checked, InverseRoom}
-use Rattle.checks.proofs.TableSizes.{past_sizes, sizes_passed, sizes_failed}
+use Rattle.checks.proofs.TableSizes.{past_sizes, sizes_first}
 use Rattle.matrix.proofs.Answers.{passes_all, quasiinverse_refused, quasiinverse_done}
 use Rattle.matrix.proofs.Memory.{table_most}
 use Rattle.matrix_calls.proofs.quasiinverse.Goals as goal
-use Rattle.matrix_calls.proofs.quasiinverse.Goals.{Else-not-all_below, In_default}
+use Rattle.matrix_calls.proofs.quasiinverse.Goals.{Else-not-all_below, In_ok-table_sizes}
 
-sized : (c : In_default) → Given (table_sizes c.args.p c.args.m c.args.n)
-sized c = sizes_passed c.table_sizes.ensures c.in_default.is
+sized : (c : In_ok-table_sizes) → Given (table_sizes c.args.p c.args.m c.args.n)
+sized c = given c.in_ok-table_sizes.ensures
 
-pub returns-in-Refused : goal.returns-in-Refused
-returns-in-Refused c = quasiinverse_refused _ _ _ _ _ _ _ (sizes_failed c.table_sizes.ensures c.in-Refused.is)
+pub returns-in_err-table_sizes : goal.returns-in_err-table_sizes
+returns-in_err-table_sizes c = rw (refused_on c.from_residual.result c.from_residual.ensures.1) (quasiinverse_refused _ _ _ _ _ _ _ (sizes_first c.in_err-table_sizes.ensures))
 
 pub overflow_mul-height : goal.overflow_mul-height
 overflow_mul-height c =
     let a = c.args in
-    let s = (sized (goal.at.overflow_mul-height c).In_default).1.0 in
+    let s = (sized (goal.at.overflow_mul-height c).In_ok-table_sizes).1.0 in
     omega (arith, table_most a.m a.n s.0 s.1)
 
 pub returns-then-a-height : goal.returns-then-a-height
-returns-then-a-height c = quasiinverse_refused _ _ _ _ _ _ _ (past_sizes (sized (goal.at.returns-then-a-height c).In_default) (fails_here c.if-a-height.true))
+returns-then-a-height c = quasiinverse_refused _ _ _ _ _ _ _ (past_sizes (sized (goal.at.returns-then-a-height c).In_ok-table_sizes) (fails_here c.if-a-height.true))
 
 pub overflow_mul-width : goal.overflow_mul-width
 overflow_mul-width c =
     let a = c.args in
-    let s = (sized (goal.at.overflow_mul-width c).In_default).1.0 in
+    let s = (sized (goal.at.overflow_mul-width c).In_ok-table_sizes).1.0 in
     omega (arith, table_most a.n a.m s.1 s.0)
 
 pub returns-then-d-width : goal.returns-then-d-width
-returns-then-d-width c = quasiinverse_refused _ _ _ _ _ _ _ (past_sizes (sized (goal.at.returns-then-d-width c).In_default) (c.if-a-height.false then fails_here c.if-d-width.true))
+returns-then-d-width c = quasiinverse_refused _ _ _ _ _ _ _ (past_sizes (sized (goal.at.returns-then-d-width c).In_ok-table_sizes) (c.if-a-height.false then fails_here c.if-d-width.true))
 
 pub returns-then-columns-width : goal.returns-then-columns-width
 returns-then-columns-width c =
     quasiinverse_refused _ _ _ _ _ _ _
-    (past_sizes (sized (goal.at.returns-then-columns-width c).In_default) (c.if-a-height.false then c.if-d-width.false then fails_here c.if-columns-width.true))
+    (past_sizes (sized (goal.at.returns-then-columns-width c).In_ok-table_sizes) (c.if-a-height.false then c.if-d-width.false then fails_here c.if-columns-width.true))
 
 pub returns-then-rows-height : goal.returns-then-rows-height
 returns-then-rows-height c =
     quasiinverse_refused _ _ _ _ _ _ _
-    (past_sizes (sized (goal.at.returns-then-rows-height c).In_default)
+    (past_sizes (sized (goal.at.returns-then-rows-height c).In_ok-table_sizes)
     (c.if-a-height.false then c.if-d-width.false then c.if-columns-width.false then fails_here c.if-rows-height.true))
 
 pub returns-then-not-all_below : goal.returns-then-not-all_below
 returns-then-not-all_below c =
     quasiinverse_refused _ _ _ _ _ _ _
-    (past_sizes (sized (goal.at.returns-then-not-all_below c).In_default)
+    (past_sizes (sized (goal.at.returns-then-not-all_below c).In_ok-table_sizes)
     (c.if-a-height.false
     then c.if-d-width.false
     then c.if-columns-width.false
@@ -67,7 +68,7 @@ room : (c : Else-not-all_below) → InverseRoom c.args.m c.args.n c.args.d.now c
 room c = record { d_long = c.if-d-width.false; columns_long = c.if-columns-width.false; rows_long = c.if-rows-height.false }
 
 pub invert_ranked-requires : goal.invert_ranked-requires
-invert_ranked-requires c = (checked (goal.at.invert_ranked-requires c).Else-not-all_below (sized (goal.at.invert_ranked-requires c).In_default), room (goal.at.invert_ranked-requires c).Else-not-all_below)
+invert_ranked-requires c = (checked (goal.at.invert_ranked-requires c).Else-not-all_below (sized (goal.at.invert_ranked-requires c).In_ok-table_sizes), room (goal.at.invert_ranked-requires c).Else-not-all_below)
 
 pub shape_of-d : goal.shape_of-d
 shape_of-d c = c.invert_ranked.auto.d
@@ -81,4 +82,4 @@ shape_of-rows c = c.invert_ranked.auto.rows
 pub returns : goal.returns
 returns c =
     let e = c.invert_ranked.ensures in
-    quasiinverse_done _ _ _ _ _ _ _ _ _ _ _ (checked (goal.at.returns c).Else-not-all_below (sized (goal.at.returns c).In_default)) (room (goal.at.returns c).Else-not-all_below) (λ ok. (e ok).0) (λ ok. (e ok).1)
+    quasiinverse_done _ _ _ _ _ _ _ _ _ _ _ (checked (goal.at.returns c).Else-not-all_below (sized (goal.at.returns c).In_ok-table_sizes)) (room (goal.at.returns c).Else-not-all_below) (λ ok. (e ok).0) (λ ok. (e ok).1)

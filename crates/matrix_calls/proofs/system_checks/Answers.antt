@@ -1,45 +1,46 @@
 -- `matrix_calls::system_checks` meets its contract: each return is the first check that fails, or that all hold.
+use Rattle.checks.proofs.PassedOn.{refused_on}
 use native.Mathlib.Omega.{arith}
 use Rattle.algebra.proofs.Answers.{guard_left, guard_taken}
 use Rattle.checks.specs.InOrder.{Given}
 use Rattle.checks.specs.Sizes.{table_sizes}
-use Rattle.checks.proofs.InOrder.{fails_here, ◌then◌}
+use Rattle.checks.proofs.InOrder.{given, fails_here, ◌then◌}
 use Rattle.matrix.specs.Parts.{Checked, System}
-use Rattle.checks.proofs.TableSizes.{past_sizes, sizes_passed, sizes_failed}
+use Rattle.checks.proofs.TableSizes.{past_sizes, sizes_first}
 use Rattle.matrix.proofs.Answers.{passes_all, system_hold}
 use Rattle.matrix.proofs.Memory.{table_most}
 use Rattle.matrix_calls.proofs.system_checks.Goals as goal
-use Rattle.matrix_calls.proofs.system_checks.Goals.{Else-not-all_below, Else-not-all_below-2, In_default}
+use Rattle.matrix_calls.proofs.system_checks.Goals.{Else-not-all_below, Else-not-all_below-2, In_ok-table_sizes}
 
-sized : (c : In_default) → Given (table_sizes c.args.p c.args.m c.args.n)
-sized c = sizes_passed c.table_sizes.ensures c.in_default.is
+sized : (c : In_ok-table_sizes) → Given (table_sizes c.args.p c.args.m c.args.n)
+sized c = given c.in_ok-table_sizes.ensures
 
-pub returns-in-Refused : goal.returns-in-Refused
-returns-in-Refused c = sizes_failed c.table_sizes.ensures c.in-Refused.is
+pub returns-in_err-table_sizes : goal.returns-in_err-table_sizes
+returns-in_err-table_sizes c = rw (refused_on c.from_residual.result c.from_residual.ensures.1) (sizes_first c.in_err-table_sizes.ensures)
 
 pub overflow_mul-height : goal.overflow_mul-height
 overflow_mul-height c =
     let a = c.args in
-    let s = (sized (goal.at.overflow_mul-height c).In_default).1.0 in
+    let s = (sized (goal.at.overflow_mul-height c).In_ok-table_sizes).1.0 in
     omega (arith, table_most a.m a.n s.0 s.1)
 
 pub returns-then-a-height : goal.returns-then-a-height
-returns-then-a-height c = past_sizes (sized (goal.at.returns-then-a-height c).In_default) (fails_here c.if-a-height.true)
+returns-then-a-height c = past_sizes (sized (goal.at.returns-then-a-height c).In_ok-table_sizes) (fails_here c.if-a-height.true)
 
 pub returns-then-w-height : goal.returns-then-w-height
-returns-then-w-height c = past_sizes (sized (goal.at.returns-then-w-height c).In_default) (c.if-a-height.false then fails_here c.if-w-height.true)
+returns-then-w-height c = past_sizes (sized (goal.at.returns-then-w-height c).In_ok-table_sizes) (c.if-a-height.false then fails_here c.if-w-height.true)
 
 pub returns-then-z-width : goal.returns-then-z-width
-returns-then-z-width c = past_sizes (sized (goal.at.returns-then-z-width c).In_default) (c.if-a-height.false then c.if-w-height.false then fails_here c.if-z-width.true)
+returns-then-z-width c = past_sizes (sized (goal.at.returns-then-z-width c).In_ok-table_sizes) (c.if-a-height.false then c.if-w-height.false then fails_here c.if-z-width.true)
 
 pub returns-then-u-height : goal.returns-then-u-height
 returns-then-u-height c =
-    past_sizes (sized (goal.at.returns-then-u-height c).In_default)
+    past_sizes (sized (goal.at.returns-then-u-height c).In_ok-table_sizes)
     (c.if-a-height.false then c.if-w-height.false then c.if-z-width.false then fails_here c.if-u-height.true)
 
 pub returns-then-not-all_below : goal.returns-then-not-all_below
 returns-then-not-all_below c =
-    past_sizes (sized (goal.at.returns-then-not-all_below c).In_default)
+    past_sizes (sized (goal.at.returns-then-not-all_below c).In_ok-table_sizes)
     (c.if-a-height.false
     then c.if-w-height.false
     then c.if-z-width.false
@@ -53,8 +54,8 @@ checked c sized =
 
 pub returns-then-not-all_below-2 : goal.returns-then-not-all_below-2
 returns-then-not-all_below-2 c =
-    let k = checked (goal.at.returns-then-not-all_below-2 c).Else-not-all_below (sized (goal.at.returns-then-not-all_below-2 c).In_default) in
-    past_sizes (sized (goal.at.returns-then-not-all_below-2 c).In_default)
+    let k = checked (goal.at.returns-then-not-all_below-2 c).Else-not-all_below (sized (goal.at.returns-then-not-all_below-2 c).In_ok-table_sizes) in
+    past_sizes (sized (goal.at.returns-then-not-all_below-2 c).In_ok-table_sizes)
     (k.a_long
     then c.if-w-height.false
     then c.if-z-width.false
@@ -73,4 +74,4 @@ system c =
     }
 
 pub returns : goal.returns
-returns c = system_hold _ _ _ _ _ _ _ (checked (goal.at.returns c).Else-not-all_below (sized (goal.at.returns c).In_default)) (system (goal.at.returns c).Else-not-all_below-2)
+returns c = system_hold _ _ _ _ _ _ _ (checked (goal.at.returns c).Else-not-all_below (sized (goal.at.returns c).In_ok-table_sizes)) (system (goal.at.returns c).Else-not-all_below-2)

@@ -1,22 +1,14 @@
--- `sheet_text::refusal_line` meets its contract: the kind with the number 9 is a conflict, any other is refused.
-use mathlib.Core.Path.{sym, ◌∙◌}
-use native.Mathlib.Omega.{arith}
+-- `sheet_text::refusal_line` meets its contract: a conflict has the count, any other kind its number.
+use mathlib.Core.Path.{sym}
+use Rattle.checks.proofs.Refusals.{conflict_number_only}
 use Rattle.sheet_text.specs.Lines.{conflict_word, refused_word}
 use Rattle.sheet_text.proofs.Answers.{conflict_answer, refused_answer}
 use Rattle.sheet_text.proofs.Written.{put_line}
 use Rattle.sheet_text.proofs.refusal_line.Goals as goal
 
-pub returns-then-number-eq9 : goal.returns-then-number-eq9
+pub returns-in-Conflict : goal.returns-in-Conflict
 unfolding conflict_word
-returns-then-number-eq9 c =
-    let a = c.args in
-    let nine = sym c.number_of-number.ensures ∙ c.if-number-eq9.true in
-    rw (conflict_answer a.kind a.count nine) (put_line c.word_line.ensures)
+returns-in-Conflict c = rw (c.in-Conflict.is, conflict_answer) (put_line c.word_line.ensures)
 
-pub returns : goal.returns
-unfolding refused_word
-returns c =
-    let a = c.args in
-    let number = c.number_of-number.ensures in
-    rw (refused_answer a.kind a.count (λ e. omega (arith, number, e)))
-    (put_line (rw number at c.word_line-2.ensures))
+pub returns-in_default : goal.returns-in_default
+returns-in_default c = rw (refused_answer c.args.kind c.args.count (λ e. c.in_default.not-Conflict (conflict_number_only c.args.kind e))) c.refused_line.ensures

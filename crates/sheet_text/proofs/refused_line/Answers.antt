@@ -5,4 +5,4 @@ use Rattle.sheet_text.proofs.refused_line.Goals as goal
 
 pub returns : goal.returns
 unfolding refused_word
-returns c = put_line (rw c.number_of.ensures at c.word_line.ensures)
+returns c = put_line (rw c.from.ensures at c.word_line.ensures)

@@ -7,6 +7,7 @@ use lib.ListN.{length, drop}
 use Rattle.algebra.proofs.Answers.{guard_left, guard_taken}
 use Rattle.checks.specs.Largest.{largest}
 use Rattle.checks.specs.Sizes.{Judges}
+use Rattle.checks.proofs.PassedOn.{refused_on}
 use Rattle.frame.specs.Width.{width}
 use Rattle.frame.specs.Format.{map_length}
 use Rattle.frame.specs.Bitmap.{ClearFrom}
@@ -113,24 +114,24 @@ fill_values-requires c = (narrow (goal.at.fill_values-requires c).After-width_of
 pub overflow_cast-result : goal.overflow_cast-result
 overflow_cast-result c = omega (arith, c.requires.4)
 
-pub returns-in-Passed : goal.returns-in-Passed
+pub returns : goal.returns
 unfolding map_length
-returns-in-Passed c =
-    let good = subst (Judges _) c.in-Passed.is (answered (goal.at.returns-in-Passed c).After-judged) in
+returns c =
+    let good = subst (Judges _) c.in_ok-judged.was (answered (goal.at.returns c).After-judged) in
     let a = c.args in
     let k = c.standing-count.result in
     let map = c.from_bytes-map.result in
     let wide = c.width_of-w.ensures in
-    frame_accepted _ _ _ _ _ (frame_good _ _ _ _ _ _ (counted (goal.at.returns-in-Passed c).After-width_of-w (mapped (goal.at.returns-in-Passed c).After-from_bytes-map)) (clear (goal.at.returns-in-Passed c).Else-not-unpadded) (long (goal.at.returns-in-Passed c).Else-bytes-end (counted-bytes (goal.at.returns-in-Passed c).After-width_of-w)) good)
+    frame_accepted _ _ _ _ _ (frame_good _ _ _ _ _ _ (counted (goal.at.returns c).After-width_of-w (mapped (goal.at.returns c).After-from_bytes-map)) (clear (goal.at.returns c).Else-not-unpadded) (long (goal.at.returns c).Else-bytes-end (counted-bytes (goal.at.returns c).After-width_of-w)) good)
     (c.fill.ensures
     ∙ ap (λ m. multipliers_from c.width_of-w.result map a.bytes.now (map_length a.n) 0 m) c.requires.3
     ∙ ap (λ x. multipliers_from x map a.bytes.now (map_length a.n) 0 a.n) wide
-    ∙ multipliers_read a.p _ (length a.values.now) _ _ _ (counted (goal.at.returns-in-Passed c).After-width_of-w (mapped (goal.at.returns-in-Passed c).After-from_bytes-map)))
+    ∙ multipliers_read a.p _ (length a.values.now) _ _ _ (counted (goal.at.returns c).After-width_of-w (mapped (goal.at.returns c).After-from_bytes-map)))
     (c.fill_values.ensures
     ∙ ap (λ x. numbers_in x (length a.values.now) (drop (map_length a.n + x * k) a.bytes.now)) wide
-    ∙ values_read a.p _ _ _ _ _ (counted (goal.at.returns-in-Passed c).After-width_of-w (mapped (goal.at.returns-in-Passed c).After-from_bytes-map)) (clear (goal.at.returns-in-Passed c).Else-not-unpadded))
+    ∙ values_read a.p _ _ _ _ _ (counted (goal.at.returns c).After-width_of-w (mapped (goal.at.returns c).After-from_bytes-map)) (clear (goal.at.returns c).Else-not-unpadded))
 
-pub returns-in-Refused : goal.returns-in-Refused
-returns-in-Refused c =
-    let bad = subst (Judges _) c.in-Refused.is (answered (goal.at.returns-in-Refused c).After-judged) in
-    frame_refused _ _ _ _ _ (frame_number _ _ _ _ _ _ (counted (goal.at.returns-in-Refused c).After-width_of-w (mapped (goal.at.returns-in-Refused c).After-from_bytes-map)) (clear (goal.at.returns-in-Refused c).Else-not-unpadded) (long (goal.at.returns-in-Refused c).Else-bytes-end (counted-bytes (goal.at.returns-in-Refused c).After-width_of-w)) bad)
+pub returns-in_err-judged : goal.returns-in_err-judged
+returns-in_err-judged c =
+    let bad = subst (Judges _) c.in_err-judged.was (answered (goal.at.returns-in_err-judged c).After-judged) in
+    rw (refused_on c.from_residual.result c.from_residual.ensures.1) (frame_refused _ _ _ _ _ (frame_number _ _ _ _ _ _ (counted (goal.at.returns-in_err-judged c).After-width_of-w (mapped (goal.at.returns-in_err-judged c).After-from_bytes-map)) (clear (goal.at.returns-in_err-judged c).Else-not-unpadded) (long (goal.at.returns-in_err-judged c).Else-bytes-end (counted-bytes (goal.at.returns-in_err-judged c).After-width_of-w)) bad))
