@@ -63,7 +63,12 @@ fn relay_row(
 // 264 + 4 × s bytes, and the combination to the mix; answers the frame's length. Refused are 11, no board; 3, not n wanted numbers, not n
 // words of mix or not that many bytes; 4, a wanted number not below p; 15, the wanted row is no combination of the standing rows.
 // Whether the rows are independent is told by the elimination that finds the candidate; a wanted row of another length has none.
-pub fn relay(board: &[u32], wanted: &[u32], mix: &mut [u32], bytes: &mut [u8]) -> Result<u32, Refusal>
+pub fn relay(
+    board: &[u32],
+    wanted: &[u32],
+    mix: &mut [u32],
+    bytes: &mut [u8],
+) -> Result<u32, Refusal>
     ensures { outcome (result_told result) (mix.new, bytes.new)
         ≡ relay_call board.now wanted.now mix.old bytes.old }
 {

@@ -6,12 +6,14 @@ use borrow.Author.Tests.{lt-ltb, le-ltb}
 use native.Mathlib.Decide.{dec_lt}
 use lib.ListN.{length-take}
 use Rattle.algebra.specs.Choice.{choose}
+use Rattle.checks.specs.declared.Refusal.{Refusal}
 use Rattle.checks.specs.declared.Refusal.TheVariants.{FrameLength}
+use Rattle.checks.specs.Refusal.{refusal_number}
+use Rattle.checks.proofs.Refusals.{refusal_number_lem}
 use Rattle.checks.specs.Told.{Told, refused, done, gives}
 use Rattle.ledger.specs.Calls.{take_call}
-use Rattle.sheet_text.specs.declared.FrameInput.{FrameInput}
-use Rattle.sheet_text.specs.declared.FrameInput.TheVariants as input
-use Rattle.sheet_text.specs.Input.{frame_told, frame_start, frame_body}
+use Rattle.sheet_text.specs.Lines.{refused_line}
+use Rattle.sheet_text.specs.Input.{frame_start, frame_body}
 use Rattle.sheet_heat.specs.Sheet.{cut_line}
 use Rattle.sheet_heat.specs.Calls.{taken_line, frames_by_calls}
 use Rattle.sheet.specs.Program.{Reads, Writes, FrameText, NextText, frame_by_calls}
@@ -31,19 +33,22 @@ told_whole f size came e = go (dec_lt came size)
         let t = e ∙ ap (λ b. choose b (refused FrameLength) (gives (pos size))) (lt-ltb came size h) in
         absurd (omega (arith, ap (λ (x : Told). x.number) t))
 
--- and every other is cut
-pub told_cut : (r : FrameInput) (size came : ℕ) → frame_told r ≡ frame_body size came → ((f : ℕ) → r ≡ input.Frame f → ⊥) → came < size
+-- and one that is refused is cut, which has the number 6
+pub told_cut : (k : Refusal) (size came : ℕ) → refused k ≡ frame_body size came → (came < size) × (refusal_number k ≡ 6)
 unfolding frame_body
-told_cut r size came e n = go (dec_lt came size)
+told_cut k size came e = go (dec_lt came size)
   where
-    told : (r : FrameInput) → frame_told r ≡ gives (pos size) → ((f : ℕ) → r ≡ input.Frame f → ⊥) → came < size
-    told input.End t n = absurd (omega (arith, ap (λ (x : Told). length x.values) t))
-    told input.Cut t n = absurd (omega (arith, ap (λ (x : Told). x.number) t))
-    told (input.Frame f) t n = absurd (n f refl)
+    go : Dec (came < size) → (came < size) × (refusal_number k ≡ 6)
+    go (yes h) =
+        (h, ap (λ (x : Told). x.number) (e ∙ ap (λ b. choose b (refused FrameLength) (gives (pos size))) (lt-ltb came size h)))
+    go (no m) =
+        let t = e ∙ ap (λ b. choose b (refused FrameLength) (gives (pos size))) (le-ltb came size (omega arith)) in
+        absurd (omega (arith, refusal_number_lem k, ap (λ (x : Told). x.number) t))
 
-    go : Dec (came < size) → came < size
-    go (yes h) = h
-    go (no m) = told r (e ∙ ap (λ b. choose b (refused FrameLength) (gives (pos size))) (le-ltb came size (omega arith))) n
+-- the line of a refusal with the number 6
+pub cut_written : (held holds : Option (List ℕ)) (k : Refusal) → refusal_number k ≡ 6 → Appends held holds (refused_line (refusal_number k))
+    → Appends held holds cut_line
+cut_written held holds k e a = subst (λ n. Appends held holds (refused_line n)) e a
 
 -- no byte came of a frame's length, one, or two
 pub told_end : (bs : List ℕ) → done ≡ frame_start bs → bs ≡ []
@@ -52,11 +57,11 @@ told_end [] e = refl
 told_end (high ∷ []) e = absurd (omega (arith, ap (λ (x : Told). x.number) e))
 told_end (high ∷ low ∷ bs) e = absurd (omega (arith, ap (λ (x : Told). length x.values) e))
 
-pub told_one : (bs : List ℕ) → refused FrameLength ≡ frame_start bs → length bs ≡ 1
+pub told_one : (k : Refusal) (bs : List ℕ) → refused k ≡ frame_start bs → (length bs ≡ 1) × (refusal_number k ≡ 6)
 unfolding frame_start
-told_one [] e = absurd (omega (arith, ap (λ (x : Told). x.number) e))
-told_one (high ∷ []) e = refl
-told_one (high ∷ low ∷ bs) e = absurd (omega (arith, ap (λ (x : Told). x.number) e))
+told_one k [] e = absurd (omega (arith, refusal_number_lem k, ap (λ (x : Told). x.number) e))
+told_one k (high ∷ []) e = (refl, ap (λ (x : Told). x.number) e)
+told_one k (high ∷ low ∷ bs) e = absurd (omega (arith, refusal_number_lem k, ap (λ (x : Told). x.number) e))
 
 pub told_two : (bs : List ℕ) (size : ℕ) → gives (pos size) ≡ frame_start bs → 2 ≤ length bs
 unfolding frame_start
@@ -101,13 +106,13 @@ module _ (known left held holds : Option (List ℕ)) (ws mix : List ℕ) where
       (subst (λ bs. Writes held held (λ text. NextText ws mix bs text false ws mix [])) (sym none) ([], appended_none held, λ k. next_end k ws mix))
 
   -- it ends within a frame's length
-  pub cut_length : (came : ℕ) (pair : List ℕ) → length pair ≡ 2 → refused FrameLength ≡ frame_start (take came pair)
-      → Consumes known left (take came pair) → (came < 2 → IsAtEnd left) → Appends held holds cut_line
+  pub cut_length : (k : Refusal) (came : ℕ) (pair : List ℕ) → length pair ≡ 2 → refused k ≡ frame_start (take came pair)
+      → Consumes known left (take came pair) → (came < 2 → IsAtEnd left) → Appends held holds (refused_line (refusal_number k))
       → Reads known left (λ bytes rest. Writes held holds (λ text. NextText ws mix bytes text false ws mix rest))
-  cut_length came pair l e c end a =
-      let one = told_one (take came pair) e in
+  cut_length k came pair l e c end a =
+      let (one, six) = told_one k (take came pair) e in
       read_last _ known left (take came pair) c (end (omega (arith, one, length-take came pair)))
-      (cut_line, a, λ k. next_cut k ws mix (take came pair) one)
+      (cut_line, cut_written held holds k six a, λ k. next_cut k ws mix (take came pair) one)
 
   -- the length came, and then the frame, of which that is told
   pub length_and_frame : {E : Type 0} (mid : Option (List ℕ)) (r : Result Bool E) (came size told : ℕ) (pair ws' mix' : List ℕ)

@@ -2,9 +2,11 @@
 // answer, the lent memory and the board are compared with what the file says.
 use super::{memory, report};
 use board_words::layout::LARGEST_BOARD;
+use test_support::lent::{BYTES, NUMBERS, WORDS};
 use test_support::input::Stored;
 use test_support::told::Told;
 use test_support::{counts, input, lent, told};
+use words::filled;
 
 // Counts a take by its answer, which the file says next: the number, and the count, which new and repeat carry.
 fn expect_take(stored: &mut Stored, answer: Told, tally: &mut [u32; 16]) {
@@ -20,7 +22,7 @@ fn expect_take(stored: &mut Stored, answer: Told, tally: &mut [u32; 16]) {
 // A take of the frame, with the mix from the file.
 fn take_frame(stored: &mut Stored, board: &mut [u32], frame: &[u8], tally: &mut [u32; 16]) {
     let room = input::length(stored, 66);
-    let mut words = lent::words(memory::WORD);
+    let mut words: [u32; WORDS] = filled(memory::WORD);
     let mix = lent::front(&mut words, room);
     input::read_words(stored, mix);
     let answer = report::take_told(board_calls::take(board, frame, mix));
@@ -32,14 +34,14 @@ fn take_frame(stored: &mut Stored, board: &mut [u32], frame: &[u8], tally: &mut 
 // A take, with the frame from the file.
 fn take(stored: &mut Stored, board: &mut [u32], tally: &mut [u32; 16]) {
     let length = input::length(stored, 332);
-    let mut bytes = lent::bytes(0);
-    let frame = lent::front_bytes(&mut bytes, length);
+    let mut bytes: [u8; BYTES] = filled(0);
+    let frame = lent::front(&mut bytes, length);
     input::read_wide_bytes(stored, frame);
     take_frame(stored, board, frame, tally);
 }
 
 fn withdraw(stored: &mut Stored, board: &mut [u32], tally: &mut [u32; 16]) {
-    let answer = report::count_told(board_calls::withdraw(board, input::word(stored)));
+    let answer = Told::from(board_calls::withdraw(board, input::word(stored)));
     counts::count_if(
         tally,
         report::WITHDRAWALS,
@@ -57,10 +59,10 @@ fn show_marks(
     tally: &mut [u32; 16],
 ) {
     let room = input::length(stored, 1026);
-    let mut signed = lent::numbers(memory::NUMBER);
-    let numbers = lent::front_numbers(&mut signed, room);
+    let mut signed: [i32; NUMBERS] = filled(memory::NUMBER);
+    let numbers = lent::front(&mut signed, room);
     input::read_numbers(stored, numbers);
-    let answer = report::count_told(board_calls::show(board, low, marks, numbers));
+    let answer = Told::from(board_calls::show(board, low, marks, numbers));
     counts::count_if(tally, report::SHOWS, answer.number == input::word(stored));
     counts::expect_words(stored, tally, marks);
     counts::expect(tally, input::are_next_numbers(stored, numbers));
@@ -70,7 +72,7 @@ fn show_marks(
 fn show(stored: &mut Stored, board: &[u32], tally: &mut [u32; 16]) {
     let low = input::word(stored);
     let room = input::length(stored, 66);
-    let mut words = lent::words(memory::WORD);
+    let mut words: [u32; WORDS] = filled(memory::WORD);
     let marks = lent::front(&mut words, room);
     input::read_words(stored, marks);
     show_marks(stored, board, low, marks, tally);
@@ -129,7 +131,7 @@ fn expect_open(stored: &mut Stored, answer: Told, tally: &mut [u32; 16]) {
 // A history behind open's p, n and s, with so many words for its board as the file says. Calls follow a refused open as well.
 fn play(stored: &mut Stored, p: u32, n: u32, s: u32, tally: &mut [u32; 16]) {
     let length = input::length(stored, LARGEST_BOARD);
-    let mut words = memory::board();
+    let mut words: [u32; LARGEST_BOARD] = filled(memory::WORD);
     let board = lent::front(&mut words, length);
     let answer = report::open_told(board_calls::open(p, n, s, board));
     expect_open(stored, answer, tally);

@@ -6,14 +6,18 @@ ghost use Rattle.ledger.specs.Board.{largest_board};
 
 use super::{memory, report};
 use board_words::layout;
+use board_words::layout::LARGEST_BOARD;
 use std::io;
+use test_support::lent::{NUMBERS, WORDS};
+use test_support::told::Told;
 use test_support::{lent, output};
+use words::filled;
 
 // Opens a board in so many words; a refusal leaves them as they were.
 fn open(out: &impl Print, name: &[u8], p: u32, n: u32, s: u32, room: usize) -> io::Result<()>
     requires { room ≤ largest_board }
 {
-    let mut words = memory::board();
+    let mut words: [u32; LARGEST_BOARD] = filled(memory::WORD);
     let board = lent::front(&mut words, room);
     let told = report::open_told(board_calls::open(p, n, s, board));
     output::print_example(out, b"open-", name, told.number)?;
@@ -37,7 +41,7 @@ fn take(
 ) -> io::Result<()>
     requires { room ≤ 66 }
 {
-    let mut words = lent::words(memory::WORD);
+    let mut words: [u32; WORDS] = filled(memory::WORD);
     let mix = lent::front(&mut words, room);
     let told = report::take_told(board_calls::take(board, frame, mix));
     print_answer(out, name, told.number, board[layout::COUNT])?;
@@ -46,7 +50,7 @@ fn take(
 }
 
 fn withdraw(out: &impl Print, name: &[u8], board: &mut [u32; 16], t: u32) -> io::Result<()> {
-    let told = report::count_told(board_calls::withdraw(board, t));
+    let told = Told::from(board_calls::withdraw(board, t));
     print_answer(out, name, told.number, board[layout::COUNT])?;
     output::print_end(out)
 }
@@ -62,11 +66,11 @@ fn show(
 ) -> io::Result<()>
     requires { (room ≤ 66) × (space ≤ 66) }
 {
-    let mut words = lent::words(memory::WORD);
-    let mut signed = lent::numbers(memory::NUMBER);
+    let mut words: [u32; WORDS] = filled(memory::WORD);
+    let mut signed: [i32; NUMBERS] = filled(memory::NUMBER);
     let marks = lent::front(&mut words, room);
-    let numbers = lent::front_numbers(&mut signed, space);
-    let told = report::count_told(board_calls::show(board, low, marks, numbers));
+    let numbers = lent::front(&mut signed, space);
+    let told = Told::from(board_calls::show(board, low, marks, numbers));
     print_answer(out, name, told.number, told.value)?;
     output::print_words(out, b" marks", marks)?;
     report::print_numbers(out, b" numbers", numbers)?;

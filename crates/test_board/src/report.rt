@@ -1,8 +1,9 @@
 // What the run counts, the answers as numbers, and the lines that it prints.
-use board_calls::{CountAnswer, OpenAnswer, TakeAnswer};
+use board_calls::Taken;
+use checks::Refusal;
 use std::io;
 use test_support::told::Told;
-use test_support::{output, told};
+use test_support::output;
 
 // The places of the counts.
 pub const HISTORIES: usize = 0;
@@ -33,7 +34,7 @@ pub fn open_told(answer: Result<(), Refusal>) -> Told {
             number: 0,
             value: 0,
         },
-        Err(kind) => told::refused(kind),
+        Err(kind) => Told::from(kind),
     }
 }
 
@@ -47,14 +48,7 @@ pub fn take_told(answer: Result<Taken, Refusal>) -> Told {
             number: 100,
             value: count,
         },
-        Err(kind) => told::refused(kind),
-    }
-}
-
-pub fn count_told(answer: Result<u32, Refusal>) -> Told {
-    match answer {
-        Ok(count) => told::done(count),
-        Err(kind) => told::refused(kind),
+        Err(kind) => Told::from(kind),
     }
 }
 

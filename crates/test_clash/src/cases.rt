@@ -1,7 +1,10 @@
 // The stored calls. Each is lent the marks that the file gives, and its answer and the marks are compared with what the file says.
 use super::{memory, report};
 use test_support::input::Stored;
+use test_support::lent::WORDS;
+use test_support::told::Told;
 use test_support::{counts, input, lent};
+use words::filled;
 
 // A call on the log, with the marks from the file.
 fn compare_marks(
@@ -14,10 +17,10 @@ fn compare_marks(
     tally: &mut [u32; 16],
 ) {
     let room = input::length(stored, 66);
-    let mut words = lent::words(0);
+    let mut words: [u32; WORDS] = filled(0);
     let marks = lent::front(&mut words, room);
     input::read_words(stored, marks);
-    let number = report::number_of(clash_calls::clash(p, m, n, s, log, marks));
+    let number = Told::from(clash_calls::clash(p, m, n, s, log, marks)).number;
     let expected = input::word(stored);
     counts::count_if(tally, report::place_of(expected), number == expected);
     counts::expect_words(stored, tally, marks);
@@ -30,7 +33,7 @@ fn compare_next(stored: &mut Stored, tally: &mut [u32; 16]) {
     let n = input::word(stored);
     let s = input::word(stored);
     let length = input::length(stored, memory::LARGEST_LOG);
-    let mut words = memory::log();
+    let mut words: [u32; memory::LARGEST_LOG] = filled(0);
     let log = lent::front(&mut words, length);
     input::read_words(stored, log);
     counts::count(tally, report::CASES);

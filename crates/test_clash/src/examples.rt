@@ -4,7 +4,10 @@ ghost use Rattle.std.specs.Prelude.{◌≤◌};
 
 use super::report;
 use std::io;
+use test_support::lent::WORDS;
+use test_support::told::Told;
 use test_support::{lent, output};
+use words::filled;
 
 // A word that is no mark.
 const WORD: u32 = 9;
@@ -22,9 +25,9 @@ fn clash(
 ) -> io::Result<()>
     requires { room ≤ 66 }
 {
-    let mut words = lent::words(WORD);
+    let mut words: [u32; WORDS] = filled(WORD);
     let marks = lent::front(&mut words, room);
-    let number = report::number_of(clash_calls::clash(p, m, n, s, log, marks));
+    let number = Told::from(clash_calls::clash(p, m, n, s, log, marks)).number;
     output::print_example(out, b"clash-", name, number)?;
     output::print_words(out, b" marks", marks)?;
     output::print_end(out)

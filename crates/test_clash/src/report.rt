@@ -1,7 +1,6 @@
 // What the run counts, the answers as numbers, and the lines of the stored calls.
-use clash_calls::ClashAnswer;
 use std::io;
-use test_support::{output, told};
+use test_support::output;
 
 // The places of the counts.
 pub const CASES: usize = 0;
@@ -19,14 +18,6 @@ pub const REFUSED_12: usize = 5;
 pub const REFUSED_3: usize = 6;
 
 pub const REFUSED_4: usize = 7;
-
-// The number of an answer: 200 plus the number of frames selected, or that of the refusal.
-pub fn number_of(answer: Result<u32, Refusal>) -> u32 {
-    match answer {
-        Ok(count) => told::number_of(count),
-        Err(kind) => checks::number_of(kind),
-    }
-}
 
 // The place of a call by the number of its answer.
 pub fn place_of(number: u32) -> usize {

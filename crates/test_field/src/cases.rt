@@ -1,5 +1,4 @@
 // The stored cases: signed and residue with low ends, each compared with what its case says.
-use signed::{ResidueAnswer, SignedAnswer};
 use test_support::input::Stored;
 use test_support::{counts, input};
 
@@ -17,11 +16,7 @@ fn read(stored: &mut Stored, p: u32, low: u32, tally: &mut [u32; 16]) {
     let record = input::number(stored);
     match answer {
         Ok(z) => counts::count_if(tally, READINGS, number == 0 && z == record),
-        Err(kind) => counts::count_if(
-            tally,
-            REFUSED,
-            checks::number_of(kind) == number,
-        ),
+        Err(kind) => counts::count_if(tally, REFUSED, u32::from(kind) == number),
     }
 }
 
@@ -32,11 +27,7 @@ fn unread(stored: &mut Stored, p: u32, low: u32, tally: &mut [u32; 16]) {
     let residue = input::word(stored);
     match answer {
         Ok(v) => counts::count_if(tally, RESIDUES, number == 0 && v == residue),
-        Err(kind) => counts::count_if(
-            tally,
-            REFUSED,
-            checks::number_of(kind) == number,
-        ),
+        Err(kind) => counts::count_if(tally, REFUSED, u32::from(kind) == number),
     }
 }
 

@@ -54,7 +54,7 @@ fn print_record(out: &impl Print, z: i32) -> io::Result<()> {
 
 fn print_refused(out: &impl Print, kind: Refusal) -> io::Result<()> {
     print_text(out, b" refused")?;
-    print_number(out, checks::number_of(kind))
+    print_number(out, u32::from(kind))
 }
 
 fn print_modulus(out: &impl Print, p: u32) -> io::Result<()> {
@@ -70,7 +70,7 @@ fn print_modulus(out: &impl Print, p: u32) -> io::Result<()> {
 
 fn print_refusal(out: &impl Print, kind: Refusal) -> io::Result<()> {
     print_text(out, b"refusal")?;
-    print_number(out, checks::number_of(kind))?;
+    print_number(out, u32::from(kind))?;
     print_end(out)
 }
 

@@ -6,7 +6,10 @@ ghost use Rattle.std.specs.Prelude.{◌≤◌};
 
 use super::{memory, report};
 use std::io;
+use test_support::lent::{BYTES, WORDS};
+use test_support::told::Told;
 use test_support::{lent, output, told};
+use words::filled;
 
 // The values behind the number of an answer; a refusal leaves them as they were.
 fn print_values(out: &impl Print, number: u32, values: &[u32]) -> io::Result<()> {
@@ -31,11 +34,11 @@ fn read_words(
     requires { (s ≤ 66) × (room ≤ 66) }
 {
     let size = s as usize;
-    let mut words = lent::words(memory::WORD);
+    let mut words: [u32; WORDS] = filled(memory::WORD);
     let multipliers = lent::front(&mut words, room);
-    let mut more_words = lent::words(memory::WORD);
+    let mut more_words: [u32; WORDS] = filled(memory::WORD);
     let values = lent::front(&mut more_words, size);
-    let answer = report::read_told(frame_calls::read(p, n, s, bytes, multipliers, values));
+    let answer = Told::from(frame_calls::read(p, n, s, bytes, multipliers, values));
     output::print_example(out, b"read-", name, answer.number)?;
     output::print_touched_words(out, answer.number, multipliers, memory::WORD)?;
     print_values(out, answer.number, values)?;
@@ -61,9 +64,9 @@ fn write_words(
 ) -> io::Result<()>
     requires { room ≤ 332 }
 {
-    let mut space = lent::bytes(memory::BYTE);
-    let bytes = lent::front_bytes(&mut space, room);
-    let answer = report::write_told(frame_calls::write(p, n, s, multipliers, values, bytes));
+    let mut space: [u8; BYTES] = filled(memory::BYTE);
+    let bytes = lent::front(&mut space, room);
+    let answer = Told::from(frame_calls::write(p, n, s, multipliers, values, bytes));
     output::print_example(out, b"write-", name, answer.number)?;
     if !told::is_refused(answer.number) {
         output::print_number(out, answer.value)?;
@@ -100,9 +103,9 @@ fn seal_words(
     requires { s ≤ 66 }
 {
     let size = s as usize;
-    let mut words = lent::words(memory::WORD);
+    let mut words: [u32; WORDS] = filled(memory::WORD);
     let values = lent::front(&mut words, size);
-    let answer = report::seal_told(frame_calls::seal(p, n, s, low, records, multipliers, values));
+    let answer = Told::from(frame_calls::seal(p, n, s, low, records, multipliers, values));
     output::print_example(out, b"seal-", name, answer.number)?;
     print_values(out, answer.number, values)?;
     output::print_end(out)

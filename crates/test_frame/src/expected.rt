@@ -3,8 +3,10 @@ ghost use Rattle.std.specs.Prelude.{◌≤◌};
 
 use super::{memory, report};
 use test_support::input::Stored;
+use test_support::lent::BYTES;
 use test_support::told::Told;
 use test_support::{counts, input, lent, told};
+use words::filled;
 
 // Counts the answer by the number that the input says, and hands that number on.
 pub fn expect_number(stored: &mut Stored, answer: Told, tally: &mut [u32; 16]) -> u32 {
@@ -38,8 +40,8 @@ fn length_of(number: u32) -> usize
 // Lent bytes begin with the next ones of the input, as many as the number tells, and behind them are as they were.
 pub fn expect_frame(stored: &mut Stored, number: u32, bytes: &[u8], tally: &mut [u32; 16]) {
     let length = length_of(number);
-    let mut space = lent::bytes(0);
-    let frame = lent::front_bytes(&mut space, length);
+    let mut space: [u8; BYTES] = filled(0);
+    let frame = lent::front(&mut space, length);
     input::read_bytes(stored, frame);
     counts::expect(tally, memory::is_only_front(frame, bytes));
 }

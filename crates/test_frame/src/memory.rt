@@ -18,12 +18,8 @@ pub fn written_room(s: u32) -> usize
     264 + 4 * s as usize
 }
 
-// Room for a stored frame. Only the length is given, so that no goal holds the bytes.
-pub fn frame() -> [u8; 4096]
-    ensures { 4096 ≡ length result }
-{
-    [0; 4096]
-}
+// Room for a stored frame.
+pub const FRAME: usize = 4096;
 
 // What stands at i in bytes that begin with the front, and behind it are as they were.
 fn byte_at(front: &[u8], i: usize) -> u8 {

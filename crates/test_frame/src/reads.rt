@@ -1,7 +1,10 @@
 // The stored cases of reading: each frame is read, compared with what its case says, and written again where it was accepted.
 use super::{expected, memory, report};
 use test_support::input::Stored;
+use test_support::lent::{BYTES, WORDS};
+use test_support::told::Told;
 use test_support::{counts, input, lent, told};
+use words::filled;
 
 // Writes what was read: lent bytes hold the frame again, and behind it are as they were.
 fn rewrite(
@@ -14,9 +17,9 @@ fn rewrite(
     tally: &mut [u32; 16],
 ) {
     let room = memory::written_room(s);
-    let mut space = lent::bytes(memory::BYTE);
-    let bytes = lent::front_bytes(&mut space, room);
-    let answer = report::write_told(frame_calls::write(p, n, s, multipliers, values, bytes));
+    let mut space: [u8; BYTES] = filled(memory::BYTE);
+    let bytes = lent::front(&mut space, room);
+    let answer = Told::from(frame_calls::write(p, n, s, multipliers, values, bytes));
     let is_whole = answer.value as usize == frame.len();
     counts::count_if(tally, report::REWRITTEN, is_whole);
     counts::expect(tally, memory::is_only_front(frame, bytes));
@@ -34,7 +37,7 @@ fn compare_lent(
     values: &mut [u32],
     tally: &mut [u32; 16],
 ) {
-    let answer = report::read_told(frame_calls::read(p, n, s, frame, multipliers, values));
+    let answer = Told::from(frame_calls::read(p, n, s, frame, multipliers, values));
     let number = expected::expect_number(stored, answer, tally);
     expected::expect_words(stored, number, multipliers, tally);
     expected::expect_words(stored, number, values, tally);
@@ -47,14 +50,14 @@ fn compare_lent(
 // One case behind its sizes, with memory for its multipliers, its values and its frame.
 pub fn compare(stored: &mut Stored, p: u32, n: u32, s: u32, tally: &mut [u32; 16]) {
     let room = input::length(stored, 66);
-    let mut words = lent::words(memory::WORD);
+    let mut words: [u32; WORDS] = filled(memory::WORD);
     let multipliers = lent::front(&mut words, room);
     let space = input::length(stored, 66);
-    let mut more_words = lent::words(memory::WORD);
+    let mut more_words: [u32; WORDS] = filled(memory::WORD);
     let values = lent::front(&mut more_words, space);
     let length = input::length(stored, 4096);
-    let mut bytes = memory::frame();
-    let frame = lent::front_bytes(&mut bytes, length);
+    let mut bytes: [u8; memory::FRAME] = filled(0);
+    let frame = lent::front(&mut bytes, length);
     input::read_bytes(stored, frame);
     compare_lent(stored, p, n, s, frame, multipliers, values, tally);
 }

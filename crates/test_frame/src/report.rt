@@ -1,7 +1,5 @@
 // What the run counts, the answers as numbers, and the lines of the stored cases.
-use frame_calls::{ReadAnswer, SealAnswer, WriteAnswer};
 use std::io;
-use test_support::told::Told;
 use test_support::{counts, output, told};
 
 // The places of the counts: that of the calls that are done, those of the refusals by their numbers, 1 to 12, and two more.
@@ -10,27 +8,6 @@ pub const DONE: usize = 0;
 pub const FRAMES: usize = 13;
 
 pub const REWRITTEN: usize = 14;
-
-pub fn read_told(answer: Result<u32, Refusal>) -> Told {
-    match answer {
-        Ok(s) => told::done(s),
-        Err(kind) => told::refused(kind),
-    }
-}
-
-pub fn write_told(answer: Result<u32, Refusal>) -> Told {
-    match answer {
-        Ok(length) => told::done(length),
-        Err(kind) => told::refused(kind),
-    }
-}
-
-pub fn seal_told(answer: Result<u32, Refusal>) -> Told {
-    match answer {
-        Ok(s) => told::done(s),
-        Err(kind) => told::refused(kind),
-    }
-}
 
 // The place of an answer by its number.
 pub fn place(number: u32) -> usize {

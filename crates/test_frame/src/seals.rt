@@ -1,7 +1,10 @@
 // The stored cases of sealing: each is compared with what its case says.
 use super::{expected, memory, report};
 use test_support::input::Stored;
+use test_support::lent::{NUMBERS, WORDS};
+use test_support::told::Told;
 use test_support::{input, lent};
+use words::filled;
 
 // One case from its values on, for which there are so many lent words as the input says.
 fn compare_lent(
@@ -15,9 +18,9 @@ fn compare_lent(
     tally: &mut [u32; 16],
 ) {
     let space = input::length(stored, 66);
-    let mut words = lent::words(memory::WORD);
+    let mut words: [u32; WORDS] = filled(memory::WORD);
     let values = lent::front(&mut words, space);
-    let answer = report::seal_told(frame_calls::seal(p, n, s, low, records, multipliers, values));
+    let answer = Told::from(frame_calls::seal(p, n, s, low, records, multipliers, values));
     let number = expected::expect_number(stored, answer, tally);
     expected::expect_words(stored, number, values, tally);
 }
@@ -26,11 +29,11 @@ fn compare_lent(
 pub fn compare(stored: &mut Stored, p: u32, n: u32, s: u32, tally: &mut [u32; 16]) {
     let low = input::word(stored);
     let count = input::length(stored, 1026);
-    let mut signed = lent::numbers(0);
-    let records = lent::front_numbers(&mut signed, count);
+    let mut signed: [i32; NUMBERS] = filled(0);
+    let records = lent::front(&mut signed, count);
     input::read_numbers(stored, records);
     let room = input::length(stored, 66);
-    let mut words = lent::words(0);
+    let mut words: [u32; WORDS] = filled(0);
     let multipliers = lent::front(&mut words, room);
     input::read_words(stored, multipliers);
     compare_lent(stored, p, n, s, low, records, multipliers, tally);

@@ -1,7 +1,10 @@
 // The stored cases of writing: each is compared with what its case says.
 use super::{expected, memory, report};
 use test_support::input::Stored;
+use test_support::lent::{BYTES, WORDS};
+use test_support::told::Told;
 use test_support::{input, lent};
+use words::filled;
 
 // One case from its bytes on, of which there are so many lent as the input says.
 fn compare_lent(
@@ -14,9 +17,9 @@ fn compare_lent(
     tally: &mut [u32; 16],
 ) {
     let room = input::length(stored, 332);
-    let mut space = lent::bytes(memory::BYTE);
-    let bytes = lent::front_bytes(&mut space, room);
-    let answer = report::write_told(frame_calls::write(p, n, s, multipliers, values, bytes));
+    let mut space: [u8; BYTES] = filled(memory::BYTE);
+    let bytes = lent::front(&mut space, room);
+    let answer = Told::from(frame_calls::write(p, n, s, multipliers, values, bytes));
     let number = expected::expect_number(stored, answer, tally);
     expected::expect_frame(stored, number, bytes, tally);
 }
@@ -24,11 +27,11 @@ fn compare_lent(
 // One case behind its sizes, with room for its multipliers and values.
 pub fn compare(stored: &mut Stored, p: u32, n: u32, s: u32, tally: &mut [u32; 16]) {
     let room = input::length(stored, 66);
-    let mut words = lent::words(0);
+    let mut words: [u32; WORDS] = filled(0);
     let multipliers = lent::front(&mut words, room);
     input::read_words(stored, multipliers);
     let space = input::length(stored, 66);
-    let mut more_words = lent::words(0);
+    let mut more_words: [u32; WORDS] = filled(0);
     let values = lent::front(&mut more_words, space);
     input::read_words(stored, values);
     compare_lent(stored, p, n, s, multipliers, values, tally);

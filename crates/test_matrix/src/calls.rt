@@ -3,12 +3,15 @@
 ghost use Rattle.std.specs.Prelude.{◌≤◌};
 
 use super::{memory, report};
+use test_support::lent::{WORDS};
+use test_support::told::Told;
 use test_support::input::Stored;
 use test_support::{counts, input, lent, told};
+use words::filled;
 
 // Our own D passes, with the rank that the case says.
 fn check_own(p: u32, m: u32, n: u32, a: &[u32], d: &[u32], rank: u32, tally: &mut [u32; 16]) {
-    let number = report::number_of(matrix_calls::check(p, m, n, a, d));
+    let number = Told::from(matrix_calls::check(p, m, n, a, d)).number;
     let is_rank = number == told::number_of(rank);
     counts::count_if(tally, report::OWN, is_rank);
 }
@@ -18,13 +21,13 @@ fn invert(stored: &mut Stored, p: u32, m: u32, n: u32, a: &[u32], tally: &mut [u
     requires { (m ≤ 64) × (n ≤ 64) }
 {
     let size = memory::size(n, m);
-    let mut table = memory::table(memory::WORD);
-    let mut column_words = lent::words(memory::WORD);
-    let mut row_words = lent::words(memory::WORD);
+    let mut table: [u32; memory::TABLE] = filled(memory::WORD);
+    let mut column_words: [u32; WORDS] = filled(memory::WORD);
+    let mut row_words: [u32; WORDS] = filled(memory::WORD);
     let d = lent::front(&mut table, size);
     let columns = lent::front(&mut column_words, n as usize);
     let rows = lent::front(&mut row_words, m as usize);
-    let number = report::number_of(matrix_calls::quasiinverse(p, m, n, a, d, columns, rows));
+    let number = Told::from(matrix_calls::quasiinverse(p, m, n, a, d, columns, rows)).number;
     let rank = input::word(stored);
     let is_rank = number == told::number_of(rank);
     counts::count_if(tally, report::QUASIINVERSES, is_rank);
@@ -40,9 +43,9 @@ fn kernel(stored: &mut Stored, p: u32, m: u32, n: u32, a: &[u32], tally: &mut [u
     requires { n ≤ 64 }
 {
     let size = memory::size(n, n);
-    let mut table = memory::table(memory::WORD);
+    let mut table: [u32; memory::TABLE] = filled(memory::WORD);
     let basis = lent::front(&mut table, size);
-    let number = report::number_of(matrix_calls::kernel(p, m, n, a, basis));
+    let number = Told::from(matrix_calls::kernel(p, m, n, a, basis)).number;
     let is_count = number == told::number_of(input::word(stored));
     counts::count_if(tally, report::KERNELS, is_count);
     counts::expect_words(stored, tally, basis);
@@ -60,11 +63,11 @@ fn solve_side(
 )
     requires { (m ≤ 64) × (n ≤ 64) }
 {
-    let mut sevens = lent::words(7);
-    let mut nines = lent::words(9);
+    let mut sevens: [u32; WORDS] = filled(7);
+    let mut nines: [u32; WORDS] = filled(9);
     let z = lent::front(&mut sevens, n as usize);
     let u = lent::front(&mut nines, m as usize);
-    let number = report::number_of(matrix_calls::solve(p, m, n, a, w, z, u));
+    let number = Told::from(matrix_calls::solve(p, m, n, a, w, z, u)).number;
     let is_answer = number == input::word(stored);
     counts::count_if(tally, report::solve_place(number), is_answer);
     counts::expect_words(stored, tally, z);
@@ -84,11 +87,11 @@ fn fit_side(
 )
     requires { (m ≤ 64) × (n ≤ 64) }
 {
-    let mut z_words = lent::words(memory::WORD);
-    let mut rest_words = lent::words(memory::WORD);
+    let mut z_words: [u32; WORDS] = filled(memory::WORD);
+    let mut rest_words: [u32; WORDS] = filled(memory::WORD);
     let z = lent::front(&mut z_words, n as usize);
     let rest = lent::front(&mut rest_words, m as usize);
-    let number = report::number_of(matrix_calls::fit(p, m, n, a, w, z, rest));
+    let number = Told::from(matrix_calls::fit(p, m, n, a, w, z, rest)).number;
     let is_rank = number == told::number_of(rank);
     counts::count_if(tally, report::FITS, is_rank);
     counts::expect_words(stored, tally, z);
@@ -99,7 +102,7 @@ fn fit_side(
 fn system(stored: &mut Stored, p: u32, m: u32, n: u32, a: &[u32], rank: u32, tally: &mut [u32; 16])
     requires { (m ≤ 64) × (n ≤ 64) }
 {
-    let mut words = lent::words(0);
+    let mut words: [u32; WORDS] = filled(0);
     let w = lent::front(&mut words, m as usize);
     input::read_words(stored, w);
     solve_side(stored, p, m, n, a, w, tally);
@@ -111,7 +114,7 @@ pub fn compare(stored: &mut Stored, p: u32, m: u32, n: u32, tally: &mut [u32; 16
     requires { (m ≤ 64) × (n ≤ 64) }
 {
     let size = memory::size(m, n);
-    let mut table = memory::table(0);
+    let mut table: [u32; memory::TABLE] = filled(0);
     let a = lent::front(&mut table, size);
     input::read_words(stored, a);
     counts::count(tally, report::CASES);

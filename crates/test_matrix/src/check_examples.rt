@@ -2,7 +2,9 @@
 // the checks: a call that one check refuses would be refused by the later ones too.
 use super::{memory, report};
 use std::io;
+use test_support::told::Told;
 use test_support::output;
+use words::filled;
 
 // A check of D. Nothing is lent to be written.
 pub fn check(
@@ -14,7 +16,7 @@ pub fn check(
     a: &[u32],
     d: &[u32],
 ) -> io::Result<()> {
-    let number = report::number_of(matrix_calls::check(p, m, n, a, d));
+    let number = Told::from(matrix_calls::check(p, m, n, a, d)).number;
     output::print_example(out, b"check-", name, number)?;
     output::print_end(out)
 }
@@ -39,16 +41,16 @@ fn empty(out: &impl Print) -> io::Result<()> {
 // The table of ones, which has a 1 at any place for a quasiinverse; products that differ at the last place alone; and numbers as
 // large as they can be: modulo 2^31 - 1 the table of -1 has that of -2^19 for a quasiinverse, as 64 * 64 * 2^19 is 2^31.
 fn largest(out: &impl Print) -> io::Result<()> {
-    let zeros = memory::table(0);
-    let ones = memory::table(1);
+    let zeros: [u32; memory::TABLE] = filled(0);
+    let ones: [u32; memory::TABLE] = filled(1);
     let first = memory::only(0);
     let last = memory::only(4095);
     check(out, b"64-first", 7, 64, 64, &ones, &first)?;
     check(out, b"64-last", 7, 64, 64, &ones, &last)?;
     check(out, b"64-not-inner", 7, 64, 64, &last, &zeros)?;
     check(out, b"64-not-outer", 7, 64, 64, &zeros, &last)?;
-    let a = memory::table(2147483646);
-    let d = memory::table(2146959359);
+    let a: [u32; memory::TABLE] = filled(2147483646);
+    let d: [u32; memory::TABLE] = filled(2146959359);
     check(out, b"64-high", 2147483647, 64, 64, &a, &d)
 }
 

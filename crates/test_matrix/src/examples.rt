@@ -4,7 +4,10 @@ ghost use Rattle.std.specs.Prelude.{◌≤◌};
 
 use super::{check_examples, memory, report};
 use std::io;
+use test_support::lent::{WORDS};
+use test_support::told::Told;
 use test_support::{lent, output};
+use words::filled;
 
 // A quasiinverse with so many words for D and for the marks; a refusal leaves the lent memory as it was.
 fn invert(
@@ -20,13 +23,13 @@ fn invert(
 ) -> io::Result<()>
     requires { (size ≤ 4096) × (width ≤ 66) × (height ≤ 66) }
 {
-    let mut table = memory::table(memory::WORD);
-    let mut column_words = lent::words(memory::WORD);
-    let mut row_words = lent::words(memory::WORD);
+    let mut table: [u32; memory::TABLE] = filled(memory::WORD);
+    let mut column_words: [u32; WORDS] = filled(memory::WORD);
+    let mut row_words: [u32; WORDS] = filled(memory::WORD);
     let d = lent::front(&mut table, size);
     let columns = lent::front(&mut column_words, width);
     let rows = lent::front(&mut row_words, height);
-    let number = report::number_of(matrix_calls::quasiinverse(p, m, n, a, d, columns, rows));
+    let number = Told::from(matrix_calls::quasiinverse(p, m, n, a, d, columns, rows)).number;
     output::print_example(out, b"quasiinverse-", name, number)?;
     output::print_touched_words(out, number, d, memory::WORD)?;
     output::print_touched_words(out, number, columns, memory::WORD)?;
@@ -44,7 +47,7 @@ fn kernel_to(
     a: &[u32],
     basis: &mut [u32],
 ) -> io::Result<()> {
-    let number = report::number_of(matrix_calls::kernel(p, m, n, a, basis));
+    let number = Told::from(matrix_calls::kernel(p, m, n, a, basis)).number;
     output::print_example(out, b"kernel-", name, number)?;
     output::print_touched_words(out, number, basis, memory::WORD)?;
     output::print_end(out)
@@ -62,7 +65,7 @@ fn kernel(
 ) -> io::Result<()>
     requires { size ≤ 4096 }
 {
-    let mut basis = memory::table(memory::WORD);
+    let mut basis: [u32; memory::TABLE] = filled(memory::WORD);
     kernel_to(out, name, p, m, n, a, lent::front(&mut basis, size))
 }
 
@@ -80,11 +83,11 @@ fn solve(
 ) -> io::Result<()>
     requires { (width ≤ 66) × (height ≤ 66) }
 {
-    let mut z_words = lent::words(memory::WORD);
-    let mut u_words = lent::words(memory::WORD);
+    let mut z_words: [u32; WORDS] = filled(memory::WORD);
+    let mut u_words: [u32; WORDS] = filled(memory::WORD);
     let z = lent::front(&mut z_words, width);
     let u = lent::front(&mut u_words, height);
-    let number = report::number_of(matrix_calls::solve(p, m, n, a, w, z, u));
+    let number = Told::from(matrix_calls::solve(p, m, n, a, w, z, u)).number;
     output::print_example(out, b"solve-", name, number)?;
     output::print_touched_words(out, number, z, memory::WORD)?;
     output::print_touched_words(out, number, u, memory::WORD)?;
@@ -105,11 +108,11 @@ fn fit(
 ) -> io::Result<()>
     requires { (width ≤ 66) × (height ≤ 66) }
 {
-    let mut z_words = lent::words(memory::WORD);
-    let mut rest_words = lent::words(memory::WORD);
+    let mut z_words: [u32; WORDS] = filled(memory::WORD);
+    let mut rest_words: [u32; WORDS] = filled(memory::WORD);
     let z = lent::front(&mut z_words, width);
     let rest = lent::front(&mut rest_words, height);
-    let number = report::number_of(matrix_calls::fit(p, m, n, a, w, z, rest));
+    let number = Told::from(matrix_calls::fit(p, m, n, a, w, z, rest)).number;
     output::print_example(out, b"fit-", name, number)?;
     output::print_touched_words(out, number, z, memory::WORD)?;
     output::print_touched_words(out, number, rest, memory::WORD)?;
@@ -168,7 +171,7 @@ fn sizes(out: &impl Print) -> io::Result<()> {
 
 // The largest table, all ones, of rank 1.
 fn largest(out: &impl Print) -> io::Result<()> {
-    let a = memory::table(1);
+    let a: [u32; memory::TABLE] = filled(1);
     invert(out, b"64", 7, 64, 64, &a, 4096, 64, 64)?;
     kernel(out, b"64", 7, 64, 64, &a, 4096)?;
     system(out, b"64", 7, 64, 64, &a, &[1; 64], 64, 64)
@@ -272,7 +275,7 @@ fn fit_to(
     z: &mut [u32],
     rest: &mut [u32],
 ) -> io::Result<()> {
-    let number = report::number_of(matrix_calls::fit(p, m, n, a, w, z, rest));
+    let number = Told::from(matrix_calls::fit(p, m, n, a, w, z, rest)).number;
     output::print_example(out, b"fit-", name, number)?;
     output::print_words(out, b" z", z)?;
     output::print_words(out, b" rest", rest)?;

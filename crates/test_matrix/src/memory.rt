@@ -1,21 +1,19 @@
 // Memory for tables.
-ghost use Rattle.std.specs.Prelude.{◌≡◌, ◌<◌, ◌≤◌, length};
+ghost use Rattle.std.specs.Prelude.{◌<◌, ◌≤◌};
+
+use words::filled;
 
 // A word that no call writes: it is no residue and no mark.
 pub const WORD: u32 = 0xa5a5a5a5;
 
-// Room for the largest table, or for the basis of its kernel. Only the length is given, so that no goal holds the words.
-pub fn table(word: u32) -> [u32; 4096]
-    ensures { 4096 ≡ length result }
-{
-    [word; 4096]
-}
+// Room for the largest table, or for the basis of its kernel.
+pub const TABLE: usize = 4096;
 
 // The largest table, of zeros but for a 1 at the place.
-pub fn only(place: usize) -> [u32; 4096]
+pub fn only(place: usize) -> [u32; TABLE]
     requires { place < 4096 }
 {
-    let mut words = table(0);
+    let mut words: [u32; TABLE] = filled(0);
     words[place] = 1;
     words
 }

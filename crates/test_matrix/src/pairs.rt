@@ -2,18 +2,20 @@
 ghost use Rattle.std.specs.Prelude.{◌≤◌};
 
 use super::{memory, report};
+use test_support::told::Told;
 use test_support::input::Stored;
 use test_support::{counts, input, lent};
+use words::filled;
 
 // The next D of the table, with its answer.
 fn compare_next(stored: &mut Stored, p: u32, m: u32, n: u32, a: &[u32], tally: &mut [u32; 16])
     requires { (m ≤ 64) × (n ≤ 64) }
 {
     let size = memory::size(n, m);
-    let mut table = memory::table(0);
+    let mut table: [u32; memory::TABLE] = filled(0);
     let d = lent::front(&mut table, size);
     input::read_words(stored, d);
-    let number = report::number_of(matrix_calls::check(p, m, n, a, d));
+    let number = Told::from(matrix_calls::check(p, m, n, a, d)).number;
     let is_answer = number == input::word(stored);
     counts::count_if(tally, report::check_place(number), is_answer);
 }
@@ -33,7 +35,7 @@ pub fn compare(stored: &mut Stored, p: u32, m: u32, n: u32, tally: &mut [u32; 16
     requires { (m ≤ 64) × (n ≤ 64) }
 {
     let size = memory::size(m, n);
-    let mut table = memory::table(0);
+    let mut table: [u32; memory::TABLE] = filled(0);
     let a = lent::front(&mut table, size);
     input::read_words(stored, a);
     compare_all(stored, p, m, n, a, tally);

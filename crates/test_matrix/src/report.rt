@@ -1,7 +1,6 @@
 // What the run counts, the answers as numbers, and the lines of the stored cases.
-use matrix_calls::TableAnswer;
 use std::io;
-use test_support::{output, told};
+use test_support::output;
 
 // The places of the counts.
 pub const CASES: usize = 0;
@@ -23,14 +22,6 @@ pub const ACCEPTED: usize = 7;
 pub const NOT_INNER: usize = 8;
 
 pub const NOT_OUTER: usize = 9;
-
-// The number that document 01 gives an answer.
-pub fn number_of(answer: Result<u32, Refusal>) -> u32 {
-    match answer {
-        Ok(result) => told::number_of(result),
-        Err(kind) => checks::number_of(kind),
-    }
-}
 
 // The place of a system by the number of its answer.
 pub fn solve_place(number: u32) -> usize {

@@ -2,23 +2,26 @@
 // the file says. A frame is then taken and read.
 use super::{frames, memory, report};
 use board_words::layout::LARGEST_BOARD;
+use test_support::lent::{BYTES, WORDS};
+use test_support::told::Told;
 use test_support::input::Stored;
 use test_support::{counts, input, lent, told};
+use words::filled;
 
 // The front of the bytes becomes what the file says next.
 fn read_front(stored: &mut Stored, bytes: &mut [u8], k: usize) {
-    let length = memory::at_most(k, bytes.len());
-    let front = lent::front_bytes(bytes, length);
+    let length = k.min(bytes.len());
+    let front = lent::front(bytes, length);
     input::read_bytes(stored, front);
 }
 
 // The bytes are expected to have the frame of this length, which the file says next, and behind it what they were filled with.
 fn expect_bytes(stored: &mut Stored, bytes: &[u8], first: u32, k: usize, tally: &mut [u32; 16]) {
-    let mut space = lent::bytes(0);
-    let expected = lent::front_bytes(&mut space, memory::at_most(bytes.len(), 332));
+    let mut space: [u8; BYTES] = filled(0);
+    let expected = lent::front(&mut space, bytes.len().min(332));
     memory::fill(expected, first);
     read_front(stored, expected, k);
-    counts::expect(tally, memory::are_same_bytes(bytes, expected));
+    counts::expect(tally, bytes == expected);
 }
 
 // A call for the wanted row with the mix, and with the bytes from the file.
@@ -31,10 +34,10 @@ fn compare_bytes(
 ) {
     let room = input::length(stored, 332);
     let first = input::word(stored);
-    let mut space = lent::bytes(0);
-    let bytes = lent::front_bytes(&mut space, room);
+    let mut space: [u8; BYTES] = filled(0);
+    let bytes = lent::front(&mut space, room);
     memory::fill(bytes, first);
-    let number = report::number_of(relay_calls::relay(board, wanted, mix, bytes));
+    let number = Told::from(relay_calls::relay(board, wanted, mix, bytes)).number;
     let expected = input::word(stored);
     let k = report::length_of(expected);
     counts::count_if(tally, report::place_of(expected), number == expected);
@@ -48,7 +51,7 @@ fn compare_bytes(
 // A call for the wanted row, with the mix from the file.
 fn compare_mix(stored: &mut Stored, board: &mut [u32], wanted: &[u32], tally: &mut [u32; 16]) {
     let room = input::length(stored, 66);
-    let mut words = lent::words(0);
+    let mut words: [u32; WORDS] = filled(0);
     let mix = lent::front(&mut words, room);
     input::read_words(stored, mix);
     compare_bytes(stored, board, wanted, mix, tally);
@@ -57,7 +60,7 @@ fn compare_mix(stored: &mut Stored, board: &mut [u32], wanted: &[u32], tally: &m
 // The next call on the board, with the wanted row from the file.
 fn compare_next(stored: &mut Stored, board: &mut [u32], tally: &mut [u32; 16]) {
     let length = input::length(stored, 66);
-    let mut words = lent::words(0);
+    let mut words: [u32; WORDS] = filled(0);
     let wanted = lent::front(&mut words, length);
     input::read_words(stored, wanted);
     counts::count(tally, report::CALLS);
@@ -75,7 +78,7 @@ fn run_calls(stored: &mut Stored, board: &mut [u32], tally: &mut [u32; 16]) {
 // The next board, with its words from the file, and its calls.
 fn run_next(stored: &mut Stored, tally: &mut [u32; 16]) {
     let length = input::length(stored, LARGEST_BOARD);
-    let mut words = memory::board();
+    let mut words: [u32; LARGEST_BOARD] = filled(0);
     let board = lent::front(&mut words, length);
     input::read_words(stored, board);
     counts::count(tally, report::BOARDS);

@@ -4,7 +4,10 @@ ghost use Rattle.std.specs.Prelude.{◌≤◌};
 
 use super::{memory, report};
 use std::io;
+use test_support::lent::{BYTES, WORDS};
+use test_support::told::Told;
 use test_support::{lent, output};
+use words::filled;
 
 // A call with so many words for its mix, and so many bytes.
 fn relay(
@@ -17,11 +20,11 @@ fn relay(
 ) -> io::Result<()>
     requires { (room ≤ 66) × (space ≤ 332) }
 {
-    let mut words = lent::words(memory::WORD);
+    let mut words: [u32; WORDS] = filled(memory::WORD);
     let mix = lent::front(&mut words, room);
-    let mut lent_bytes = lent::bytes(memory::BYTE);
-    let bytes = lent::front_bytes(&mut lent_bytes, space);
-    let number = report::number_of(relay_calls::relay(board, wanted, mix, bytes));
+    let mut lent_bytes: [u8; BYTES] = filled(memory::BYTE);
+    let bytes = lent::front(&mut lent_bytes, space);
+    let number = Told::from(relay_calls::relay(board, wanted, mix, bytes)).number;
     output::print_example(out, b"relay-", name, number)?;
     output::print_words(out, b" mix", mix)?;
     memory::print_front(out, b" bytes", bytes, 10)?;

@@ -1,8 +1,8 @@
 // What the run counts, the answers as numbers, and the lines of the stored calls.
-use board_calls::TakeAnswer;
-use relay_calls::WriteAnswer;
+use board_calls::Taken;
+use checks::Refusal;
 use std::io;
-use test_support::{output, told};
+use test_support::output;
 
 // The places of the counts.
 pub const BOARDS: usize = 0;
@@ -23,14 +23,6 @@ pub const REPEATS: usize = 7;
 
 pub const READS: usize = 8;
 
-// The number of an answer: 200 plus the frame's length, or that of the refusal.
-pub fn number_of(answer: Result<u32, Refusal>) -> u32 {
-    match answer {
-        Ok(length) => told::number_of(length),
-        Err(kind) => checks::number_of(kind),
-    }
-}
-
 // The length of the frame that a number tells of; a refusal has none.
 pub fn length_of(number: u32) -> usize {
     if number < 200 {
@@ -41,11 +33,7 @@ pub fn length_of(number: u32) -> usize {
 
 // Whether a take is answered repeat, with this count.
 pub fn is_repeat(answer: Result<Taken, Refusal>, count: u32) -> bool {
-    match answer {
-        Ok(Taken::New(_)) => false,
-        Ok(Taken::Repeat(stand)) => stand == count,
-        Err(_) => false,
-    }
+    answer == Ok(Taken::Repeat(count))
 }
 
 // The place of a call by the number of its answer.

@@ -17,34 +17,16 @@ impl Stored {
     }
 }
 
-// The number whose bytes these are, most significant first; of more than four bytes, the last four.
-fn number_of(bytes: &[u8]) -> u32 {
-    let mut x: u32 = 0;
-    for byte in bytes {
-        x = x % 16777216 * 256 + *byte as u32;
-    }
-    x
-}
-
-// The signed number whose two's complement the word is.
-fn signed_of(word: u32) -> i32 {
-    if word < 2147483648 {
-        word as i32
-    } else {
-        -((4294967295 - word) as i32) - 1
-    }
-}
-
 // The number in the next four bytes.
 pub fn word(stored: &mut Stored) -> u32 {
     let mut bytes = [0u8; 4];
     read_bytes(stored, &mut bytes);
-    number_of(&bytes)
+    u32::from_be_bytes(bytes)
 }
 
 // The signed number in the next four bytes.
 pub fn number(stored: &mut Stored) -> i32 {
-    signed_of(word(stored))
+    word(stored).cast_signed()
 }
 
 // The next word as a length. The scripts have none above `most`; were there one, all that follows would be read out of step,
@@ -52,11 +34,7 @@ pub fn number(stored: &mut Stored) -> i32 {
 pub fn length(stored: &mut Stored, most: usize) -> usize
     ensures { result ≤ most }
 {
-    let length = word(stored) as usize;
-    if most < length {
-        return most;
-    }
-    length
+    (word(stored) as usize).min(most)
 }
 
 // The bytes become the next ones of the input.

@@ -2,7 +2,7 @@
 use checks::Refusal;
 
 // An answer's number, and the value that comes with it where the call is not refused.
-#[derive(Clone, Copy)]
+#[derive(Clone, Copy, Debug, PartialEq, Eq)]
 pub struct Told {
     pub number: u32,
     pub value: u32,
@@ -13,19 +13,26 @@ pub fn number_of(res: u32) -> u32 {
     res.wrapping_add(200)
 }
 
-// The answer that carries a result.
-pub fn done(res: u32) -> Told {
-    Told {
-        number: number_of(res),
-        value: res,
+// A refusal carries nothing.
+impl From<Refusal> for Told {
+    fn from(kind: Refusal) -> Told {
+        Told {
+            number: u32::from(kind),
+            value: 0,
+        }
     }
 }
 
-// The answer of a refusal, which carries nothing.
-pub fn refused(kind: Refusal) -> Told {
-    Told {
-        number: checks::number_of(kind),
-        value: 0,
+// The answer of a call whose number tells its result.
+impl From<Result<u32, Refusal>> for Told {
+    fn from(answer: Result<u32, Refusal>) -> Told {
+        match answer {
+            Ok(value) => Told {
+                number: number_of(value),
+                value,
+            },
+            Err(kind) => Told::from(kind),
+        }
     }
 }
 

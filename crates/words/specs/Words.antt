@@ -9,9 +9,13 @@ Below p xs = (i : ℕ) → i < length xs → get_or xs i 0 < p
 abbrev pub Blank : List ℕ → Type 0
 Blank xs = (j : ℕ) → get_or xs j 0 ≡ 0
 
+-- k times x, of whatever type
+abbrev pub Filled : {A : Type 0} → ℕ → A → List A → Type 0
+Filled k x xs = (length xs ≡ k) × ((j : ℕ) → get_or xs j x ≡ x)
+
 -- k zeros
 abbrev pub Zeros : ℕ → List ℕ → Type 0
-Zeros k xs = (length xs ≡ k) × Blank xs
+Zeros k xs = Filled k 0 xs
 
 -- the n first numbers of zs are those of xs from start on
 pub record Copied (xs : List ℕ) (start n : ℕ) (zs zs' : List ℕ) : Type 0 where

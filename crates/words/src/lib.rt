@@ -5,7 +5,7 @@
 ghost use Rattle.std.specs.Prelude.{◌≡◌, ◌+◌, ◌≤◌, ◌<◌, length};
 ghost use Rattle.algebra.specs.Answers.{Tells};
 ghost use Rattle.words.specs.Lengths.{longest_row, widest_row, widest_table};
-ghost use Rattle.words.specs.Words.{Below, Blank, Zeros, Copied, PutAt, FirstDifference, LeastNonzero};
+ghost use Rattle.words.specs.Words.{Below, Blank, Filled, Zeros, Copied, PutAt, FirstDifference, LeastNonzero};
 
 // The most numbers of a row or a column.
 pub const ROW: usize = 64;
@@ -15,6 +15,13 @@ pub const WIDE: usize = 80;
 
 // The numbers of the largest table with as many carried behind each row.
 pub const WIDE_TABLE: usize = 5120;
+
+// N times x: the room of a length that is known, whatever it is for.
+pub fn filled<T: Copy, const N: usize>(x: T) -> [T; N]
+    ensures { Filled N x result }
+{
+    [x; N]
+}
 
 // Zeros: room for the longest row or column.
 pub fn row_room() -> [u32; ROW]

@@ -4,8 +4,8 @@ use Rattle.dauneroad.specs.Exports.{exported}
 use Rattle.dauneroad.proofs.Bounds.{small_check}
 use Rattle.dauneroad.proofs.dauneroad_check.Goals as goal
 
-pub table_number-requires : goal.table_number-requires
-table_number-requires c = small_check _ _ _ _ _ _ c.check.ensures
+pub result_number-requires : goal.result_number-requires
+result_number-requires c = small_check _ _ _ _ _ _ c.check.ensures
 
 pub returns : goal.returns
-returns c = rw c.table_number.ensures (ap exported c.check.ensures)
+returns c = rw c.result_number.ensures (ap exported c.check.ensures)

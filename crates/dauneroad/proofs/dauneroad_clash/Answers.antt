@@ -4,8 +4,8 @@ use Rattle.dauneroad.specs.Exports.{exported}
 use Rattle.dauneroad.proofs.Bounds.{small_clash}
 use Rattle.dauneroad.proofs.dauneroad_clash.Goals as goal
 
-pub clash_number-requires : goal.clash_number-requires
-clash_number-requires c = small_clash _ _ _ _ _ _ _ c.clash.ensures
+pub result_number-requires : goal.result_number-requires
+result_number-requires c = small_clash _ _ _ _ _ _ _ c.clash.ensures
 
 pub returns : goal.returns
-returns c = rw c.clash_number.ensures (ap exported c.clash.ensures)
+returns c = rw c.result_number.ensures (ap exported c.clash.ensures)

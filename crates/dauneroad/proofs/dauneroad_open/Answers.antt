@@ -5,4 +5,4 @@ use Rattle.dauneroad.proofs.dauneroad_open.Goals as goal
 use Rattle.dauneroad.proofs.dauneroad_open.Goals.{After-open}
 
 pub returns : goal.returns
-returns c = rw c.open_number.ensures (ap exported (goal.at.returns c).After-open.«open».ensures)
+returns c = rw c.done_number.ensures (ap exported (goal.at.returns c).After-open.«open».ensures)

@@ -4,8 +4,8 @@ use Rattle.dauneroad.specs.Exports.{exported}
 use Rattle.dauneroad.proofs.Bounds.{small_read}
 use Rattle.dauneroad.proofs.dauneroad_read.Goals as goal
 
-pub read_number-requires : goal.read_number-requires
-read_number-requires c = small_read _ _ _ _ _ _ _ c.read.ensures
+pub result_number-requires : goal.result_number-requires
+result_number-requires c = small_read _ _ _ _ _ _ _ c.read.ensures
 
 pub returns : goal.returns
-returns c = rw c.read_number.ensures (ap exported c.read.ensures)
+returns c = rw c.result_number.ensures (ap exported c.read.ensures)

@@ -4,8 +4,8 @@ use Rattle.dauneroad.specs.Exports.{exported}
 use Rattle.dauneroad.proofs.Bounds.{small_relay}
 use Rattle.dauneroad.proofs.dauneroad_relay.Goals as goal
 
-pub write_number-requires : goal.write_number-requires
-write_number-requires c = small_relay _ _ _ _ _ c.relay.ensures
+pub result_number-requires : goal.result_number-requires
+result_number-requires c = small_relay _ _ _ _ _ c.relay.ensures
 
 pub returns : goal.returns
-returns c = rw c.write_number.ensures (ap exported c.relay.ensures)
+returns c = rw c.result_number.ensures (ap exported c.relay.ensures)

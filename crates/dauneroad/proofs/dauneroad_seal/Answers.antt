@@ -4,8 +4,8 @@ use Rattle.dauneroad.specs.Exports.{exported}
 use Rattle.dauneroad.proofs.Bounds.{small_seal}
 use Rattle.dauneroad.proofs.dauneroad_seal.Goals as goal
 
-pub seal_number-requires : goal.seal_number-requires
-seal_number-requires c = small_seal _ _ _ _ _ _ _ _ c.seal.ensures
+pub result_number-requires : goal.result_number-requires
+result_number-requires c = small_seal _ _ _ _ _ _ _ _ c.seal.ensures
 
 pub returns : goal.returns
-returns c = rw c.seal_number.ensures (ap exported c.seal.ensures)
+returns c = rw c.result_number.ensures (ap exported c.seal.ensures)

@@ -4,8 +4,8 @@ use Rattle.dauneroad.specs.Exports.{exported}
 use Rattle.dauneroad.proofs.Bounds.{small_show}
 use Rattle.dauneroad.proofs.dauneroad_show.Goals as goal
 
-pub count_number-requires : goal.count_number-requires
-count_number-requires c = small_show _ _ _ _ _ c.show.ensures
+pub result_number-requires : goal.result_number-requires
+result_number-requires c = small_show _ _ _ _ _ c.show.ensures
 
 pub returns : goal.returns
-returns c = rw c.count_number.ensures (ap exported c.show.ensures)
+returns c = rw c.result_number.ensures (ap exported c.show.ensures)

@@ -4,8 +4,8 @@ use Rattle.dauneroad.specs.Exports.{exported}
 use Rattle.dauneroad.proofs.Bounds.{small_withdraw}
 use Rattle.dauneroad.proofs.dauneroad_withdraw.Goals as goal
 
-pub count_number-requires : goal.count_number-requires
-count_number-requires c = small_withdraw _ _ _ c.withdraw.ensures
+pub result_number-requires : goal.result_number-requires
+result_number-requires c = small_withdraw _ _ _ c.withdraw.ensures
 
 pub returns : goal.returns
-returns c = rw c.count_number.ensures (ap exported c.withdraw.ensures)
+returns c = rw c.result_number.ensures (ap exported c.withdraw.ensures)

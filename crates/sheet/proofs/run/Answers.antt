@@ -3,14 +3,14 @@ use Rattle.std.proofs.Common.{arith}
 use Rattle.sheet.proofs.Whole.{on_ok, prints_cut, prints_behind}
 use Rattle.sheet.proofs.run.Goals as goal
 
-pub returns-in-Cut : goal.returns-in-Cut
-returns-in-Cut g c =
+pub returns-in-Err : goal.returns-in-Err
+returns-in-Err g c =
     let long = c.header-bytes.ensures in
     on_ok _ _ _ c.refused.ensures
-    (prints_cut _ _ _ _ _ _ (omega (arith, long, c.read_full.auto.buffer)) c.in-Cut.ensures c.in_ok-came.ensures.bytes
+    (prints_cut _ _ _ _ _ _ _ (omega (arith, long, c.read_full.auto.buffer)) c.in-Err.ensures c.in_ok-came.ensures.bytes
     (λ h. c.in_ok-came.ensures.end (omega (arith, h, long, c.read_full.auto.buffer))))
 
-pub returns-in-Open : goal.returns-in-Open
-returns-in-Open g c =
-    prints_behind _ _ _ _ _ _ _ _ _ (omega (arith, c.header-bytes.ensures, c.read_full.auto.buffer)) c.in-Open.ensures c.in_ok-came.ensures.bytes
+pub returns-in-Ok : goal.returns-in-Ok
+returns-in-Ok g c =
+    prints_behind _ _ _ _ _ _ _ _ _ (omega (arith, c.header-bytes.ensures, c.read_full.auto.buffer)) c.in-Ok.ensures c.in_ok-came.ensures.bytes
     c.«open».ensures

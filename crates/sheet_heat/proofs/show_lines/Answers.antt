@@ -12,13 +12,13 @@ old-low : (c : After-balanced_low-low) → let a = c.args in
     c.balanced_low-low.result ≡ balanced_low (modulus_word a.board.now)
 old-low c = c.balanced_low-low.ensures
 
-pub returns-in-Count : goal.returns-in-Count
-returns-in-Count c =
+pub returns-in-Ok : goal.returns-in-Ok
+returns-in-Ok c =
     let pre = c.requires in
-    ending_written pre.0 _ _ pre.1 pre.2 (c.show.auto.marks ∙ pre.1) (rw (c.in-Count.is, old-low (goal.at.returns-in-Count c).After-balanced_low-low) at c.show.ensures)
+    ending_written pre.0 _ _ pre.1 pre.2 (c.show.auto.marks ∙ pre.1) (rw (c.in-Ok.is, old-low (goal.at.returns-in-Ok c).After-balanced_low-low) at c.show.ensures)
     c.record_lines-at.ensures.put c.missing_line.ensures
 
-pub returns-in-Refused : goal.returns-in-Refused
-returns-in-Refused c =
+pub returns-in-Err : goal.returns-in-Err
+returns-in-Err c =
     let pre = c.requires in
-    absurd (show_not_refused _ pre.0 _ _ _ _ c.in-Refused.field-0 pre.1 pre.2 (rw (c.in-Refused.is, old-low (goal.at.returns-in-Refused c).After-balanced_low-low) at c.show.ensures))
+    absurd (show_not_refused _ pre.0 _ _ _ _ c.in-Err.field-0 pre.1 pre.2 (rw (c.in-Err.is, old-low (goal.at.returns-in-Err c).After-balanced_low-low) at c.show.ensures))
