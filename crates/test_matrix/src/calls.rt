@@ -3,9 +3,9 @@
 ghost use Rattle.std.specs.Prelude.{◌≤◌};
 
 use super::{memory, report};
-use test_support::lent::{WORDS};
-use test_support::told::Told;
 use test_support::input::Stored;
+use test_support::lent::WORDS;
+use test_support::told::Told;
 use test_support::{counts, input, lent, told};
 use words::filled;
 

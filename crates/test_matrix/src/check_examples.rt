@@ -2,8 +2,8 @@
 // the checks: a call that one check refuses would be refused by the later ones too.
 use super::{memory, report};
 use std::io;
-use test_support::told::Told;
 use test_support::output;
+use test_support::told::Told;
 use words::filled;
 
 // A check of D. Nothing is lent to be written.

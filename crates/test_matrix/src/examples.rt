@@ -4,7 +4,7 @@ ghost use Rattle.std.specs.Prelude.{◌≤◌};
 
 use super::{check_examples, memory, report};
 use std::io;
-use test_support::lent::{WORDS};
+use test_support::lent::WORDS;
 use test_support::told::Told;
 use test_support::{lent, output};
 use words::filled;

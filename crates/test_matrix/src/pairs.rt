@@ -2,8 +2,8 @@
 ghost use Rattle.std.specs.Prelude.{◌≤◌};
 
 use super::{memory, report};
-use test_support::told::Told;
 use test_support::input::Stored;
+use test_support::told::Told;
 use test_support::{counts, input, lent};
 use words::filled;
 
