@@ -96,15 +96,13 @@ pub fn is_modulus(p: u32) -> bool
     if p % 2 == 0 {
         return false;
     }
-    let mut q: u32 = 3;
-    while q < 33 {
+    for q in (3..33).step_by(2) {
         if p / q < q {
             return true;
         }
         if p % q == 0 {
             return false;
         }
-        q += 2;
     }
     table::is_prime(p)
 }

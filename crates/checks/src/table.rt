@@ -21,12 +21,10 @@ fn wrapped(p: u32, v: u32) -> u32
 fn strikes(p: u32, most: u32, words: &[u32; 39]) -> bool
     ensures { Tells result (Strikes p most words.now) }
 {
-    let mut i = 1;
-    while i < 39 {
-        if wrapped(p, words[i]) <= most {
+    for v in &words[1..] {
+        if wrapped(p, *v) <= most {
             return true;
         }
-        i += 1;
     }
     false
 }
@@ -36,8 +34,7 @@ pub fn is_prime(p: u32) -> bool
     requires { Sieved 33 p }
     ensures { Tells result (IsModulus p) }
 {
-    let mut part: usize = 0;
-    while part < 128 {
+    for part in 0..128 {
         let words = primes::inverses(part);
         let start = words[0];
         let most = p / start;
@@ -47,7 +44,6 @@ pub fn is_prime(p: u32) -> bool
         if strikes(p, most, &words) {
             return false;
         }
-        part += 1;
     }
     true
 }

@@ -12,8 +12,8 @@ use lib.ListN.{length, get_or, set, take, drop, length-take, length-drop}
 use lib.Seq.{get_or-take, get_or-drop, take-suc}
 use Rattle.words.specs.Words.{Below}
 use Rattle.codec.specs.Placed.{placed}
-use Rattle.codec.specs.BigEndian.{bytes_of, number_from, number_at}
-use Rattle.codec.proofs.Placed.{placed_length, placed_none, placed_before}
+use Rattle.codec.specs.BigEndian.{bytes_of, number_from}
+use Rattle.codec.proofs.Placed.{placed_none, placed_before}
 
 -- ---- every number of a list below a bound
 
@@ -113,34 +113,29 @@ bytes_of_number (b ∷ bs) h =
     bytes_behind (length bs) b (number_from 0 bs) ∙ bytes_of_number bs t in
     rw (number_more, zero-mul, zero-add, number_split b bs, bytes_more, first, rest)
 
--- ---- reading at a place, one byte after the other
+-- ---- reading, one byte after the other
 
--- after i bytes: what they make, below 256 for each
-pub record NumberRead (bytes : List ℕ) (at i x : ℕ) : Type 0 where
-  pub made : x ≡ number_at i bytes at
+-- after i of the bytes: what they make, below 256 for each
+pub record NumberRead (bs : List ℕ) (i x : ℕ) : Type 0 where
+  pub made : x ≡ number_from 0 (take i bs)
   pub small : x < 256 ^ i
 
-pub read_none : (bytes : List ℕ) (at : ℕ) → NumberRead bytes at 0 0
-unfolding number_at number_from
-read_none bytes at = record { made = refl; small = omega arith }
+pub read_none : (bs : List ℕ) → NumberRead bs 0 0
+unfolding number_from
+read_none bs = record { made = refl; small = omega arith }
 
 -- three bytes leave room for one more in four
-pub read_fits : (bytes : List ℕ) (at i x : ℕ) → NumberRead bytes at i x → i < 4 → x < 16777216
-read_fits bytes at i x r h = omega (arith, r.small, pow-le-pow_right {n = 256} (omega arith) {i = i} {j = 3} (omega arith))
+pub read_fits : (bs : List ℕ) (i x : ℕ) → NumberRead bs i x → i < 4 → x < 16777216
+read_fits bs i x r h = omega (arith, r.small, pow-le-pow_right {n = 256} (omega arith) {i = i} {j = 3} (omega arith))
 
 number_snoc : (acc : ℕ) (bs : List ℕ) (b : ℕ) → number_from acc (bs ++ (b ∷ [])) ≡ number_from acc bs * 256 + b
 number_snoc acc [] b = simp (number_more, number_none)
 number_snoc acc (c ∷ bs) b = simp number_more (number_snoc (acc * 256 + c) bs b)
 
-pub read_more :
-    (bytes : List ℕ) (at i x : ℕ) → NumberRead bytes at i x → at + i < length bytes → get_or bytes (at + i) 0 < 256
-    → NumberRead bytes at (i + 1) (x * 256 + get_or bytes (at + i) 0)
-unfolding number_at
-read_more bytes at i x r h b =
+pub read_more : (bs : List ℕ) (i x : ℕ) → NumberRead bs i x → i < length bs → get_or bs i 0 < 256 → NumberRead bs (i + 1) (x * 256 + get_or bs i 0)
+read_more bs i x r h b =
     record {
-      made =
-          rw (r.made, add-one, take-suc (drop at bytes) i 0 (rw length-drop (omega arith)), get_or-drop at bytes i 0)
-          (sym (number_snoc 0 (take i (drop at bytes)) (get_or bytes (at + i) 0)));
+      made = rw (r.made, add-one, take-suc bs i 0 h) (sym (number_snoc 0 (take i bs) (get_or bs i 0)));
       small = rw (add-one, pow-suc) (omega (arith, r.small));
     }
 
@@ -162,6 +157,3 @@ put_more at k x rest old new w h =
       put = rw (w.put, w.left, bytes_more) (placed_before at (x / 256 ^ k % 256) (bytes_of k x) old (omega (arith, bytes_length k x)));
       left = rw (w.left, pow-suc) (div-div-eq-div-mul x (256 ^ k) 256);
     }
-
-pub put_length : (at k x rest : ℕ) (old new : List ℕ) → NumberPut at k x rest old new → at + k ≤ length old → length new ≡ length old
-put_length at k x rest old new w h = ap length w.put ∙ placed_length at (bytes_of k x) old (omega (arith, bytes_length k x))

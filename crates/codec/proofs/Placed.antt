@@ -60,6 +60,12 @@ pub placed_stores : (at : ℕ) (new old : List ℕ) → at + length new ≤ leng
 unfolding placed
 placed_stores at new old h = sets-eq new old at h
 
+-- a part of the same length, lent and filled
+pub placed_part :
+    (at k : ℕ) (new old : List ℕ) → k ≡ length new → take at old ++ (new ++ drop k (drop at old)) ≡ placed at new old
+unfolding placed
+placed_part at k new old e = rw (e, drop-drop (length new) at old, append_assoc (take at old) new) refl
+
 -- ---- with the place behind
 
 -- one byte

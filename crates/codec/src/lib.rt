@@ -2,7 +2,7 @@
 // digits, as the sheet prints them.
 #![tactic(auto)]
 
-ghost use Rattle.std.specs.Prelude.{◌≡◌, ◌∷◌, [], ◌+◌, ◌^◌, ◌≤◌, ◌<◌, nat_abs, length};
+ghost use Rattle.std.specs.Prelude.{◌≡◌, ◌∷◌, [], ◌+◌, ◌^◌, ◌≤◌, ◌<◌, length};
 ghost use Rattle.codec.specs.Placed.{placed, Put};
 ghost use Rattle.codec.specs.BigEndian.{bytes_of, number_at};
 ghost use Rattle.codec.specs.Decimal.{digit, decimal, signed_decimal};
@@ -13,10 +13,8 @@ pub fn number_at(bytes: &[u8], at: usize, w: usize) -> u32
     ensures { (result < 256 ^ w) × (result ≡ number_at w bytes.now at) }
 {
     let mut x: u32 = 0;
-    let mut i = 0;
-    while i < w {
-        x = x * 256 + bytes[at + i] as u32;
-        i += 1;
+    for b in &bytes[at..at + w] {
+        x = x * 256 + *b as u32;
     }
     x
 }
@@ -27,9 +25,7 @@ pub fn put_number(bytes: &mut [u8], at: usize, w: usize, x: u32)
     ensures { bytes.new ≡ placed at (bytes_of w x) bytes.old }
 {
     let mut rest = x;
-    let mut i = w;
-    while 0 < i {
-        i -= 1;
+    for i in (0..w).rev() {
         bytes[at + i] = (rest % 256) as u8;
         rest /= 256;
     }
@@ -40,12 +36,9 @@ pub fn put_bytes(out: &mut [u8], at: usize, bytes: &[u8]) -> usize
     requires { at + length bytes.now ≤ length out.old }
     ensures { Put at bytes.now out.old out.new result }
 {
-    let mut i = 0;
-    while i < bytes.len() {
-        out[at + i] = bytes[i];
-        i += 1;
-    }
-    at + i
+    let end = at + bytes.len();
+    out[at..end].copy_from_slice(bytes);
+    end
 }
 
 // Writes the digit d at `at`.
@@ -69,22 +62,12 @@ pub fn put_decimal(out: &mut [u8], at: usize, n: u32) -> usize
     put_digit(out, last, n % 10)
 }
 
-// The size of a number with a sign, of the smallest one too, whose negation is no i32.
-fn size_of(z: i32) -> u32
-    ensures { result ≡ nat_abs z }
-{
-    if z < 0 {
-        return (-(z + 1)) as u32 + 1;
-    }
-    z as u32
-}
-
 // Writes a number with its sign from `at` on.
 pub fn put_signed(out: &mut [u8], at: usize, z: i32) -> usize
     requires { at + length (signed_decimal z) ≤ length out.old }
     ensures { Put at (signed_decimal z) out.old out.new result }
 {
-    let size = size_of(z);
+    let size = z.unsigned_abs();
     if z < 0 {
         let end = put_bytes(out, at, b"-");
         return put_decimal(out, end, size);

@@ -1,14 +1,14 @@
 -- The laws of sums of products, for `dot`: a part of a row reaches its own places of the column, and its products may be added to
 -- the residue of those in front of it. Then that an empty row gives 0, and that a row times a column of a table is such a sum.
 use mathlib.Core.Path.{◌≡◌, sym, ap, ap₂, ◌∙◌}
-use mathlib.Core.List.{List, []}
+use mathlib.Core.List.{List, [], ◌++◌}
 use Prim.Native.Nat.{ℕ, ◌+◌, ◌*◌, ◌%◌, ◌≤◌, ◌<◌}
 use native.Mathlib.Nat.{add-mul, add_assoc, zero-mod, mod-add-mod}
 use native.Mathlib.Omega.{arith}
-use lib.ListN.{length, get_or, take, drop}
+use lib.ListN.{length, get_or, drop, length-append, length-drop, get_or-append}
+use lib.Seq.{get_or-drop, drop-drop, drop-append_seam}
 use Rattle.algebra.specs.Matrix.{sum, mixed}
 use Rattle.algebra.proofs.Sums.{sum_none, sum_same}
-use Rattle.words.proofs.Parts.{part_length, part_at}
 use Rattle.field.specs.Residue.{reduce, residues, ◌⊗◌}
 use Rattle.field.specs.View.{line, table}
 use Rattle.field.specs.Products.{Reaches, sum_of_products}
@@ -19,25 +19,32 @@ use Rattle.field.proofs.Views.{column_line}
 part_place : (start step a u : ℕ) → start + a * step + u * step ≡ start + (a + u) * step
 part_place start step a u = add_assoc start (a * step) (u * step) ∙ ap (λ k. start + k) (sym (add-mul a u step))
 
-module _ (row ys : List ℕ) (start step a n : ℕ) (inside : a + n ≤ length row) where
-  -- the n numbers of the row from place a on
-  abbrev part : List ℕ
-  part = take n (drop a row)
+-- a part of the row from place a on, and the rest behind it
+module _ (row part rest ys : List ℕ) (start step a : ℕ) (within : a ≤ length row) (cut : drop a row ≡ part ++ rest) where
+  pub part_inside : a + length part ≤ length row
+  part_inside = omega (arith, ap length cut, length-drop a row, length-append part rest)
+
+  pub rest_left : rest ≡ drop (a + length part) row
+  rest_left = sym (rw (← drop-drop (length part) a row, cut) (drop-append_seam part rest))
 
   pub reaches_part : Reaches (length row) start step (length ys) → Reaches (length part) (start + a * step) step (length ys)
-  reaches_part reaches t h = rw (part_place start step a t) (reaches (a + t) (omega (arith, part_length row a n inside)))
+  reaches_part reaches t h = rw (part_place start step a t) (reaches (a + t) (omega (arith, part_inside)))
 
-  part_products : (u : ℕ) → u < n → products row ys start step (a + u) ≡ products part ys (start + a * step) step u
+  part_number : (u : ℕ) → u < length part → get_or row (a + u) 0 ≡ get_or part u 0
+  part_number u h = sym (get_or-drop a row u 0) ∙ ap (λ xs. get_or xs u 0) cut ∙ get_or-append part rest 0 u h
+
+  part_products : (u : ℕ) → u < length part → products row ys start step (a + u) ≡ products part ys (start + a * step) step u
   unfolding products
-  part_products u h = ap₂ ◌*◌ (sym (part_at row a n u h)) (ap (λ k. get_or ys k 0) (sym (part_place start step a u)))
+  part_products u h = ap₂ ◌*◌ (part_number u h) (ap (λ k. get_or ys k 0) (sym (part_place start step a u)))
 
-  -- the residue of the first a products plus the products of the part behind them is that of the first a + n
+  -- the residue of the first a products plus the products of the part is that of the products up to the rest
   pub reduce_part : (p so_far : ℕ) → so_far ≡ (reduce p (total a (products row ys start step))).value
       → (reduce p (so_far + total (length part) (products part ys (start + a * step) step))).value
-      ≡ (reduce p (total (a + n) (products row ys start step))).value
+      ≡ (reduce p (total (a + length part) (products row ys start step))).value
   unfolding reduce
   reduce_part p so_far e =
-      ap₂ (λ s k. (s + total k (products part ys (start + a * step) step)) % p) e (part_length row a n inside)
+      let n = length part in
+      ap (λ s. (s + total n (products part ys (start + a * step) step)) % p) e
       ∙ mod-add-mod (total a (products row ys start step)) p (total n (products part ys (start + a * step) step))
       ∙ ap (λ k. k % p)
       (sym

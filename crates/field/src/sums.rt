@@ -30,25 +30,12 @@ fn add_products(p: u32, sum: u32, row: &[u32], table: &[u32], start: usize, step
 {
     let mut lo = sum as u64;
     let mut hi: u64 = 0;
-    let mut t = 0;
-    while t < row.len() {
+    for t in 0..row.len() {
         let x = (row[t] as u64) * (table[start + t * step] as u64);
         lo += x % BASE;
         hi += x / BASE;
-        t += 1;
     }
     reduced(p, lo, hi)
-}
-
-// Where the part that begins at `from` ends, in a row of `len` numbers.
-fn part_end(from: usize, len: usize) -> usize
-    requires { from < len }
-    ensures { (from < result) × (result ≤ len) × (result < from + limb_base) }
-{
-    if len - from < PART {
-        return len;
-    }
-    from + PART
 }
 
 // The same as `dot`, part after part: each begins with the sum so far.
@@ -58,10 +45,9 @@ fn dot_by_parts(p: u32, row: &[u32], table: &[u32], start: usize, step: usize) -
 {
     let mut sum = 0;
     let mut from = 0;
-    while from < row.len() {
-        let end = part_end(from, row.len());
-        sum = add_products(p, sum, &row[from..end], table, start + from * step, step);
-        from = end;
+    for part in row.chunks(PART) {
+        sum = add_products(p, sum, part, table, start + from * step, step);
+        from += part.len();
     }
     sum
 }

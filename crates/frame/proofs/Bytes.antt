@@ -1,10 +1,10 @@
 -- Lists of numbers, each as w bytes, one after the other: written and read back, and by places in the bytes.
 use mathlib.Core.Path.{◌≡◌, refl, sym, ap, ◌∙◌}
 use mathlib.Core.List.{List, [], ◌∷◌, ◌++◌, append_assoc, append-nil}
-use Prim.Native.Nat.{ℕ, zero, suc, ◌+◌, ◌*◌, ◌^◌, ◌≤◌}
+use Prim.Native.Nat.{ℕ, zero, suc, ◌+◌, ◌*◌, ◌^◌, ◌≤◌, ◌<◌}
 use native.Mathlib.Nat.{mul-zero, mul-suc}
 use native.Mathlib.Omega.{arith}
-use lib.ListN.{length, take, drop, length-append, length-drop}
+use lib.ListN.{length, get_or, take, drop, length-append, length-drop}
 use lib.Seq.{take_at, drop_at, take-add, take_all, drop-drop, length-take-le}
 use Rattle.words.specs.Words.{Below}
 use Rattle.codec.specs.BigEndian.{bytes_of, number_from, number_at}
@@ -71,3 +71,11 @@ module _ (w : ℕ) where
       (bytes : List ℕ) (at k : ℕ) → numbers_in w (suc k) (drop at bytes) ≡ number_at w bytes at ∷ numbers_in w k (drop (at + w) bytes)
   unfolding numbers_in number_at
   numbers_more bytes at k = rw drop-drop
+
+  -- each of them
+  pub numbers_at : (bytes : List ℕ) (at k i : ℕ) → i < k → get_or (numbers_in w k (drop at bytes)) i 0 ≡ number_at w bytes (at + w * i)
+  numbers_at bytes at zero i h = absurd (omega arith)
+  numbers_at bytes at (suc k) zero h = rw numbers_more (let e : at + w * 0 ≡ at = omega arith in rw e)
+  numbers_at bytes at (suc k) (suc i) h =
+      let e : at + w * suc i ≡ at + w + w * i = omega (arith, mul-suc w i) in
+      rw (numbers_more, e) (numbers_at bytes (at + w) k i (omega arith))

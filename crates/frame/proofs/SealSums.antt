@@ -1,9 +1,9 @@
 -- The sum of products that the sealer takes over the residues of one word is the frame's value for that word, and the values of all words
--- are the frame's. Then where the words stand.
+-- are the frame's. Then how many words the records have.
 use mathlib.Core.Path.{◌≡◌, ap}
 use mathlib.Core.List.{List}
-use Prim.Native.Nat.{ℕ, suc, ◌+◌, ◌*◌, ◌<◌, ◌≤◌}
-use native.Mathlib.Nat.{mul-le-mul, mul-le-mul_right}
+use Prim.Native.Nat.{ℕ, ◌+◌, ◌*◌, ◌<◌, ◌≤◌}
+use native.Mathlib.Nat.{mul-le-mul}
 use native.Mathlib.Omega.{arith}
 use lib.IntN.{ℤ}
 use lib.ListN.{length, get_or, take}
@@ -14,7 +14,7 @@ use Rattle.field.specs.View.{line}
 use Rattle.field.specs.Products.{sum_of_products}
 use Rattle.field.proofs.Written.{is_tabulate}
 use Rattle.signed.specs.Reading.{residue_of}
-use Rattle.frame.specs.Sealing.{word_place, word_of, sealed_word, sealed}
+use Rattle.frame.specs.Sealing.{word_of, sealed_word, sealed}
 
 pub seal_sum :
     (p n s : ℕ) (zs : List ℤ) (xs rs : List ℕ) (w : ℕ) → n ≤ length rs → ((j : ℕ) → j < n → get_or rs j 0 ≡ residue_of p (word_of s zs j w))
@@ -33,14 +33,6 @@ pub is_sealed : (p n s : ℕ) (zs : List ℤ) (xs vs : List ℕ) → length vs �
     → vs ≡ sealed p n s zs xs
 unfolding sealed
 is_sealed p n s zs xs vs long each = is_tabulate s (sealed_word p n s zs xs) vs long each
-
--- the words of n records of s words stand within n × s places
-pub word_within : (n s j w : ℕ) → j < n → w < s → word_place s j w < n * s
-word_within n s j w h l = omega (arith, mul-le-mul_right {m = suc j} {n = n} s h)
-
--- the place of the same word of the next record
-pub word_next : (s j w : ℕ) → word_place s j w + s ≡ word_place s (j + 1) w
-word_next s j w = omega arith
 
 -- at most 64 records of at most 16 words have at most 1024
 pub few_words : (n s : ℕ) → n ≤ 64 → s ≤ 16 → n * s ≤ 1024

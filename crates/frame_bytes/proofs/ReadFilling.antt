@@ -1,20 +1,20 @@
 -- Filling in the multipliers record by record: a standing bit takes the next number, any other gives 0, and what is written
--- together with what is left is what the frame has. Then the values, one number after the other.
-use mathlib.Core.Path.{◌≡◌, refl, sym, ap, ◌∙◌}
+-- together with what is left is what the frame has.
+use mathlib.Core.Path.{◌≡◌, refl, sym, ◌∙◌}
 use mathlib.Core.Bool.{Bool, true, false}
 use mathlib.Core.List.{List, [], ◌∷◌, ◌++◌, append-nil}
 use Prim.Native.Nat.{ℕ, suc, ◌+◌, ◌*◌, ◌-◌, ◌≤◌, ◌<◌}
-use native.Mathlib.Nat.{zero-add, mul-suc}
+use native.Mathlib.Nat.{zero-add}
 use native.Mathlib.Numerals.{add-one}
 use native.Mathlib.Omega.{arith}
-use lib.ListN.{length, set, take, drop, length-set}
+use lib.ListN.{length, set, take, length-set}
 use lib.Seq.{take-suc-set, take_all, append_snoc}
 use Rattle.algebra.specs.Choice.{choose}
 use Rattle.codec.specs.BigEndian.{number_at}
 use Rattle.frame.specs.Bitmap.{bit_at, bits_from, standing, record_bits}
-use Rattle.frame.specs.Reading.{numbers_in, spread}
+use Rattle.frame.specs.Reading.{spread}
 use Rattle.frame.proofs.Bits.{bits_more, count, count_more, count_record_bits}
-use Rattle.frame.proofs.Bytes.{numbers_none, numbers_more}
+use Rattle.frame.proofs.Bytes.{numbers_more}
 use Rattle.frame_bytes.specs.Stages.{multipliers_from}
 
 -- the standing bits and the multipliers, by the first bit
@@ -110,47 +110,3 @@ filling_all w map bytes start n at j xs f h =
     let none : n - j ≡ 0 = omega arith in
     let whole : take j xs ≡ xs = take_all j xs (omega (arith, f.long)) in
     sym (append-nil xs) ∙ (rw (none, whole, multipliers_none) at f.filled)
-
--- ---- the values
-
--- the first u of s values are written, and those that are left are to be read from the place on
-pub record FillingValues (w : ℕ) (bytes : List ℕ) (start s at u : ℕ) (vs : List ℕ) : Type 0 where
-  pub reached : u ≤ s
-  pub long : length vs ≡ s
-  pub place : at + w * (s - u) ≡ start + w * s
-  pub filled : take u vs ++ numbers_in w (s - u) (drop at bytes) ≡ numbers_in w s (drop start bytes)
-
-pub values_none : (w : ℕ) (bytes : List ℕ) (start : ℕ) (vs : List ℕ) → FillingValues w bytes start (length vs) start 0 vs
-values_none w bytes start vs =
-    let all : length vs - 0 ≡ length vs = omega arith in
-    record { reached = omega arith; long = refl; place = rw all; filled = rw all }
-
-module _ (w : ℕ) (bytes : List ℕ) (start s at u : ℕ) (vs : List ℕ) (f : FillingValues w bytes start s at u vs) where
-  module _ (more : u < s) where
-    one : s - u ≡ suc (s - suc u)
-    one = omega arith
-
-    after : at + w + w * (s - suc u) ≡ start + w * s
-    after = omega (arith, f.place, ap (λ (k : ℕ). w * k) one, mul-suc w (s - suc u))
-
-    pub values_room : start + w * s ≤ length bytes → at + w ≤ length bytes
-    values_room room = omega (arith, after)
-
-    -- one value more
-    pub values_more : FillingValues w bytes start s (at + w) (u + 1) (set vs u (number_at w bytes at))
-    values_more =
-        let fits : u < length vs = omega (arith, f.long) in
-        let step = numbers_more w bytes at (s - suc u) in
-        record {
-          reached = omega arith;
-          long = length-set vs u (number_at w bytes at) ∙ f.long;
-          place = rw add-one after;
-          filled = rw (add-one, take-suc-set vs u (number_at w bytes at) fits, append_snoc, ← step, ← one) f.filled;
-        }
-
-  -- past the last value all are written
-  pub values_all : s ≤ u → vs ≡ numbers_in w s (drop start bytes)
-  values_all h =
-      let none : s - u ≡ 0 = omega (arith, f.reached) in
-      let whole : take u vs ≡ vs = take_all u vs (omega (arith, f.long)) in
-      sym (append-nil vs) ∙ (rw (none, whole, numbers_none) at f.filled)

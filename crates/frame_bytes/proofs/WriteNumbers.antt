@@ -9,7 +9,7 @@ use native.Mathlib.Omega.{arith}
 use borrow.Author.Tests.{eq-eqb, ne_eqb}
 use lib.Dec.{eqb}
 use lib.ListN.{length, get_or, take, length-append, length-take}
-use lib.Seq.{take-suc, take-length, take_all, length-take-le}
+use lib.Seq.{take-suc, length-take-le}
 use Rattle.algebra.specs.Choice.{choose}
 use Rattle.codec.specs.BigEndian.{bytes_of}
 use Rattle.codec.specs.Placed.{placed}
@@ -72,7 +72,7 @@ module _ (w from : ℕ) (xs : List ℕ) (old : List ℕ) (room : from + w * leng
   pub packing_none : Packing w from xs 0 from old old
   packing_none = record { place = rw packed_none (omega arith); bytes = rw packed_none (sym (placed_none from old)) }
 
-  pub packing_length : (j at : ℕ) (new : List ℕ) → j ≤ length xs → Packing w from xs j at old new → length new ≡ length old
+  packing_length : (j at : ℕ) (new : List ℕ) → j ≤ length xs → Packing w from xs j at old new → length new ≡ length old
   packing_length j at new h g =
       ap length g.bytes ∙ placed_length from (packed w (take j xs)) old (omega (arith, part_short j h, part_room j h))
 
@@ -95,10 +95,6 @@ module _ (w from : ℕ) (xs : List ℕ) (old : List ℕ) (room : from + w * leng
             (placed_next from (packed w (take j xs)) (bytes_of w (get_or xs j 0)) old (omega (arith, part_room j (omega arith))));
       }
 
-  -- after all of them
-  pub packing_all : (at : ℕ) (new : List ℕ) → Packing w from xs (length xs) at old new → new ≡ placed from (packed w xs) old
-  packing_all at new g = rw (take-length xs) at g.bytes
-
 -- ---- the values
 
 module _ (w : ℕ) where
@@ -117,40 +113,16 @@ module _ (w : ℕ) where
   values_part : (vs : List ℕ) (u : ℕ) → u ≤ length vs → length (value_bytes w (take u vs)) ≡ w * u
   values_part vs u h = rw (value_bytes_length, length-take-le u vs h)
 
--- after u values: the place behind them, and the bytes
-pub record Laying (w from : ℕ) (vs : List ℕ) (u at : ℕ) (old new : List ℕ) : Type 0 where
-  pub reached : u ≤ length vs
-  pub place : at ≡ from + w * u
-  pub bytes : new ≡ placed from (value_bytes w (take u vs)) old
-
 module _ (w from : ℕ) (vs old : List ℕ) (room : from + w * length vs ≤ length old) where
-  pub laying_none : Laying w from vs 0 from old old
-  laying_none = record { reached = omega arith; place = omega arith; bytes = rw values_none (sym (placed_none from old)) }
+  -- before the first value
+  pub laying_none : old ≡ placed from (value_bytes w (take 0 vs)) old
+  laying_none = rw values_none (sym (placed_none from old))
 
-  module _ (u at : ℕ) (new : List ℕ) (g : Laying w from vs u at old new) where
-    within : from + w * u ≤ length old
-    within = omega (arith, mul-le-mul_left w g.reached)
-
-    pub laying_length : length new ≡ length old
-    laying_length =
-        ap length g.bytes ∙ placed_length from (value_bytes w (take u vs)) old (omega (arith, values_part w vs u g.reached, within))
-
-    module _ (more : u < length vs) where
-      -- there is room for the next value
-      pub laying_room : at + w ≤ length new
-      laying_room = omega (arith, laying_length, g.place, mul-le-mul_left w more, mul-suc w u)
-
-      pub laying_more : Laying w from vs (u + 1) (at + w) old (placed at (bytes_of w (get_or vs u 0)) new)
-      laying_more =
-          let behind : at ≡ from + length (value_bytes w (take u vs)) = omega (arith, g.place, values_part w vs u g.reached) in
-          record {
-            reached = omega arith;
-            place = rw add-one (omega (arith, g.place, mul-suc w u));
-            bytes =
-                rw (behind, g.bytes, values_next w vs u more)
-                (placed_next from (value_bytes w (take u vs)) (bytes_of w (get_or vs u 0)) old (omega (arith, within)));
-          }
-
-    -- after all of them
-    pub laying_all : length vs ≤ u → new ≡ placed from (value_bytes w vs) old
-    laying_all end = rw (take_all u vs end) at g.bytes
+  -- one value more
+  pub laying_more :
+      (u : ℕ) (new : List ℕ) → u < length vs → new ≡ placed from (value_bytes w (take u vs)) old
+      → placed (from + w * u) (bytes_of w (get_or vs u 0)) new ≡ placed from (value_bytes w (take (u + 1) vs)) old
+  laying_more u new more g =
+      let behind : from + w * u ≡ from + length (value_bytes w (take u vs)) = omega (arith, values_part w vs u (omega arith)) in
+      let inside : from ≤ length old = omega arith in
+      rw (behind, g, values_next w vs u more) (placed_next from (value_bytes w (take u vs)) (bytes_of w (get_or vs u 0)) old inside)

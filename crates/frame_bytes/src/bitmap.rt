@@ -25,12 +25,10 @@ pub fn of(multipliers: &[u32]) -> [u8; 8]
     ensures { result ≡ map_of multipliers.now }
 {
     let mut map = [0u8; 8];
-    let mut j = 0;
-    while j < multipliers.len() {
-        if multipliers[j] != 0 {
+    for (j, x) in multipliers.iter().enumerate() {
+        if *x != 0 {
             map[j / 8] += 1 << (j % 8);
         }
-        j += 1;
     }
     map
 }
@@ -56,10 +54,8 @@ pub fn standing(map: [u8; 8]) -> usize
     ensures { result ≡ standing (map_bits map) }
 {
     let mut total: usize = 0;
-    let mut b = 0;
-    while b < 8 {
-        total += u8::count_ones(map[b]) as usize;
-        b += 1;
+    for b in &map {
+        total += b.count_ones() as usize;
     }
     total
 }
@@ -68,12 +64,10 @@ pub fn standing(map: [u8; 8]) -> usize
 pub fn unpadded(map: [u8; 8], n: usize) -> bool
     ensures { Tells result (ClearFrom n largest map) }
 {
-    let mut j = n;
-    while j < BITS {
+    for j in n..BITS {
         if stands(map, j) {
             return false;
         }
-        j += 1;
     }
     true
 }

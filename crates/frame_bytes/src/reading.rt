@@ -21,14 +21,10 @@ fn values_below(p: u32, w: usize, bytes: &[u8], start: usize, s: usize) -> bool
     requires { (w ≤ 4) × (start + w * s ≤ length bytes.now) }
     ensures { Tells result (Below p (numbers_in w s (drop start bytes.now))) }
 {
-    let mut at = start;
-    let mut left = s;
-    while 0 < left {
-        if p <= codec::number_at(bytes, at, w) {
+    for u in 0..s {
+        if p <= codec::number_at(bytes, start + w * u, w) {
             return false;
         }
-        at += w;
-        left -= 1;
     }
     true
 }
@@ -38,19 +34,16 @@ fn judged(p: u32, w: usize, bytes: &[u8], start: usize, count: usize, s: usize) 
     requires { (w ≤ 4) × (length bytes.now ≡ start + w * count + w * s) }
     ensures { Judges (checks_from p w s bytes.now start count) result }
 {
-    let mut at = start;
-    let mut left = count;
-    while 0 < left {
-        let x = codec::number_at(bytes, at, w);
+    for i in 0..count {
+        let x = codec::number_at(bytes, start + w * i, w);
         if x == 0 {
             return Err(Refusal::ZeroMultiplier);
         }
         if p <= x {
             return Err(Refusal::Number);
         }
-        at += w;
-        left -= 1;
     }
+    let at = start + w * count;
     if !values_below(p, w, bytes, at, s) {
         return Err(Refusal::Number);
     }
@@ -64,15 +57,13 @@ fn fill(map: [u8; 8], w: usize, bytes: &[u8], start: usize, multipliers: &mut [u
     ensures { multipliers.new ≡ multipliers_from w map bytes.now start 0 (length multipliers.old) }
 {
     let mut at = start;
-    let mut j = 0;
-    while j < multipliers.len() {
+    for (j, x) in multipliers.iter_mut().enumerate() {
         if bitmap::stands(map, j) {
-            multipliers[j] = codec::number_at(bytes, at, w);
+            *x = codec::number_at(bytes, at, w);
             at += w;
         } else {
-            multipliers[j] = 0;
+            *x = 0;
         }
-        j += 1;
     }
 }
 
@@ -81,12 +72,8 @@ fn fill_values(w: usize, bytes: &[u8], start: usize, values: &mut [u32])
     requires { (w ≤ 4) × (start + w * length values.old ≤ length bytes.now) }
     ensures { values.new ≡ numbers_in w (length values.old) (drop start bytes.now) }
 {
-    let mut at = start;
-    let mut u = 0;
-    while u < values.len() {
-        values[u] = codec::number_at(bytes, at, w);
-        at += w;
-        u += 1;
+    for (u, v) in values.iter_mut().enumerate() {
+        *v = codec::number_at(bytes, start + w * u, w);
     }
 }
 

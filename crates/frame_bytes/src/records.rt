@@ -9,12 +9,5 @@ pub fn all_records(p: u32, low: u32, numbers: &[i32]) -> bool
     requires { (low < p) × (p ≤ largest_modulus) }
     ensures { Tells result (Records p low numbers.now) }
 {
-    let mut i = 0;
-    while i < numbers.len() {
-        if !signed::in_range(p, low, numbers[i]) {
-            return false;
-        }
-        i += 1;
-    }
-    true
+    numbers.iter().all(|z| signed::in_range(p, low, *z))
 }

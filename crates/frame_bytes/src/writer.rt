@@ -22,13 +22,11 @@ fn put_multipliers(map: [u8; 8], multipliers: &[u32], w: usize, from: usize, byt
     ensures { bytes.new ≡ placed from (packed w multipliers.now) bytes.old }
 {
     let mut at = from;
-    let mut j = 0;
-    while j < multipliers.len() {
+    for (j, x) in multipliers.iter().enumerate() {
         if bitmap::stands(map, j) {
-            codec::put_number(bytes, at, w, multipliers[j]);
+            codec::put_number(bytes, at, w, *x);
             at += w;
         }
-        j += 1;
     }
 }
 
@@ -37,12 +35,8 @@ fn put_values(values: &[u32], w: usize, from: usize, bytes: &mut [u8])
     requires { from + w * length values.now ≤ length bytes.old }
     ensures { bytes.new ≡ placed from (value_bytes w values.now) bytes.old }
 {
-    let mut at = from;
-    let mut u = 0;
-    while u < values.len() {
-        codec::put_number(bytes, at, w, values[u]);
-        at += w;
-        u += 1;
+    for (u, v) in values.iter().enumerate() {
+        codec::put_number(bytes, from + w * u, w, *v);
     }
 }
 

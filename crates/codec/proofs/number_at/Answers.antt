@@ -1,40 +1,31 @@
--- `codec::number_at` meets its contract. The loop's invariant: x is what the first i bytes make.
+-- `codec::number_at` meets its contract. The loop's invariant: x is what the bytes passed make.
 use mathlib.Core.Path.{◌≡◌}
-use Prim.Native.Nat.{◌+◌, ◌<◌}
+use Prim.Native.Nat.{◌+◌, ◌-◌, ◌<◌}
 use native.Mathlib.Omega.{arith}
-use lib.ListN.{get_or}
+use lib.ListN.{get_or, drop, length-drop}
+use lib.Seq.{get_or-take, get_or-drop}
+use Rattle.codec.specs.BigEndian.{number_at}
 use Rattle.codec.proofs.BigEndian.{read_none, read_fits, read_more}
 use Rattle.codec.proofs.number_at.Goals as goal
-use Rattle.codec.proofs.number_at.Goals.{After-shared_slice_known-1, In-loop-i}
 
-pub loop-i-init : goal.loop-i-init
-loop-i-init c = (omega arith, read_none _ _)
+pub loop-b-init : goal.loop-b-init
+loop-b-init c = read_none _
 
 -- before the last turn there is room for one byte more
-fits : (c : In-loop-i) → c.loop-i.x < 16777216
-fits c = let l = c.loop-i in read_fits _ _ l.i l.x l.invariant.1 (omega arith)
-
 pub overflow_mul-x : goal.overflow_mul-x
-overflow_mul-x c = omega (arith, fits (goal.at.overflow_mul-x c).In-loop-i)
+overflow_mul-x c = let l = c.loop-b in omega (arith, read_fits _ l.b-index l.x l.invariant (omega arith))
 
--- the byte of a turn
-byte : (c : After-shared_slice_known-1) →
+pub loop-b-preserved : goal.loop-b-preserved
+loop-b-preserved c =
     let a = c.args in
-    get_or a.bytes.now (a.at + c.loop-i.i) 0 < 256
-byte c = omega (arith, c.shared_slice_known-1.given (c.args.at + c.loop-i.i))
-
-pub overflow_cast-x : goal.overflow_cast-x
-overflow_cast-x c = omega (arith, byte (goal.at.overflow_cast-x c).After-shared_slice_known-1)
-
-pub overflow_add-x-in-loop-i : goal.overflow_add-x-in-loop-i
-overflow_add-x-in-loop-i c = omega (arith, byte (goal.at.overflow_add-x-in-loop-i c).After-shared_slice_known-1, fits (goal.at.overflow_add-x-in-loop-i c).In-loop-i)
-
-pub loop-i-preserved : goal.loop-i-preserved
-loop-i-preserved c = let l = c.loop-i in (omega arith, read_more _ _ l.i l.x l.invariant.1 (omega arith) (byte (goal.at.loop-i-preserved c).After-shared_slice_known-1))
+    let l = c.loop-b in
+    let byte : get_or (drop a.at a.bytes.now) l.b-index 0 < 256 = rw get_or-drop (omega (arith, c.type_inv.bytes (a.at + l.b-index))) in
+    rw (get_or-take (a.at + a.w - a.at) (drop a.at a.bytes.now) l.b-index 0 (omega arith))
+    (read_more _ l.b-index l.x l.invariant (rw length-drop (omega arith)) byte)
 
 pub returns : goal.returns
+unfolding number_at
 returns c =
-    let l = c.loop-i in
-    let e : l.i ≡ c.args.w = omega arith in
-    let r = l.invariant.1 in
-    (rw e at r.small, rw e at r.made)
+    let l = c.loop-b in
+    let e : l.b-index ≡ c.args.w = omega arith in
+    (rw e at l.invariant.small, rw e at l.invariant.made)

@@ -14,18 +14,17 @@ use Rattle.codec.proofs.put_signed.Goals as goal
 use Rattle.codec.proofs.put_signed.Goals.{Else-z-lt0, Then-z-lt0}
 
 -- the digits on either side of 0
-below : (c : Then-z-lt0) → signed_decimal c.args.z ≡ minus ++ decimal c.size_of-size.result
+below : (c : Then-z-lt0) → signed_decimal c.args.z ≡ minus ++ decimal c.unsigned_abs-size.result
 below c =
-    -- the size that the code writes is the number's
-    let size : c.size_of-size.result ≡ nat_abs c.args.z = rw (to_z-of_z w32 c.args.z c.ranges.z) at c.size_of-size.ensures in
+    let size : c.unsigned_abs-size.result ≡ nat_abs c.args.z = rw (to_z-of_z w32 c.args.z c.ranges.z) at c.unsigned_abs-size.ensures.value in
     rw size (digits_below c.args.z (rw (to_z-of_z w32 c.args.z c.ranges.z) at c.if-z-lt0.true))
 
-from : (c : Else-z-lt0) → signed_decimal c.args.z ≡ decimal c.size_of-size.result
+from : (c : Else-z-lt0) → signed_decimal c.args.z ≡ decimal c.unsigned_abs-size.result
 from c =
-    let size : c.size_of-size.result ≡ nat_abs c.args.z = rw (to_z-of_z w32 c.args.z c.ranges.z) at c.size_of-size.ensures in
+    let size : c.unsigned_abs-size.result ≡ nat_abs c.args.z = rw (to_z-of_z w32 c.args.z c.ranges.z) at c.unsigned_abs-size.ensures.value in
     rw size (digits_from c.args.z (rw (to_z-of_z w32 c.args.z c.ranges.z) at c.if-z-lt0.false))
 
-longer : (c : Then-z-lt0) → length (signed_decimal c.args.z) ≡ suc (length (decimal c.size_of-size.result))
+longer : (c : Then-z-lt0) → length (signed_decimal c.args.z) ≡ suc (length (decimal c.unsigned_abs-size.result))
 unfolding minus
 longer c = ap length (below c)
 

@@ -1,5 +1,4 @@
--- `checks::table::is_prime` meets its contract. The loop's invariant: no number below the start of the next part divides p. The
--- measure is what is left of the table.
+-- `checks::table::is_prime` meets its contract. The loop's invariant: no number below the start of the next part divides p.
 use mathlib.Core.Path.{◌≡◌, subst}
 use Prim.Native.Nat.{ℕ, ◌<◌}
 use native.Mathlib.Numerals.{add-one}
@@ -14,10 +13,7 @@ use Rattle.checks.proofs.table.is_prime.Goals as goal
 
 pub loop-part-init : goal.loop-part-init
 unfolding start
-loop-part-init c = (omega arith, omega arith, c.requires.none)
-
-pub inverses-words-requires : goal.inverses-words-requires
-inverses-words-requires c = c.loop-part-test.true
+loop-part-init c = (omega arith, c.requires.none)
 
 pub nonzero_div-most : goal.nonzero_div-most
 nonzero_div-most c = omega (arith, part_first _ _ c.inverses-words.ensures)
@@ -27,7 +23,7 @@ returns-then-most-start c =
     let first = part_first _ _ c.inverses-words.ensures in
     tells_yes
     (undivided (get_or c.inverses-words.result 0 0) _ (omega arith) (omega arith) (omega arith) (omega arith)
-    (rw first c.loop-part.invariant.2))
+    (rw first c.loop-part.invariant.1))
 
 pub returns-then-strikes : goal.returns-then-strikes
 returns-then-strikes c =
@@ -40,9 +36,8 @@ loop-part-preserved c =
     let words = c.inverses-words in
     let not = c.strikes.ensures.1 c.if-strikes.false in
     rw add-one (
-      omega arith,
       omega (arith, part_rises _ _ words.ensures),
-      part_passed _ _ _ (omega arith) (omega arith) c.loop-part.invariant.1 words.ensures not c.loop-part.invariant.2,
+      part_passed _ _ _ (omega arith) (omega arith) c.loop-part.invariant.0 words.ensures not c.loop-part.invariant.1,
     )
 
 -- the table leads past the root of every modulus
@@ -51,5 +46,5 @@ unfolding start
 returns c =
     let l = c.loop-part in
     let all : l.part ≡ 128 = omega arith in
-    let low : NoneBelow 46507 c.args.p = subst (λ (k : ℕ). NoneBelow (start k) c.args.p) all l.invariant.2 in
+    let low : NoneBelow 46507 c.args.p = subst (λ (k : ℕ). NoneBelow (start k) c.args.p) all l.invariant.1 in
     tells_yes (undivided 46507 _ (omega arith) (past_root 46507 _ (omega arith) (omega arith)) (omega arith) (omega arith) low)

@@ -1,13 +1,9 @@
 -- `field::sums::add_products` meets its contract. The loop's invariant: the two sums hold the limbs of the number to begin with and of
 -- the first t products.
-use Prim.Native.Nat.{◌+◌, ◌-◌, ◌≤◌}
-use lib.ListN.{length}
+use Prim.Native.Nat.{◌+◌}
 use Rattle.field.proofs.Totals.{total, products}
 use Rattle.field.proofs.Limbs.{Sums}
 use Rattle.field.proofs.sums.add_products.Given as goal
 
 abbrev pub invariant-loop-t : goal.invariant-loop-t
-invariant-loop-t l = (l.t ≤ length l.row) × Sums (l.t + 1) l.lo l.hi (l.sum + total l.t (products l.row l.table l.start l.step))
-
-abbrev pub decreases-loop-t : goal.decreases-loop-t
-decreases-loop-t l = length l.row - l.t
+invariant-loop-t l = Sums (l.t + 1) l.lo l.hi (l.sum + total l.t (products l.row l.table l.start l.step))

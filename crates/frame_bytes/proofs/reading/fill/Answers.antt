@@ -1,28 +1,21 @@
 -- `frame_bytes::reading::fill` meets its contract. The loop's invariant: the first j multipliers are written, and those left are to
 -- be read from the place on.
 use mathlib.Core.Path.{sym, ◌∙◌}
-use Prim.Native.Nat.{◌+◌, ◌≤◌, ◌<◌}
+use Prim.Native.Nat.{◌<◌}
 use native.Mathlib.Omega.{arith}
 use lib.ListN.{length}
 use Rattle.frame_bytes.proofs.ReadFilling.{filling_none, filling_room, filling_stands, filling_absent, filling_all}
 use Rattle.frame_bytes.proofs.reading.fill.Goals as goal
-use Rattle.frame_bytes.proofs.reading.fill.Goals.{Then-stands, else-stands, then-stands}
+use Rattle.frame_bytes.proofs.reading.fill.Goals.{else-stands, then-stands}
 
 pub loop-j-init : goal.loop-j-init
 loop-j-init c = filling_none _ _ _ _ _ c.requires.map_in_bounds
 
--- in the arm of a standing bit there is a number at the place
-room : (c : Then-stands) → c.loop-j.at + c.args.w
-    ≤ length c.args.bytes.now
-room c =
-    let l = c.loop-j in
-    filling_room _ _ _ _ _ _ _ _ l.invariant (omega (arith, l.invariant.long)) (sym c.stands.ensures ∙ c.if-stands.true)
-
+-- where the bit stands there is a number at the place
 pub number_at-requires : goal.number_at-requires
-number_at-requires c = (omega arith, room (goal.at.number_at-requires c).Then-stands)
-
-pub overflow_add-at : goal.overflow_add-at
-overflow_add-at c = omega (arith, room (goal.at.overflow_add-at c).Then-stands)
+number_at-requires c =
+    let l = c.loop-j in
+    (omega arith, filling_room _ _ _ _ _ _ _ _ l.invariant (omega (arith, l.invariant.long)) (sym c.stands.ensures ∙ c.if-stands.true))
 
 pub loop-j-preserved : goal.loop-j-preserved
 loop-j-preserved c =
@@ -33,9 +26,6 @@ loop-j-preserved c =
       | then-stands w ↦ rw (w.multipliers-is, w.at-is, w.number_at.ensures.1) (filling_stands _ _ _ _ _ _ _ _ l.invariant more (bit ∙ w.if-stands.true))
       | else-stands w ↦ rw (w.multipliers-is, w.at-is) (filling_absent _ _ _ _ _ _ _ _ l.invariant more (bit ∙ w.if-stands.false))
     ]
-
-pub shape_of-multipliers : goal.shape_of-multipliers
-shape_of-multipliers c = omega (arith, c.loop-j.invariant.long)
 
 pub returns : goal.returns
 returns c = filling_all _ _ _ _ _ _ _ _ c.loop-j.invariant (omega (arith, c.loop-j.invariant.long))

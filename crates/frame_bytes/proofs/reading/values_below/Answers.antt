@@ -1,28 +1,17 @@
--- `frame_bytes::reading::values_below` meets its contract. The loop's invariant: the numbers before the place are below p, so that those
--- left decide.
+-- `frame_bytes::reading::values_below` meets its contract. The loop's invariant: the numbers passed are below p.
 use native.Mathlib.Omega.{arith}
 use Rattle.algebra.proofs.Answers.{tells_yes, tells_no}
-use Rattle.frame_bytes.proofs.ReadJudging.{holding_none, holding_room, holding_large, holding_more, holding_all}
+use Rattle.frame.proofs.Bytes.{numbers_at, numbers_length}
 use Rattle.frame_bytes.proofs.reading.values_below.Goals as goal
-
-pub loop-left-init : goal.loop-left-init
-loop-left-init c = holding_none _ _ _ _ _
-
-pub number_at-requires : goal.number_at-requires
-number_at-requires c = (omega arith, holding_room _ _ _ _ _ _ _ c.loop-left.invariant (omega arith) (omega arith))
 
 pub returns-then-p-number_at : goal.returns-then-p-number_at
 returns-then-p-number_at c =
-    let l = c.loop-left in
-    tells_no (holding_large _ _ _ _ _ _ _ l.invariant _ c.number_at.ensures.1 (omega arith) (omega arith))
-
-pub overflow_add-at : goal.overflow_add-at
-overflow_add-at c = omega (arith, holding_room _ _ _ _ _ _ _ c.loop-left.invariant (omega arith) (omega arith))
-
-pub loop-left-preserved : goal.loop-left-preserved
-loop-left-preserved c =
-    let l = c.loop-left in
-    holding_more _ _ _ _ _ _ _ l.invariant _ c.number_at.ensures.1 (omega arith) (omega arith)
+    let a = c.args in
+    let u = c.loop-u.u in
+    tells_no (λ b. omega (arith, b u (rw numbers_length (omega arith)), numbers_at a.w a.bytes.now a.start a.s u (omega arith), c.number_at.ensures.1))
 
 pub returns : goal.returns
-returns c = tells_yes (holding_all _ _ _ _ _ _ _ c.loop-left.invariant (omega arith))
+returns c =
+    let a = c.args in
+    tells_yes
+    (λ u h. let l = rw numbers_length at h in rw (numbers_at a.w a.bytes.now a.start a.s u (omega arith)) (c.loop-u.invariant u (omega arith)))

@@ -1,10 +1,7 @@
--- `frame_bytes::reading::values_below` meets its contract. The loop's invariant: the numbers before the place are below p, so that those
--- left decide.
-use Rattle.frame_bytes.proofs.ReadJudging.{Holding}
+-- `frame_bytes::reading::values_below` meets its contract. The loop's invariant: the numbers passed are below p.
+use Prim.Native.Nat.{ℕ, ◌+◌, ◌*◌, ◌<◌}
+use Rattle.codec.specs.BigEndian.{number_at}
 use Rattle.frame_bytes.proofs.reading.values_below.Given as goal
 
-abbrev pub invariant-loop-left : goal.invariant-loop-left
-invariant-loop-left l = Holding l.p l.w l.bytes l.start l.s l.at l.left
-
-abbrev pub decreases-loop-left : goal.decreases-loop-left
-decreases-loop-left l = l.left
+abbrev pub invariant-loop-u : goal.invariant-loop-u
+invariant-loop-u l = (k : ℕ) → k < l.u → number_at l.w l.bytes (l.start + l.w * k) < l.p

@@ -1,11 +1,9 @@
--- `frame_bytes::writer::put_values` meets its contract. The loop's invariant: the first u values are put, and `at` is the place behind them.
-use Prim.Native.Nat.{◌-◌}
-use lib.ListN.{length}
-use Rattle.frame_bytes.proofs.WriteNumbers.{Laying}
+-- `frame_bytes::writer::put_values` meets its contract. The loop's invariant: the first u values are put.
+use mathlib.Core.Path.{◌≡◌}
+use lib.ListN.{take}
+use Rattle.codec.specs.Placed.{placed}
+use Rattle.frame.specs.Format.{value_bytes}
 use Rattle.frame_bytes.proofs.writer.put_values.Given as goal
 
 abbrev pub invariant-loop-u : goal.invariant-loop-u
-invariant-loop-u l = Laying l.w l.from l.values l.u l.at l.initial.bytes l.bytes
-
-abbrev pub decreases-loop-u : goal.decreases-loop-u
-decreases-loop-u l = length l.values - l.u
+invariant-loop-u l = l.bytes ≡ placed l.from (value_bytes l.w (take l.u l.values)) l.initial.bytes
