@@ -33,8 +33,8 @@ pub record FirstDifference (xs ys : List ℕ) (r : ℕ) : Type 0 where
   pub before : (i : ℕ) → i < r → get_or xs i 0 ≡ get_or ys i 0
   pub differs : r < length xs → get_or xs r 0 ≡ get_or ys r 0 → ⊥
 
--- r is the least position of a number that is not 0, or the length
+-- r is the least position of a number that is not 0
 pub record LeastNonzero (xs : List ℕ) (r : ℕ) : Type 0 where
-  pub within : r ≤ length xs
+  pub within : r < length xs
   pub before : (t : ℕ) → t < r → get_or xs t 0 ≡ 0
-  pub not_zero : r < length xs → get_or xs r 0 ≡ 0 → ⊥
+  pub not_zero : get_or xs r 0 ≡ 0 → ⊥

@@ -2,7 +2,7 @@
 // the crates above, which meet what each requires.
 #![tactic(auto)]
 
-ghost use Rattle.std.specs.Prelude.{◌≡◌, ◌+◌, ◌≤◌, ◌<◌, length};
+ghost use Rattle.std.specs.Prelude.{◌≡◌, ◌+◌, ◌≤◌, ◌<◌, length, MatchOption};
 ghost use Rattle.algebra.specs.Answers.{Tells};
 ghost use Rattle.words.specs.Lengths.{longest_row, widest_row, widest_table};
 ghost use Rattle.words.specs.Words.{Below, Blank, Zeros, Copied, PutAt, FirstDifference, LeastNonzero};
@@ -84,20 +84,11 @@ pub fn first_difference(xs: &[u32], ys: &[u32]) -> usize
     i
 }
 
-// The least position of a number that is not 0, or the length where there is none.
-pub fn least_nonzero(xs: &[u32]) -> usize
-    ensures { LeastNonzero xs.now result }
+// The least position of a number that is not 0.
+pub fn least_nonzero(xs: &[u32]) -> Option<usize>
+    ensures { MatchOption result (Blank xs.now) (LeastNonzero xs.now) }
 {
-    let len = xs.len();
-    let mut found = len;
-    let mut v = 0;
-    while v < found {
-        if xs[v] != 0 {
-            found = v;
-        }
-        v += 1;
-    }
-    found
+    xs.iter().position(|x| *x != 0)
 }
 
 // Whether two rows of the same length have the same numbers.
