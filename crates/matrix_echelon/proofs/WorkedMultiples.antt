@@ -1,33 +1,17 @@
--- Multiples of a row modulo p: what a product and a sum with a product are as residues, that 64 bits hold them, and what a loop
--- that adds a multiple from a place on has written.
+-- Multiples of a row modulo p: what a product and a sum with a product are as residues, and what a loop that adds a multiple from a
+-- place on has written.
 use mathlib.Core.Path.{◌≡◌, refl, sym, ap, ◌∙◌}
 use mathlib.Core.List.{List}
-use Prim.Native.Nat.{ℕ, ◌+◌, ◌*◌, ◌-◌, ◌%◌, ◌≤◌, ◌<◌}
-use native.Mathlib.Nat.{mul-le-mul, mul-zero}
+use Prim.Native.Nat.{ℕ, ◌+◌, ◌*◌, ◌%◌, ◌≤◌, ◌<◌}
+use native.Mathlib.Nat.{mul-zero}
 use native.Mathlib.Omega.{arith}
 use lib.ListN.{length, get_or, set, length-set}
 use lib.Seq.{get_or-set_same, get_or-set_other}
 use borrow.Author.Count.{below_more}
-use mir.Val.{Fits}
-use mir.Syntax.{w64}
-use Rattle.checks.specs.Prime.{largest_modulus}
 use Rattle.field.specs.Residue.{reduce, ◌⊕◌, ◌⊗◌}
 use Rattle.field.proofs.Residues.{reduce_plus, reduce_times, reduce_small}
 use Rattle.words.proofs.Walk.{Walked}
 use Rattle.matrix_echelon.specs.Worked.{Scalable, Addable}
-
--- a product of residues has 64 bits, and so has its sum with a third
-pub product_fits : (p c x : ℕ) → p ≤ largest_modulus → c < p → x < p → Fits w64 (c * x)
-product_fits p c x h lc lx =
-    let hc : c ≤ largest_modulus - 1 = omega arith in
-    let hx : x ≤ largest_modulus - 1 = omega arith in
-    omega (arith, mul-le-mul hc hx)
-
-pub sum_fits : (p c x y : ℕ) → p ≤ largest_modulus → c < p → x < p → y < p → Fits w64 (c * x + y)
-sum_fits p c x y h lc lx ly =
-    let hc : c ≤ largest_modulus - 1 = omega arith in
-    let hx : x ≤ largest_modulus - 1 = omega arith in
-    omega (arith, mul-le-mul hc hx)
 
 -- the sum as a residue
 sum_residue : (p c x y : ℕ) → reduce p (c * x + y) ≡ reduce p y ⊕ reduce p c ⊗ reduce p x
@@ -82,9 +66,6 @@ pub record Spanned (at n : ℕ) (g : ℕ → ℕ) (before after : List ℕ) : Ty
   pub passed : (j : ℕ) → j < n → get_or after (at + j) 0 ≡ g j
   pub front : (q : ℕ) → q < at → get_or after q 0 ≡ get_or before q 0
   pub behind : (q : ℕ) → at + n ≤ q → get_or after q 0 ≡ get_or before q 0
-
-pub spanned_none : (at : ℕ) (g : ℕ → ℕ) (xs : List ℕ) → Spanned at 0 g xs xs
-spanned_none at g xs = record { long = refl; passed = λ j h. absurd (omega arith); front = λ q h. refl; behind = λ q h. refl }
 
 -- the multiple has been added at the places in front of `from`, since it is 0 there
 pub added_front : {p c : ℕ} {x : List ℕ} {from : ℕ} {e : List ℕ} {at : ℕ} → Addable p c x from e at

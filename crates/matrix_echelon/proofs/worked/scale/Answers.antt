@@ -8,27 +8,17 @@ use Rattle.matrix_echelon.proofs.WorkedMultiples.{scaled_at, scaled_front}
 use Rattle.matrix_echelon.proofs.worked.scale.Goals as goal
 
 pub loop-j-init : goal.loop-j-init
-loop-j-init c = (c.requires.leading.within, scaled_front c.requires)
-
-pub times-requires : goal.times-requires
-times-requires c =
-    let l = c.loop-j in (
-      c.requires.factor,
-      rw (l.invariant.1.left l.j (omega arith)) (c.requires.leading.below l.j (omega arith)),
-      c.requires.leading.in_range,
-    )
+loop-j-init c = scaled_front c.requires
 
 pub loop-j-preserved : goal.loop-j-preserved
 unfolding scaled_at
 loop-j-preserved c =
-    let l = c.loop-j in (
-      omega arith,
-      walked_more l.j _ _ _ _ l.invariant.1 (omega arith)
-          (c.times.ensures ∙ ap (λ n. (reduce c.args.p c.args.s ⊗ reduce c.args.p n).value) (l.invariant.1.left l.j (omega arith))),
-    )
+    let l = c.loop-j in
+    walked_more l.j _ _ _ _ l.invariant (omega arith)
+    (c.times.ensures ∙ ap (λ n. (reduce c.args.p c.args.s ⊗ reduce c.args.p n).value) (l.invariant.left l.j (omega arith)))
 
 pub returns : goal.returns
 unfolding scaled_at
 returns c =
     let l = c.loop-j in
-    record { same_length = l.invariant.1.long; each = λ j h. l.invariant.1.passed j (omega arith) }
+    record { same_length = l.invariant.long; each = λ j h. l.invariant.passed j (omega (arith, c.requires.leading.within)) }
