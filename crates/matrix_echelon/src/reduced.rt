@@ -16,8 +16,8 @@ fn multipliers(p: u32, width: usize, rank: usize, t: usize, e: &[u32], pivots: &
 {
     let mut by = words::row_room();
     let at = t * width;
-    for s in 0..rank {
-        by[s] = field::arith::minus(p, 0, e[at + pivots[s] as usize]);
+    for (s, v) in pivots[..rank].iter().enumerate() {
+        by[s] = field::arith::minus(p, 0, e[at + *v as usize]);
     }
     by[t] = 0;
     by

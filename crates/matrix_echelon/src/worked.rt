@@ -7,8 +7,8 @@ fn scale(p: u32, s: u32, from: usize, x: &mut [u32])
     requires { Scalable p s from x.old }
     ensures { Scaled p s x.old x.new }
 {
-    for j in from..x.len() {
-        x[j] = field::arith::times(p, s, x[j]);
+    for number in x[from..].iter_mut() {
+        *number = field::arith::times(p, s, *number);
     }
 }
 
