@@ -82,7 +82,7 @@ loop-g-preserved c =
     let l = c.loop-g in
     let more : (l.g + 4) / 4 ≡ l.g / 4 + 1 = omega (arith, l.invariant.0) in
     let t = turn (goal.at.loop-g-preserved c).After-add_rows in
-    rw more (omega (arith, l.invariant.0), omega (arith, c.loop-g-test.true), t.0, t.1)
+    rw more (omega (arith, l.invariant.0), omega arith, t.0, t.1)
 
 -- all rows are added, in no turn or in the last one
 all-cleared : {p width r n : ℕ} {e pivots lo hi los his : List ℕ} → Clearable p width r e pivots lo hi → n ≤ longest_row → r ≤ 4 * n
