@@ -7,6 +7,5 @@ pub mod Grids
 pub mod WorkRow
 pub mod ReduceMultipliers
 pub mod ReduceRow
-pub mod ReducedPivots
 pub mod ReducedRows
 pub mod SolutionBack

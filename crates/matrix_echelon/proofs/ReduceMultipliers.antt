@@ -16,22 +16,11 @@ use Rattle.words.proofs.Walk.{Walked}
 use Rattle.field.specs.Residue.{Residue, reduce, residues, ◌⊕◌, negated}
 use Rattle.matrix_echelon.specs.Group.{worked_rows, pivots_of}
 use Rattle.matrix_echelon.specs.Reduced.{Lookable, Multipliers}
-use Rattle.matrix_echelon.proofs.WorkedClear.{row_inside, negative_residue, negative_below}
+use Rattle.matrix_echelon.proofs.WorkedClear.{negative_residue, negative_below}
 
 -- what the loop writes at place s: 0 less the number of row t at the pivot of row s
 unfoldable pub opposite_at : (p width t : ℕ) (e pivots : List ℕ) → ℕ → ℕ
 opposite_at p width t e pivots s = (reduce p 0 ⊕ negated (reduce p (get_or e (t * width + get_or pivots s 0) 0))).value
-
--- the pivot of row s lies in row t, and that in the room
-pub pivot_inside : {p width r t : ℕ} {e pivots : List ℕ} → Lookable p width r t e pivots → (s : ℕ) → s < r
-    → t * width + get_or pivots s 0 < length e
-pivot_inside {width = width} {t = t} can s h =
-    omega (
-      arith,
-      row_inside t width (omega (arith, can.one_of, can.pivots_in.few)) can.pivots_in.narrow,
-      can.pivots_in.inside s h,
-      can.rows_in.long,
-    )
 
 -- of r numbers written into an empty list, and a 0 at place t
 module _ {p width r t : ℕ} {e pivots none by : List ℕ} (can : Lookable p width r t e pivots) (empty : Zeros longest_row none)

@@ -37,9 +37,6 @@ pub record RowsReduced (p width r t : ℕ) (pivots e e' : List ℕ) : Type 0 whe
       (m n : ℕ) (M : Matrix (residues p)) → Worked (residues p) m n width M r (worked_rows p e width) (pivots_of pivots)
       → Worked (residues p) m n width M r (worked_rows p e' width) (pivots_of pivots) × ReducedFrom (residues p) t r (worked_rows p e' width) (pivots_of pivots)
 
-pub reduced_none : {p width r : ℕ} {pivots e : List ℕ} → WorkedRoom p e → RowsReduced p width r r pivots e e
-reduced_none room = record { room = room; rows = λ m n M w. (w, λ s t l b k. absurd (omega arith)) }
-
 -- every column in front of `from` has a pivot
 abbrev pub TakenBefore : (from r : ℕ) (pivots : List ℕ) → Type 0
 TakenBefore from r pivots = (j : ℕ) → j < from → (s : ℕ) × ((s < r) × (get_or pivots s 0 ≡ j))

@@ -12,7 +12,7 @@ use Rattle.algebra.specs.Matrix.{Vector, Matrix}
 use Rattle.algebra.specs.Echelon.{Cleared}
 use Rattle.algebra.proofs.Echelon.{row_skipped, row_added, pivot_below, grown_leading}
 use Rattle.checks.specs.Prime.{IsModulus}
-use Rattle.words.specs.Words.{Below, LeastNonzero}
+use Rattle.words.specs.Words.{Below, Blank, LeastNonzero}
 use Rattle.field.specs.Residue.{reduce, residues}
 use Rattle.field.proofs.Residues.{reduce_of_value, below_of_value}
 use Rattle.field.proofs.Field.{residues_ring}
@@ -53,67 +53,63 @@ module _ (p n r : ℕ) (lo hi x e pivots x' : List ℕ) (s : Settleable p n r lo
   row_below : Below p x'
   row_below j h = below_of_value (omega (arith, proper)) (row_in p lo hi j) (number_at j (omega (arith, f.long)))
 
+  -- no pivot: the row follows from those before it
+  pub settled_none : Blank (take n x') → RowSettled p n r lo hi x e pivots r e pivots
+  settled_none blank =
+      record {
+        room = s.room;
+        leading = λ width long b l. l;
+        worked = λ width long i M w c.
+            row_skipped (residues p) (residues_ring p (omega (arith, proper))) (one_not_zero p proper) w c
+            (λ j h. sym (residue_at j (omega (arith, s.narrow))) ∙ ap (reduce p) (sym (get_or-take n x' j 0 h) ∙ blank j));
+      }
+
+  -- a pivot
   module _ (v : ℕ) (l : LeastNonzero (take n x') v) where
-    front_long : length (take n x') ≡ n
-    front_long = length-take-le n x' (omega (arith, f.long, s.narrow))
+    in_front : v < n
+    in_front = omega (arith, l.within, length-take-le n x' (omega (arith, f.long, s.narrow)))
 
     zero_before : (j : ℕ) → j < v → get_or x' j 0 ≡ 0
-    zero_before j h = sym (get_or-take n x' j 0 (omega (arith, l.within, front_long))) ∙ l.before j h
+    zero_before j h = sym (get_or-take n x' j 0 (omega (arith, in_front))) ∙ l.before j h
 
-    -- no pivot: the row follows from those before it
-    pub settled_none : v ≡ n → RowSettled p n r lo hi x e pivots r e pivots
-    settled_none is_n =
+    pub growable : Growable p x' v r e pivots
+    growable =
         record {
-          room = s.room;
-          leading = λ width long b l. l;
-          worked = λ width long i M w c.
-              row_skipped (residues p) (residues_ring p (omega (arith, proper))) (one_not_zero p proper) w c
-              (λ j h. sym (residue_at j (omega (arith, s.narrow))) ∙ ap (reduce p) (zero_before j (omega arith)));
+          is_modulus = s.is_modulus;
+          clearable =
+              record {
+                leading =
+                    record {
+                      positive = omega (arith, proper);
+                      in_range = s.is_modulus.in_range;
+                      below = row_below;
+                      within = omega (arith, f.long, s.narrow, in_front);
+                      zeros = zero_before;
+                    };
+                narrow = omega (arith, f.long, s.ready.small);
+                in_row = omega (arith, f.long, s.narrow, in_front);
+                few = s.few;
+                room = s.room.rows_in;
+              };
+          not_zero = λ z. l.not_zero (get_or-take n x' v 0 in_front ∙ z);
+          pivots_long = s.room.pivots_long;
         }
 
-    -- a pivot
-    module _ (not-n : v ≡ n → ⊥) where
-      in_front : v < n
-      in_front = omega (arith, l.within, front_long, not-n)
-
-      pub growable : Growable p x' v r e pivots
-      growable =
-          record {
-            is_modulus = s.is_modulus;
-            clearable =
-                record {
-                  leading =
-                      record {
-                        positive = omega (arith, proper);
-                        in_range = s.is_modulus.in_range;
-                        below = row_below;
-                        within = omega (arith, f.long, s.narrow, in_front);
-                        zeros = zero_before;
-                      };
-                  narrow = omega (arith, f.long, s.ready.small);
-                  in_row = omega (arith, f.long, s.narrow, in_front);
-                  few = s.few;
-                  room = s.room.rows_in;
-                };
-            not_zero = λ z. l.not_zero (omega (arith, front_long, in_front)) (get_or-take n x' v 0 in_front ∙ z);
-            pivots_long = s.room.pivots_long;
-          }
-
-      pub settled_row : {e' pivots' : List ℕ} → RowGrown p x' v r e pivots e' pivots'
-          → RowSettled p n r lo hi x e pivots (r + 1) e' pivots'
-      settled_row {e'} {pivots'} g =
-          record {
-            room = record { rows_in = g.room; pivots_long = g.pivots_long };
-            leading = λ width long b l.
-                rw (add-one r)
-                (grown_leading (residues p) L (one_not_zero p proper) b (omega (arith, s.narrow, in_front)) (λ j h. ap (reduce p) (zero_before j h)) l
-                (g.grown width (f.long ∙ long)));
-            worked = λ width long i M w c.
-                rw (add-one r)
-                (row_added (residues p) L (one_not_zero p proper) w
-                (cleared_same (λ j h. sym (residue_at j (omega arith))) (λ t h. omega (arith, w.narrow, pivot_below (residues p) L (one_not_zero p proper) w t h)) c)
-                in_front (λ j h. ap (reduce p) (zero_before j h)) g.to_one (g.grown width (f.long ∙ long)));
-          }
-        where
-          L : IsCommutativeRing (residues p)
-          L = residues_ring p (omega (arith, proper))
+    pub settled_row : {e' pivots' : List ℕ} → RowGrown p x' v r e pivots e' pivots'
+        → RowSettled p n r lo hi x e pivots (r + 1) e' pivots'
+    settled_row {e'} {pivots'} g =
+        record {
+          room = record { rows_in = g.room; pivots_long = g.pivots_long };
+          leading = λ width long b l.
+              rw (add-one r)
+              (grown_leading (residues p) L (one_not_zero p proper) b (omega (arith, s.narrow, in_front)) (λ j h. ap (reduce p) (zero_before j h)) l
+              (g.grown width (f.long ∙ long)));
+          worked = λ width long i M w c.
+              rw (add-one r)
+              (row_added (residues p) L (one_not_zero p proper) w
+              (cleared_same (λ j h. sym (residue_at j (omega arith))) (λ t h. omega (arith, w.narrow, pivot_below (residues p) L (one_not_zero p proper) w t h)) c)
+              in_front (λ j h. ap (reduce p) (zero_before j h)) g.to_one (g.grown width (f.long ∙ long)));
+        }
+      where
+        L : IsCommutativeRing (residues p)
+        L = residues_ring p (omega (arith, proper))

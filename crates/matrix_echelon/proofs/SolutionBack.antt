@@ -18,14 +18,13 @@ use Rattle.algebra.proofs.Counts.{true_not_false}
 use Rattle.algebra.proofs.Applied.{zero_row_apply}
 use Rattle.algebra.proofs.Echelon.{pivots_differ}
 use Rattle.algebra.proofs.EchelonReduced.{back_substituted}
-use Rattle.words.specs.Words.{Below, Blank}
+use Rattle.words.specs.Words.{Below}
 use Rattle.field.specs.Residue.{Residue, reduce, residues, ◌⊕◌, ◌⊗◌, negated}
 use Rattle.field.specs.View.{line}
 use Rattle.field.specs.Products.{sum_of_products}
 use Rattle.field.specs.Written.{numbers}
 use Rattle.field.proofs.Residues.{reduce_of_value, below_of_value, value_unique}
 use Rattle.field.proofs.Field.{residues_ring}
-use Rattle.field.proofs.Views.{blank_below}
 use Rattle.field.proofs.Written.{is_tabulate}
 use Rattle.matrix_mul.proofs.PlaceRows.{IsPart}
 use Rattle.matrix_echelon.specs.declared.Grid.{Grid}
@@ -45,15 +44,6 @@ pub record SolvedFrom (p n r t : ℕ) (e pivots z : List ℕ) : Type 0 where
       → t ≤ s → s < r → reduce p (get_or z (get_or pivots s 0) 0) ≡ apply (residues p) m k.D (λ i. M i n) (get_or pivots s 0)
   pub elsewhere : (c : ℕ) → c < n → ((s : ℕ) → t ≤ s → s < r → get_or pivots s 0 ≡ c → ⊥) → get_or z c 0 ≡ 0
 
-pub solved_none : {p n r : ℕ} {e pivots z : List ℕ} → 0 < p → length z ≡ n → Blank z → SolvedFrom p n r r e pivots z
-solved_none {p} {z = z} positive long blank =
-    record {
-      long = long;
-      below = blank_below p z positive blank;
-      at_pivot = λ m M k s h l. absurd (omega arith);
-      elsewhere = λ c h f. blank c;
-    }
-
 -- what the code adds up: the numbers of a worked row times those of z
 row_sum : (p n t : ℕ) (e row z : List ℕ) → IsPart e (t * (n + 1)) n row
     → sum_of_products p row z 0 1
@@ -66,10 +56,6 @@ row_sum p n t e row z part =
     let place : 0 + j * 1 ≡ j = omega arith in
     ap (λ q. reduce p (get_or row q 0) ⊗ reduce p (get_or z q 0)) place
     ∙ ap (λ y. reduce p y ⊗ reduce p (get_or z j 0)) (part.same j h))
-
-pub sum_below : {p y : ℕ} (row z : List ℕ) → 0 < p
-    → y ≡ (sum_of_products p row z 0 1).value → y < p
-sum_below {p} row z positive e = below_of_value positive (sum_of_products p row z 0 1) e
 
 -- row t has its number x - y at its pivot, with the carried number x and the sum y
 module _ {p n r t : ℕ} {e pivots z row : List ℕ} {y v : ℕ} (proper : 1 < p) (one_of_lem : t < r) (inside : get_or pivots t 0 < n)

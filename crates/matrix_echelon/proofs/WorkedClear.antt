@@ -1,6 +1,6 @@
 -- Clearing the rows of a group at one place, one after the other: a row lies in the room, rows in front of it and behind it stay as
 -- they are while a multiple is added to it, and numbers below p stay below p.
-use mathlib.Core.Path.{◌≡◌, refl, ap, ◌∙◌}
+use mathlib.Core.Path.{◌≡◌, ap, ◌∙◌}
 use mathlib.Core.List.{List}
 use Prim.Native.Nat.{ℕ, ◌+◌, ◌*◌, ◌-◌, ◌≤◌, ◌<◌}
 use native.Mathlib.Nat.{mul-le-mul, le_refl}
@@ -61,10 +61,6 @@ pub record RowsCleared (p : ℕ) (x : List ℕ) (v from t : ℕ) (e e' : List �
       ≡ worked_rows p e (length x) s j ⊕ negated (worked_rows p e (length x) s v) ⊗ reduce p (get_or x j 0)
   pub before : (q : ℕ) → q < from * length x → get_or e' q 0 ≡ get_or e q 0
   pub behind : (q : ℕ) → t * length x ≤ q → get_or e' q 0 ≡ get_or e q 0
-
-pub cleared_none : {p : ℕ} {x : List ℕ} {v from : ℕ} {e : List ℕ} → WorkedRoom p e → RowsCleared p x v from from e e
-cleared_none room =
-    record { room = room; group = λ s h l. absurd (omega arith); before = λ q h. refl; behind = λ q h. refl }
 
 -- one row more
 module _ {p : ℕ} {x : List ℕ} {v from t : ℕ} {e e' e'' : List ℕ} {c : ℕ} (positive : 0 < p) (later : from ≤ t)

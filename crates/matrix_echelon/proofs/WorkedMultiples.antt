@@ -1,33 +1,18 @@
--- Multiples of a row modulo p: what a product and a sum with a product are as residues, that 64 bits hold them, and what a loop
--- that adds a multiple from a place on has written.
+-- Multiples of a row modulo p: what a product and a sum with a product are as residues, and what a loop that adds a multiple from a
+-- place on has written.
 use mathlib.Core.Path.{◌≡◌, refl, sym, ap, ◌∙◌}
 use mathlib.Core.List.{List}
 use Prim.Native.Nat.{ℕ, ◌+◌, ◌*◌, ◌-◌, ◌%◌, ◌≤◌, ◌<◌}
-use native.Mathlib.Nat.{mul-le-mul, mul-zero}
+use native.Mathlib.Nat.{mul-zero}
+use native.Mathlib.Decide.{dec_lt}
 use native.Mathlib.Omega.{arith}
 use lib.ListN.{length, get_or, set, length-set}
 use lib.Seq.{get_or-set_same, get_or-set_other}
 use borrow.Author.Count.{below_more}
-use mir.Val.{Fits}
-use mir.Syntax.{w64}
-use Rattle.checks.specs.Prime.{largest_modulus}
 use Rattle.field.specs.Residue.{reduce, ◌⊕◌, ◌⊗◌}
 use Rattle.field.proofs.Residues.{reduce_plus, reduce_times, reduce_small}
-use Rattle.words.proofs.Walk.{Walked}
-use Rattle.matrix_echelon.specs.Worked.{Scalable, Addable}
-
--- a product of residues has 64 bits, and so has its sum with a third
-pub product_fits : (p c x : ℕ) → p ≤ largest_modulus → c < p → x < p → Fits w64 (c * x)
-product_fits p c x h lc lx =
-    let hc : c ≤ largest_modulus - 1 = omega arith in
-    let hx : x ≤ largest_modulus - 1 = omega arith in
-    omega (arith, mul-le-mul hc hx)
-
-pub sum_fits : (p c x y : ℕ) → p ≤ largest_modulus → c < p → x < p → y < p → Fits w64 (c * x + y)
-sum_fits p c x y h lc lx ly =
-    let hc : c ≤ largest_modulus - 1 = omega arith in
-    let hx : x ≤ largest_modulus - 1 = omega arith in
-    omega (arith, mul-le-mul hc hx)
+use Rattle.words.proofs.Parts.{replaced, replaced_length, replaced_inside, replaced_elsewhere}
+use Rattle.matrix_echelon.specs.Worked.{Scalable, Scaled, Addable}
 
 -- the sum as a residue
 sum_residue : (p c x y : ℕ) → reduce p (c * x + y) ≡ reduce p y ⊕ reduce p c ⊗ reduce p x
@@ -66,15 +51,30 @@ unfolding added_at reduce
 sum_at_lem p c x at e j y same =
     ap (λ n. (c * get_or x j 0 + n) % p) same ∙ ap (λ r. r.value) (sum_residue p c (get_or x j 0) (get_or e (at + j) 0))
 
--- the places in front of `from` have been scaled, since they are 0
-pub scaled_front : {p s from : ℕ} {x : List ℕ} → Scalable p s from x → Walked from (scaled_at p s x) x x
+-- where the numbers from `from` on are scaled, all are, since those in front of it are 0
+pub scaled_all : {p s from : ℕ} {x : List ℕ} (ys : List ℕ) → Scalable p s from x → length ys ≡ length x - from
+    → ((j : ℕ) → j < length ys → get_or ys j 0 ≡ scaled_at p s x (from + j)) → Scaled p s x (replaced x from (length x - from) ys)
 unfolding scaled_at
-scaled_front {p} {s} can =
-    record {
-      long = refl;
-      passed = λ j h. scaled_zero p s _ can.leading.positive (can.leading.zeros j h);
-      left = λ j h. refl;
-    }
+scaled_all {p} {s} {from} {x} ys can long scaled =
+    record { same_length = replaced_length x from k ys fits long; each = λ j h. by_place j h (dec_lt j from) }
+  where
+    k : ℕ
+    k = length x - from
+
+    fits : from + k ≤ length x
+    fits = omega (arith, can.leading.within)
+
+    by_place : (j : ℕ) → j < length x → Dec (j < from)
+        → get_or (replaced x from k ys) j 0 ≡ (reduce p s ⊗ reduce p (get_or x j 0)).value
+    by_place j h (yes l) =
+        replaced_elsewhere x from k ys fits long j (λ t g e. omega arith)
+        ∙ scaled_zero p s _ can.leading.positive (can.leading.zeros j l)
+    by_place j h (no l) =
+        let here : j ≡ from + (j - from) = omega arith in
+        ap (λ q. get_or (replaced x from k ys) q 0) here
+        ∙ replaced_inside x from k ys fits long (j - from) (omega arith)
+        ∙ scaled (j - from) (omega (arith, long))
+        ∙ ap (λ q. (reduce p s ⊗ reduce p (get_or x q 0)).value) (sym here)
 
 -- after has g's numbers at n places from `at` on, and the numbers of before at the others
 pub record Spanned (at n : ℕ) (g : ℕ → ℕ) (before after : List ℕ) : Type 0 where
@@ -82,9 +82,6 @@ pub record Spanned (at n : ℕ) (g : ℕ → ℕ) (before after : List ℕ) : Ty
   pub passed : (j : ℕ) → j < n → get_or after (at + j) 0 ≡ g j
   pub front : (q : ℕ) → q < at → get_or after q 0 ≡ get_or before q 0
   pub behind : (q : ℕ) → at + n ≤ q → get_or after q 0 ≡ get_or before q 0
-
-pub spanned_none : (at : ℕ) (g : ℕ → ℕ) (xs : List ℕ) → Spanned at 0 g xs xs
-spanned_none at g xs = record { long = refl; passed = λ j h. absurd (omega arith); front = λ q h. refl; behind = λ q h. refl }
 
 -- the multiple has been added at the places in front of `from`, since it is 0 there
 pub added_front : {p c : ℕ} {x : List ℕ} {from : ℕ} {e : List ℕ} {at : ℕ} → Addable p c x from e at

@@ -23,10 +23,9 @@ fn settle(
     ensures { RowSettled p n rank lo.now hi.now x.old e.old pivots.old result e.new pivots.new }
 {
     rows::fold_into(p, lo, hi, x);
-    let v = words::least_nonzero(&x[..n]);
-    if v == n {
+    let Some(v) = words::least_nonzero(&x[..n]) else {
         return rank;
-    }
+    };
     worked::grow(p, x, v, rank, e, pivots);
     rank + 1
 }
@@ -71,12 +70,10 @@ pub fn forward(
     ensures { Held p grid grid.rows a.now w.now step carried result e.new pivots.new }
 {
     let mut rank = 0;
-    let mut i = 0;
-    while i < grid.rows {
+    for i in 0..grid.rows {
         if rank < grid.columns {
             rank = work_row(p, grid, i, a, w, step, carried, rank, e, pivots);
         }
-        i += 1;
     }
     rank
 }

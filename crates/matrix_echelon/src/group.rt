@@ -19,12 +19,9 @@ fn table_limbs(grid: Grid, i: usize, a: &[u32]) -> [u64; WIDE]
     ensures { NumbersRead grid i a.now result }
 {
     let mut lo = rows::no_rows();
-    let n = grid.columns;
     let from = grid.start + i * grid.down;
-    let mut j = 0;
-    while j < n {
+    for j in 0..grid.columns {
         lo[j] = a[from + j * grid.along] as u64;
-        j += 1;
     }
     lo
 }
@@ -34,10 +31,8 @@ fn carried_limbs(n: usize, i: usize, w: &[u32], step: usize, carried: usize, lo:
     requires { CarriedReadable n i w.now step carried lo.old }
     ensures { CarriedRead n i w.now step carried lo.old lo.new }
 {
-    let mut u = 0;
-    while u < carried {
+    for u in 0..carried {
         lo[n + u] = w[i * step + u] as u64;
-        u += 1;
     }
 }
 
@@ -136,15 +131,8 @@ fn least_pivot(width: usize, rank: usize, g: usize, pivots: &[u32]) -> usize
     ensures { NoPivotBefore width rank g pivots.now result }
 {
     let mut least = width;
-    let mut t = g;
-    while t < g + 4 {
-        if t < rank {
-            let v = pivots[t] as usize;
-            if v < least {
-                least = v;
-            }
-        }
-        t += 1;
+    for t in g..rank.min(g + 4) {
+        least = least.min(pivots[t] as usize);
     }
     least
 }
@@ -164,11 +152,9 @@ pub fn clear_pivots(
 {
     let once = BASE % (p as u64);
     let twice = once * once % (p as u64);
-    let mut g = 0;
-    while g < rank {
+    for g in (0..rank).step_by(4) {
         let four = group_rows(p, once, twice, width, rank, g, pivots, lo, hi);
         let from = least_pivot(width, rank, g, pivots);
         rows::add_rows(width, from, e, four, lo, hi);
-        g += 4;
     }
 }

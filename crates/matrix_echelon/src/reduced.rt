@@ -1,5 +1,5 @@
 // What the worked rows give: the reduced form of the table, row after row from the last one, and a solution by substituting back.
-ghost use Rattle.std.specs.Prelude.{◌≡◌, ◌+◌, ◌≤◌, length};
+ghost use Rattle.std.specs.Prelude.{◌≡◌, ◌+◌, ◌≤◌, length, MatchOption};
 ghost use Rattle.matrix_echelon.specs.Grid.{Readable};
 ghost use Rattle.matrix_echelon.specs.Forward.{Room};
 ghost use Rattle.matrix_echelon.specs.Reduced.{UnitWritten, FirstFree, Lookable, Multipliers, Reducible, RowLessened, ReducedForm, Pivoting, RowsByPivot, SolutionFound};
@@ -16,10 +16,8 @@ fn multipliers(p: u32, width: usize, rank: usize, t: usize, e: &[u32], pivots: &
 {
     let mut by = words::row_room();
     let at = t * width;
-    let mut s = 0;
-    while s < rank {
-        by[s] = field::arith::minus(p, 0, e[at + pivots[s] as usize]);
-        s += 1;
+    for (s, v) in pivots[..rank].iter().enumerate() {
+        by[s] = field::arith::minus(p, 0, e[at + *v as usize]);
     }
     by[t] = 0;
     by
@@ -30,25 +28,17 @@ fn write_unit(v: usize, len: usize, e: &mut [u32], at: usize)
     requires { at + len ≤ length e.old }
     ensures { UnitWritten v len at e.old e.new }
 {
-    let mut j = 0;
-    while j < len {
-        e[at + j] = if j == v { 1 } else { 0 };
-        j += 1;
+    e[at..at + len].fill(0);
+    if v < len {
+        e[at + v] = 1;
     }
 }
 
-// The first column without a pivot, where `at` tells of each column whether it has one; or their number.
-fn first_free(at: &[u32]) -> usize
-    ensures { FirstFree at.now result }
+// The first column without a pivot, where `at` tells of each column whether it has one.
+fn first_free(at: &[u32]) -> Option<usize>
+    ensures { MatchOption result (FirstFree at.now (length at.now)) (FirstFree at.now) }
 {
-    let mut j = 0;
-    while j < at.len() {
-        if at[j] == 0 {
-            return j;
-        }
-        j += 1;
-    }
-    j
+    at.iter().position(|row| *row == 0)
 }
 
 // Makes the worked row t 0 at the pivots of the other rows. `next` leads through all rows. In front of `from` every column has a
@@ -99,11 +89,9 @@ pub fn reduced(
     let n = grid.columns;
     let width = n + carried;
     let at = rows_by_pivot(rank, pivots);
-    let from = first_free(&at[..n]);
+    let from = first_free(&at[..n]).unwrap_or(n);
     let next = rows::each_row();
-    let mut t = rank;
-    while 0 < t {
-        t -= 1;
+    for t in (0..rank).rev() {
         reduce_row(p, width, from, rank, t, &next, e, pivots);
     }
     rank
@@ -115,10 +103,8 @@ pub fn rows_by_pivot(rank: usize, pivots: &[u32]) -> [u32; ROW]
     ensures { RowsByPivot rank pivots.now result }
 {
     let mut at = words::row_room();
-    let mut t = 0;
-    while t < rank {
-        at[pivots[t] as usize] = (t + 1) as u32;
-        t += 1;
+    for (t, v) in pivots[..rank].iter().enumerate() {
+        at[*v as usize] = (t + 1) as u32;
     }
     at
 }
@@ -134,9 +120,7 @@ pub fn solution(p: u32, grid: Grid, a: &[u32], w: &[u32], step: usize, z: &mut [
     let rank = forward(p, grid, a, w, step, 1, &mut e, &mut pivots);
     words::clear(z);
     let n = grid.columns;
-    let mut t = rank;
-    while 0 < t {
-        t -= 1;
+    for t in (0..rank).rev() {
         let at = t * (n + 1);
         let end = at + n;
         let x = field::sums::dot(p, &e[at..end], z, 0, 1);

@@ -7,10 +7,8 @@ fn scale(p: u32, s: u32, from: usize, x: &mut [u32])
     requires { Scalable p s from x.old }
     ensures { Scaled p s x.old x.new }
 {
-    let mut j = from;
-    while j < x.len() {
-        x[j] = field::arith::times(p, s, x[j]);
-        j += 1;
+    for number in x[from..].iter_mut() {
+        *number = field::arith::times(p, s, *number);
     }
 }
 
@@ -19,11 +17,9 @@ fn add_multiple(p: u32, c: u32, x: &[u32], from: usize, e: &mut [u32], at: usize
     requires { Addable p c x.now from e.old at }
     ensures { MultipleAdded p c x.now at e.old e.new }
 {
-    let mut j = from;
-    while j < x.len() {
+    for j in from..x.len() {
         let y = (c as u64) * (x[j] as u64) + (e[at + j] as u64);
         e[at + j] = (y % (p as u64)) as u32;
-        j += 1;
     }
 }
 
@@ -32,12 +28,10 @@ fn clear_group(p: u32, x: &[u32], v: usize, rank: usize, e: &mut [u32])
     requires { GroupClearable p x.now v rank e.old }
     ensures { GroupCleared p x.now v rank e.old e.new }
 {
-    let mut t = rank / 4 * 4;
-    while t < rank {
+    for t in rank / 4 * 4..rank {
         let at = t * x.len();
         let c = field::arith::minus(p, 0, e[at + v]);
         add_multiple(p, c, x, v, e, at);
-        t += 1;
     }
 }
 

@@ -35,10 +35,9 @@ fn one_row(
     ensures { Eliminated p 1 n a.now d.old at stride no_marks rows.old d.new result rows.new }
 {
     let mut marks = row_room();
-    let v = words::least_nonzero(a);
-    if v == n {
+    let Some(v) = words::least_nonzero(a) else {
         return marks;
-    }
+    };
     d[at + v * stride] = field::arith::inverse(p, a[v]);
     marks[v] = 1;
     rows[0] = 1;
@@ -50,12 +49,10 @@ fn add_marks(n: usize, xs: &[u32], marks: &mut [u32])
     requires { (n ≤ length xs.now) × (n ≤ length marks.old) }
     ensures { BothMarked n xs.now marks.old marks.new }
 {
-    let mut c = 0;
-    while c < n {
-        if xs[c] != 0 {
+    for (c, x) in xs[..n].iter().enumerate() {
+        if *x != 0 {
             marks[c] = 1;
         }
-        c += 1;
     }
 }
 

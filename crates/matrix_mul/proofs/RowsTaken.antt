@@ -63,20 +63,6 @@ pub four_fit : (a b c d : ℕ) → Quarter a → Quarter b → Quarter c → Qua
 unfolding Quarter LimbFits
 four_fit a b c d f g h k = omega arith
 
--- four rows that are inside the table are so up to any of their places
-pub inside_at : {width j : ℕ} {table : List ℕ} {f : Four} → j < width → FourInside width table f → FourInside (j + 1) table f
-inside_at {width} {j} {table} h i =
-    record {
-      table_short = i.table_short;
-      first = one i.first;
-      second = one i.second;
-      third = one i.third;
-      fourth = one i.fourth;
-    }
-  where
-    one : {r : Row} → Inside width table r → Inside (j + 1) table r
-    one i = record { short = i.short; in_table = omega (arith, i.in_table) }
-
 -- what a combination asks lets `next_row` go through its rows
 module _ {p : ℕ} {by table : List ℕ} {Y : Place} {out : List ℕ} (c : Combinable p by table Y out) where
   pub walkable : length table < 2 ^ 64 → {next : List ℕ} → Passes (length by) next Y (length out) table → (from : ℕ) → from ≤ length by

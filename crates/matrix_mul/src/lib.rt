@@ -31,10 +31,8 @@ pub fn negate(p: u32, xs: &mut [u32])
     requires { (0 < p) × (p ≤ largest_modulus) × Below p xs.old }
     ensures { Negated p xs.old xs.new }
 {
-    let mut j = 0;
-    while j < xs.len() {
-        xs[j] = field::arith::minus(p, 0, xs[j]);
-        j += 1;
+    for x in xs.iter_mut() {
+        *x = field::arith::minus(p, 0, *x);
     }
 }
 
@@ -44,9 +42,7 @@ pub fn list_marked(marks: &[u32], next: &mut [u32])
     ensures { (length next.new ≡ length next.old) × Listed marks.now next.new }
 {
     let mut later = marks.len();
-    let mut t = marks.len();
-    while 0 < t {
-        t -= 1;
+    for t in (0..marks.len()).rev() {
         next[t] = later as u32;
         if marks[t] != 0 {
             later = t;
@@ -96,9 +92,7 @@ pub fn add_product(
     requires { Factors p size x.now left y.now right z.old target × Passes size.inner next.now right size.columns y.now }
     ensures { Multiplied p size x.now left y.now right z.old z.new target }
 {
-    let m = size.rows;
-    let mut i = 0;
-    while i < m {
+    for i in 0..size.rows {
         let x_at = left.start + i * left.stride;
         let z_at = target.start + i * target.stride;
         add_row(
@@ -113,7 +107,6 @@ pub fn add_product(
             z,
             z_at,
         );
-        i += 1;
     }
 }
 
@@ -158,9 +151,7 @@ pub fn add_product_within(
     ensures { Multiplied p size z.old (place x_start target.stride) y.now right z.old z.new target }
 {
     let next = rows::each_row();
-    let m = size.rows;
-    let mut i = 0;
-    while i < m {
+    for i in 0..size.rows {
         let mark = marks[i];
         let x_at = x_start + i * target.stride;
         let z_at = target.start + i * target.stride;
@@ -176,6 +167,5 @@ pub fn add_product_within(
             z,
             z_at,
         );
-        i += 1;
     }
 }

@@ -12,6 +12,7 @@ ghost use Rattle.matrix_mul.specs.Rows.{Each, Passes, Walkable, RowTaken, FourTa
 
 use super::Place;
 use field::sums::BASE;
+use std::array;
 use words::{ROW, WIDE};
 
 // The sums of limbs of no rows.
@@ -42,13 +43,7 @@ pub struct Four {
 pub fn each_row() -> [u32; ROW]
     ensures { Each result }
 {
-    let mut next = words::row_room();
-    let mut t = 0;
-    while t < ROW {
-        next[t] = (t + 1) as u32;
-        t += 1;
-    }
-    next
+    array::from_fn(|t| (t + 1) as u32)
 }
 
 // The first row with a multiplier that is not 0, at `from` or later; where there is none, the first row, times 0. next[t] is the
@@ -116,11 +111,9 @@ fn add_four(p: u32, table: &[u32], four: Four, out: &mut [u32])
     requires { (0 < p) × FourInside (length out.old) table.now four }
     ensures { Summed p (four_at table.now four) out.old out.new }
 {
-    let mut j = 0;
-    while j < out.len() {
+    for j in 0..out.len() {
         let x = four_at(table, four, j) + (out[j] as u64);
         out[j] = (x % (p as u64)) as u32;
-        j += 1;
     }
 }
 
@@ -137,12 +130,10 @@ pub fn add_rows(
     requires { Ready width lo.old hi.old × FourInside width table.now four × NothingBefore width from table.now four }
     ensures { Added width (four_at table.now four) lo.old hi.old lo.new hi.new }
 {
-    let mut j = from;
-    while j < width {
+    for j in from..width {
         let x = four_at(table, four, j);
         lo[j] += x % BASE;
         hi[j] += x / BASE;
-        j += 1;
     }
 }
 
@@ -163,10 +154,8 @@ pub fn fold_into(p: u32, lo: &[u64; WIDE], hi: &[u64; WIDE], out: &mut [u32])
 {
     let once = BASE % (p as u64);
     let twice = once * once % (p as u64);
-    let mut j = 0;
-    while j < out.len() {
+    for j in 0..out.len() {
         out[j] = folded(p, once, twice, lo[j] + (out[j] as u64), hi[j]);
-        j += 1;
     }
 }
 

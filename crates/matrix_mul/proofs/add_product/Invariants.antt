@@ -1,10 +1,6 @@
 -- `matrix_mul::add_product` meets its contract. The loop's invariant is the contract for the first i rows.
-use Prim.Native.Nat.{◌-◌, ◌≤◌}
 use Rattle.matrix_mul.specs.Places.{with_rows, Multiplied}
 use Rattle.matrix_mul.proofs.add_product.Given as goal
 
 abbrev pub invariant-loop-i : goal.invariant-loop-i
-invariant-loop-i l = (l.i ≤ l.size.rows) × Multiplied l.p (with_rows l.i l.size) l.x l.left l.y l.right l.initial.z l.z l.target
-
-abbrev pub decreases-loop-i : goal.decreases-loop-i
-decreases-loop-i l = l.size.rows - l.i
+invariant-loop-i l = Multiplied l.p (with_rows l.i l.size) l.x l.left l.y l.right l.initial.z l.z l.target

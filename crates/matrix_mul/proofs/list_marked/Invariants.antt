@@ -1,4 +1,4 @@
--- `matrix_mul::list_marked` meets its contract. The loop's invariant: the list is written from t on (`Listing`).
+-- `matrix_mul::list_marked` meets its contract. The loop's invariant: the list is written from t on (`Listing`); the search finds the rest.
 use mathlib.Core.Path.{◌≡◌}
 use Prim.Native.Nat.{◌≤◌}
 use lib.ListN.{length}
@@ -7,6 +7,3 @@ use Rattle.matrix_mul.proofs.list_marked.Given as goal
 
 abbrev pub invariant-loop-t : goal.invariant-loop-t
 invariant-loop-t l = (l.t ≤ length l.marks) × (length l.next ≡ length l.initial.next) × Listing l.marks l.next l.t l.later
-
-abbrev pub decreases-loop-t : goal.decreases-loop-t
-decreases-loop-t l = l.t

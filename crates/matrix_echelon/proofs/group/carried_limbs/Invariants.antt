@@ -1,13 +1,10 @@
 -- `matrix_echelon::group::carried_limbs` meets its contract. The loop's invariant: the first u carried numbers, which are limbs, are written
 -- behind the row.
-use Prim.Native.Nat.{ℕ, ◌+◌, ◌*◌, ◌-◌, ◌≤◌, ◌<◌}
+use Prim.Native.Nat.{ℕ, ◌+◌, ◌*◌, ◌<◌}
 use lib.ListN.{get_or}
 use Rattle.field.specs.Limbs.{limb_base}
 use Rattle.matrix_echelon.proofs.WorkedMultiples.{Spanned}
 use Rattle.matrix_echelon.proofs.group.carried_limbs.Given as goal
 
 abbrev pub invariant-loop-u : goal.invariant-loop-u
-invariant-loop-u l = (l.u ≤ l.carried) × Spanned l.n l.u (λ t. get_or l.w (l.i * l.step + t) 0) l.initial.lo l.lo × ((t : ℕ) → t < l.u → get_or l.w (l.i * l.step + t) 0 < limb_base)
-
-abbrev pub decreases-loop-u : goal.decreases-loop-u
-decreases-loop-u l = l.carried - l.u
+invariant-loop-u l = Spanned l.n l.u (λ t. get_or l.w (l.i * l.step + t) 0) l.initial.lo l.lo × ((t : ℕ) → t < l.u → get_or l.w (l.i * l.step + t) 0 < limb_base)

@@ -1,12 +1,8 @@
 -- `matrix_echelon::group::table_limbs` meets its contract. The loop's invariant: the first j numbers of the row are read.
-use Prim.Native.Nat.{◌-◌, ◌≤◌}
 use lib.ListN.{get_or}
 use Rattle.words.proofs.Walk.{Walked}
 use Rattle.matrix_echelon.specs.Grid.{grid_place}
 use Rattle.matrix_echelon.proofs.group.table_limbs.Given as goal
 
 abbrev pub invariant-loop-j : goal.invariant-loop-j
-invariant-loop-j l = (l.j ≤ l.grid.columns) × Walked l.j (λ t. get_or l.a (grid_place l.grid l.i t) 0) l.initial.lo l.lo
-
-abbrev pub decreases-loop-j : goal.decreases-loop-j
-decreases-loop-j l = l.grid.columns - l.j
+invariant-loop-j l = Walked l.j (λ t. get_or l.a (grid_place l.grid l.i t) 0) l.initial.lo l.lo

@@ -1,11 +1,7 @@
 -- `reduced::multipliers` meets its contract. The loop's invariant: the multipliers of the first s rows are written, the others are 0.
-use Prim.Native.Nat.{◌-◌, ◌≤◌}
 use Rattle.words.proofs.Walk.{Walked}
 use Rattle.matrix_echelon.proofs.ReduceMultipliers.{opposite_at}
 use Rattle.matrix_echelon.proofs.reduced.multipliers.Given as goal
 
 abbrev pub invariant-loop-s : goal.invariant-loop-s
-invariant-loop-s l = (l.s ≤ l.rank) × Walked l.s (opposite_at l.p l.width l.t l.e l.pivots) l.initial.by l.by
-
-abbrev pub decreases-loop-s : goal.decreases-loop-s
-decreases-loop-s l = l.rank - l.s
+invariant-loop-s l = Walked l.s (opposite_at l.p l.width l.t l.e l.pivots) l.initial.by l.by

@@ -1,10 +1,6 @@
 -- `reduced::rows_by_pivot` meets its contract. The loop's invariant: the first t rows are written at their pivots.
-use Prim.Native.Nat.{◌-◌, ◌≤◌}
 use Rattle.matrix_echelon.specs.Reduced.{RowsByPivot}
 use Rattle.matrix_echelon.proofs.reduced.rows_by_pivot.Given as goal
 
 abbrev pub invariant-loop-t : goal.invariant-loop-t
-invariant-loop-t l = (l.t ≤ l.rank) × RowsByPivot l.t l.pivots l.at
-
-abbrev pub decreases-loop-t : goal.decreases-loop-t
-decreases-loop-t l = l.rank - l.t
+invariant-loop-t l = RowsByPivot l.t l.pivots l.at

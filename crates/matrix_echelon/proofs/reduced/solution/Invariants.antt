@@ -1,10 +1,6 @@
 -- `reduced::solution` meets its contract. The loop's invariant: z is D w at the pivots of the worked rows from t on, and 0 elsewhere.
-use Prim.Native.Nat.{◌≤◌}
 use Rattle.matrix_echelon.proofs.SolutionBack.{SolvedFrom}
 use Rattle.matrix_echelon.proofs.reduced.solution.Given as goal
 
 abbrev pub invariant-loop-t : goal.invariant-loop-t
-invariant-loop-t l = (l.t ≤ l.rank) × SolvedFrom l.p l.n l.rank l.t l.e l.pivots l.z
-
-abbrev pub decreases-loop-t : goal.decreases-loop-t
-decreases-loop-t l = l.t
+invariant-loop-t l = SolvedFrom l.p l.n l.rank l.t l.e l.pivots l.z

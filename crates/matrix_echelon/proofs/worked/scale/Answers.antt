@@ -1,34 +1,24 @@
--- `worked::scale` meets its contract. The loop's invariant: the first j numbers are scaled, where those in front of `from` count as
--- done, since they are 0; the others are as they were.
+-- `worked::scale` meets its contract. The loop's invariant: the numbers from `from` up to the index are scaled, the others are as they
+-- were; those in front of `from` are 0, so they need no scaling.
 use mathlib.Core.Path.{ap, ◌∙◌}
 use native.Mathlib.Omega.{arith}
+use lib.ListN.{length-drop}
+use lib.Seq.{get_or-drop}
 use Rattle.field.specs.Residue.{reduce, ◌⊗◌}
 use Rattle.words.proofs.Walk.{walked_more}
-use Rattle.matrix_echelon.proofs.WorkedMultiples.{scaled_at, scaled_front}
+use Rattle.matrix_echelon.proofs.WorkedMultiples.{scaled_at, scaled_all}
 use Rattle.matrix_echelon.proofs.worked.scale.Goals as goal
 
-pub loop-j-init : goal.loop-j-init
-loop-j-init c = (c.requires.leading.within, scaled_front c.requires)
-
-pub times-requires : goal.times-requires
-times-requires c =
-    let l = c.loop-j in (
-      c.requires.factor,
-      rw (l.invariant.1.left l.j (omega arith)) (c.requires.leading.below l.j (omega arith)),
-      c.requires.leading.in_range,
-    )
-
-pub loop-j-preserved : goal.loop-j-preserved
+pub loop-number-preserved : goal.loop-number-preserved
 unfolding scaled_at
-loop-j-preserved c =
-    let l = c.loop-j in (
-      omega arith,
-      walked_more l.j _ _ _ _ l.invariant.1 (omega arith)
-          (c.times.ensures ∙ ap (λ n. (reduce c.args.p c.args.s ⊗ reduce c.args.p n).value) (l.invariant.1.left l.j (omega arith))),
-    )
+loop-number-preserved c =
+    let a = c.args in
+    let l = c.loop-number in
+    let i = l.number-index in
+    let old = l.invariant.left i (omega arith) ∙ get_or-drop a.from a.x.now i 0 in
+    walked_more i _ _ _ _ l.invariant (omega arith) (c.times.ensures ∙ ap (λ n. (reduce a.p a.s ⊗ reduce a.p n).value) old)
 
 pub returns : goal.returns
-unfolding scaled_at
 returns c =
-    let l = c.loop-j in
-    record { same_length = l.invariant.1.long; each = λ j h. l.invariant.1.passed j (omega arith) }
+    let l = c.loop-number in
+    scaled_all l.number-items c.requires (l.invariant.long ∙ length-drop c.args.from c.args.x.now) (λ j h. l.invariant.passed j (omega arith))

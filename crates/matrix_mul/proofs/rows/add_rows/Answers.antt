@@ -7,7 +7,6 @@ use native.Mathlib.Omega.{arith}
 use lib.ListN.{get_or}
 use Rattle.field.specs.Limbs.{low, high}
 use Rattle.field.proofs.Limbs.{low_fits, high_fits}
-use Rattle.matrix_mul.proofs.RowsTaken.{inside_at}
 use Rattle.words.proofs.Walk.{walked_front, walked_more}
 use Rattle.matrix_mul.proofs.rows.add_rows.Invariants.{with-low, with-high}
 use Rattle.matrix_mul.proofs.rows.add_rows.Goals as goal
@@ -24,25 +23,21 @@ nothing-high x hi j e = omega (arith, e)
 pub loop-j-init : goal.loop-j-init
 loop-j-init c =
     let none = c.requires.2.nothing in (
-      c.requires.2.within,
       walked_front c.args.from _ _ (λ j h. nothing-low _ _ j (none j h)),
       walked_front c.args.from _ _ (λ j h. nothing-high _ _ j (none j h)),
     )
-
-pub four_at-x-requires : goal.four_at-x-requires
-four_at-x-requires c = inside_at c.loop-j-test.true c.requires.1
 
 pub overflow_add-lo : goal.overflow_add-lo
 unfolding low
 overflow_add-lo c =
     let l = c.loop-j in
-    low_fits _ _ (rw (l.invariant.1.left l.j (omega arith)) (c.requires.0.fits_lo l.j (omega arith)))
+    low_fits _ _ (rw (l.invariant.0.left l.j (omega arith)) (c.requires.0.fits_lo l.j (omega arith)))
 
 pub overflow_add-hi : goal.overflow_add-hi
 unfolding high
 overflow_add-hi c =
     let l = c.loop-j in
-    high_fits _ _ (rw (l.invariant.2.left l.j (omega arith)) (c.requires.0.fits_hi l.j (omega arith)))
+    high_fits _ _ (rw (l.invariant.1.left l.j (omega arith)) (c.requires.0.fits_hi l.j (omega arith)))
     (record { fits = c.four_at-x.type_inv })
 
 pub loop-j-preserved : goal.loop-j-preserved
@@ -50,9 +45,8 @@ unfolding low high with-low with-high
 loop-j-preserved c =
     let l = c.loop-j in
     let e = c.four_at-x.ensures.0 in (
-      omega arith,
-      walked_more l.j _ _ _ _ l.invariant.1 (omega (arith, c.requires.0.long_lo)) (rw (l.invariant.1.left l.j (omega arith), e)),
-      walked_more l.j _ _ _ _ l.invariant.2 (omega (arith, c.requires.0.long_hi)) (rw (l.invariant.2.left l.j (omega arith), e)),
+      walked_more l.j _ _ _ _ l.invariant.0 (omega (arith, c.requires.0.long_lo)) (rw (l.invariant.0.left l.j (omega arith), e)),
+      walked_more l.j _ _ _ _ l.invariant.1 (omega (arith, c.requires.0.long_hi)) (rw (l.invariant.1.left l.j (omega arith), e)),
     )
 
 pub returns : goal.returns
@@ -60,8 +54,8 @@ unfolding with-low with-high
 returns c =
     let l = c.loop-j in
     record {
-      long_lo = l.invariant.1.long;
-      long_hi = l.invariant.2.long;
-      low_at = λ j h. l.invariant.1.passed j (omega arith);
-      high_at = λ j h. l.invariant.2.passed j (omega arith);
+      long_lo = l.invariant.0.long;
+      long_hi = l.invariant.1.long;
+      low_at = λ j h. l.invariant.0.passed j (omega (arith, c.requires.2.within));
+      high_at = λ j h. l.invariant.1.passed j (omega (arith, c.requires.2.within));
     }

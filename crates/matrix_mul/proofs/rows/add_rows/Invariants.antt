@@ -1,7 +1,7 @@
 -- `matrix_mul::rows::add_rows` meets its contract. The loop's invariant: both lists have the limbs added at the first j places, and
 -- are at the others as they were.
 use mathlib.Core.List.{List}
-use Prim.Native.Nat.{ℕ, ◌+◌, ◌-◌, ◌≤◌}
+use Prim.Native.Nat.{ℕ, ◌+◌}
 use lib.ListN.{get_or}
 use Rattle.field.specs.Limbs.{low, high}
 use Rattle.matrix_mul.specs.Rows.{four_at}
@@ -16,7 +16,4 @@ unfoldable pub with-high : (ℕ → ℕ) → List ℕ → ℕ → ℕ
 with-high x hi j = get_or hi j 0 + high (x j)
 
 abbrev pub invariant-loop-j : goal.invariant-loop-j
-invariant-loop-j l = (l.j ≤ l.width) × Walked l.j (with-low (four_at l.table l.four) l.initial.lo) l.initial.lo l.lo × Walked l.j (with-high (four_at l.table l.four) l.initial.hi) l.initial.hi l.hi
-
-abbrev pub decreases-loop-j : goal.decreases-loop-j
-decreases-loop-j l = l.width - l.j
+invariant-loop-j l = Walked l.j (with-low (four_at l.table l.four) l.initial.lo) l.initial.lo l.lo × Walked l.j (with-high (four_at l.table l.four) l.initial.hi) l.initial.hi l.hi
