@@ -20,5 +20,5 @@ dot-requires c = (
   (board_sizes _ c.requires.board).0,
   λ t h.
       rw (c.value_start-first.ensures, c.row_length-step.ensures, c.requires.values_long)
-      (values_reach _ c.requires.board c.loop-u.u t (omega (arith, c.requires.values_long)) (omega (arith, length-take-le {A = ℕ}))),
+      (omega (arith, values_reach _ c.requires.board c.loop-u.u t (omega (arith, c.requires.values_long)) (omega (arith, length-take-le {A = ℕ})))),
 )
