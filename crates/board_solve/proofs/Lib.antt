@@ -4,7 +4,6 @@ pub mod Combinations
 pub mod Take
 pub mod RecordUnits
 pub mod RecordRows
-pub mod RecordWords
 pub mod RecordSolutions
 pub mod RecordSettled
 pub mod RecordReduced

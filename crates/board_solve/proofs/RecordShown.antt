@@ -4,7 +4,7 @@ use mathlib.Core.Path.{◌≡◌, sym, ap, ◌∙◌}
 use mathlib.Core.List.{List}
 use Prim.Native.Nat.{ℕ, ◌+◌, ◌*◌, ◌<◌}
 use native.Mathlib.Omega.{arith}
-use borrow.Author.Count.{below_none, below_more}
+use borrow.Author.Count.{below_more}
 use lib.IntN.{ℤ, pos}
 use lib.ListN.{length, get_or, set, length-set}
 use lib.Seq.{get_or-set_same, get_or-set_other}
@@ -40,15 +40,6 @@ pub record ShownBelow (p n s low : ℕ) (es : List Entry) (j : ℕ) (marks : Lis
   pub number_at : (ok : IsModulus p) (i : ℕ) → i < j → (w : ℕ) → w < s → word_of s numbers i w ≡ shown_number p ok n s es low i w
 
 module _ (p n s low : ℕ) (es : List Entry) where
-  pub shown_none : (marks : List ℕ) (numbers : List ℤ) → length marks ≡ n → length numbers ≡ n * s → ShownBelow p n s low es 0 marks numbers
-  shown_none marks numbers h l =
-      record {
-        marks_long = h;
-        numbers_long = l;
-        mark_at = λ ok. below_none (λ i. get_or marks i 0 ≡ shown_mark p ok n s es i);
-        number_at = λ ok. below_none (λ i. (w : ℕ) → w < s → word_of s numbers i w ≡ shown_number p ok n s es low i w);
-      }
-
   -- one record more: its mark is set, and the numbers of its words are put behind those of the records before it
   pub shown_more : (j : ℕ) (marks : List ℕ) (numbers : List ℤ) (m : ℕ) (f : ℕ → ℤ) (more : List ℤ) → j < n
       → ShownBelow p n s low es j marks numbers → NumbersPut (j * s) s f numbers more

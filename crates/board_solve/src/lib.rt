@@ -30,12 +30,10 @@ fn values_agree(board: &[u32], c: &[u32], v: &[u32]) -> bool
     let k = board[layout::COUNT] as usize;
     let first = layout::value_start(n, v.len(), 0);
     let step = layout::row_length(n, v.len());
-    let mut u = 0;
-    while u < v.len() {
-        if field::sums::dot(p, &c[..k], board, first + u, step) != v[u] {
+    for (u, x) in v.iter().enumerate() {
+        if field::sums::dot(p, &c[..k], board, first + u, step) != *x {
             return false;
         }
-        u += 1;
     }
     true
 }

@@ -30,18 +30,7 @@ pub fn reduce_board(board: &[u32], e: &mut [u32], pivots: &mut [u32]) -> bool
 fn is_unit(e: &[u32], j: usize) -> bool
     ensures { Tells result (IsUnitRow e.now j) }
 {
-    let mut t = 0;
-    while t < e.len() {
-        let mut want = 0;
-        if t == j {
-            want = 1;
-        }
-        if e[t] != want {
-            return false;
-        }
-        t += 1;
-    }
-    true
+    e.iter().enumerate().all(|(t, x)| *x == u32::from(t == j))
 }
 
 // Whether the worked row of record j is the unit row of j. The row is counted from 1; 0 says that there is none.
@@ -72,10 +61,8 @@ fn put_words(
     ensures { NumbersPut at s (λ u. reading p low (get_or e.now (worked_place n s row (n + u)) 0)) numbers.old numbers.new }
 {
     let from = (row - 1) * (n + s) + n;
-    let mut u = 0;
-    while u < s {
+    for u in 0..s {
         numbers[at + u] = signed::read_from(p, low, e[from + u]);
-        u += 1;
     }
 }
 
@@ -84,11 +71,7 @@ fn clear_words(s: usize, numbers: &mut [i32], at: usize)
     requires { at + s ≤ length numbers.old }
     ensures { NumbersPut at s (λ u. pos 0) numbers.old numbers.new }
 {
-    let mut u = 0;
-    while u < s {
-        numbers[at + u] = 0;
-        u += 1;
-    }
+    numbers[at..at + s].fill(0);
 }
 
 // Marks each settled record and gives the signed readings of its words with the low end; 0 and zeros for the others.
@@ -108,8 +91,7 @@ pub fn show_records(
     let s = board[VALUES] as usize;
     let k = board[COUNT] as usize;
     let rows = matrix_echelon::reduced::rows_by_pivot(k, pivots);
-    let mut j = 0;
-    while j < n {
+    for j in 0..n {
         let row = rows[j] as usize;
         if settled(n, s, row, e, j) {
             marks[j] = 1;
@@ -118,6 +100,5 @@ pub fn show_records(
             marks[j] = 0;
             clear_words(s, numbers, j * s);
         }
-        j += 1;
     }
 }

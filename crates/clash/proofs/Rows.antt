@@ -70,9 +70,6 @@ met_same p n s w log f g same i met =
 
 -- ---- the words, one after the other
 
-pub words_none : (p m n s : ℕ) (log : List ℕ) (g : ℕ → ℕ → ℕ) → FirstByWords p m n s 0 log g m
-words_none p m n s log g = record { within = omega arith; before = λ i h w l. absurd (omega arith); differs = λ h. absurd (omega arith) }
-
 pub words_more : {p m n s u y q : ℕ} {log : List ℕ} {g : ℕ → ℕ → ℕ} (f : ℕ → ℕ) → ((j : ℕ) → j < n → f j ≡ g u j)
     → FirstByWords p m n s u log g y → FirstOther p y n s u log f q → FirstByWords p m n s (u + 1) log g q
 words_more {p} {m} {n} {s} {u} {y} {q} {log} {g} f same h o =

@@ -37,10 +37,8 @@ fn word_column(n: usize, s: usize, w: usize, at: &[u32], e: &[u32]) -> [u32; ROW
     ensures { WordRead n s w at.now e.now result }
 {
     let mut x = words::row_room();
-    let mut j = 0;
-    while j < n {
+    for j in 0..n {
         x[j] = carried_number(n, s, w, at[j] as usize, e);
-        j += 1;
     }
     x
 }
@@ -50,16 +48,14 @@ fn first_other(p: u32, k: usize, n: usize, s: usize, w: usize, log: &[u32], x: &
     requires { WordLooked p k n s w log.now × (length x.now ≡ n) }
     ensures { FirstOther p k n s w log.now (λ j. get_or x.now j 0) result }
 {
-    let mut i = 0;
-    while i < k {
+    for i in 0..k {
         let from = i * (n + s);
         let end = from + n;
         if field::sums::dot(p, &log[from..end], x, 0, 1) != log[end + w] {
             return i;
         }
-        i += 1;
     }
-    i
+    k
 }
 
 // The first frame that D V does not meet in some word, or m: for each word those in front of the first one so far are looked at.
@@ -68,11 +64,9 @@ fn first_by_words(p: u32, m: usize, n: usize, s: usize, log: &[u32], at: &[u32],
     ensures { FirstByWords p m n s s log.now (word_number n s at.now e.now) result }
 {
     let mut y = m;
-    let mut w = 0;
-    while w < s {
+    for w in 0..s {
         let x = word_column(n, s, w, at, e);
         y = first_other(p, y, n, s, w, log, &x[..n]);
-        w += 1;
     }
     y
 }
@@ -143,13 +137,11 @@ fn mark_nonzero(u: &mut [u32]) -> u32
         × (result ≡ count (length u.old) (marked u.old)) }
 {
     let mut selected: u32 = 0;
-    let mut t = 0;
-    while t < u.len() {
-        if u[t] != 0 {
-            u[t] = 1;
+    for x in u.iter_mut() {
+        if *x != 0 {
+            *x = 1;
             selected += 1;
         }
-        t += 1;
     }
     selected
 }

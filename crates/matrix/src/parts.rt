@@ -19,13 +19,7 @@ pub fn count_marks(xs: &[u32]) -> u32
     requires { (length xs.now ≤ largest) × ((i : ℕ) → i < length xs.now → get_or xs.now i 0 ≤ 1) }
     ensures { result ≡ total (length xs.now) (λ i. get_or xs.now i 0) }
 {
-    let mut r: u32 = 0;
-    let mut i = 0;
-    while i < xs.len() {
-        r += xs[i];
-        i += 1;
-    }
-    r
+    xs.iter().sum()
 }
 
 // The number at j of the kernel vector of column c, which has no pivot: at a pivot the negative of what its row has at c, else 1
@@ -46,10 +40,8 @@ fn kernel_vector(p: u32, n: usize, at: &[u32], e: &[u32], c: usize, out: &mut [u
     requires { ReducedRows p n at.now e.now × IsFree n at.now c × (length out.old ≡ n) }
     ensures { (h : ReducedRows p n at.now e.now) → out.new ≡ numbers n (kernel_vector (residues p) h.m h.D h.A c) }
 {
-    let mut j = 0;
-    while j < n {
-        out[j] = kernel_entry(p, n, at, e, c, j);
-        j += 1;
+    for (j, x) in out.iter_mut().enumerate() {
+        *x = kernel_entry(p, n, at, e, c, j);
     }
 }
 
@@ -61,15 +53,13 @@ pub fn kernel_vectors(p: u32, n: usize, at: &[u32], e: &[u32], basis: &mut [u32]
         → KernelVectors h.m n h.D h.A at.now basis.new result }
 {
     let mut k = 0;
-    let mut c = 0;
-    while c < n {
+    for c in 0..n {
         if at[c] == 0 {
             let from = k * n;
             let end = from + n;
             kernel_vector(p, n, at, e, c, &mut basis[from..end]);
             k += 1;
         }
-        c += 1;
     }
     let rest = k * n;
     words::clear(&mut basis[rest..]);
@@ -102,13 +92,11 @@ pub fn remainder(p: u32, m: usize, n: usize, a: &[u32], x: &[u32], w: &[u32], re
     ensures { rest.new
         ≡ numbers m (remainder (residues p) n (table_of p m n a.now) (vector_of p x.now) (vector_of p w.now)) }
 {
-    let mut i = 0;
-    while i < m {
+    for i in 0..m {
         let start = i * n;
         let end = start + n;
         let image = field::sums::dot(p, &a[start..end], x, 0, 1);
         rest[i] = field::arith::minus(p, w[i], image);
-        i += 1;
     }
 }
 

@@ -53,12 +53,10 @@ fn rows_kept(
     requires { Pair p m n a.now d.now × Rooms m n through.old back.old }
     ensures { Tells result (RowsKept p m n a.now d.now m) }
 {
-    let mut i = 0;
-    while i < m {
+    for i in 0..m {
         if !row_kept(p, n, a, d, i, through, back) {
             return false;
         }
-        i += 1;
     }
     true
 }

@@ -27,10 +27,8 @@ fn combine_values(board: &[u32], c: &[u32], v: &mut [u32])
     let s = v.len();
     let first = layout::value_start(n, s, 0);
     let step = layout::row_length(n, s);
-    let mut u = 0;
-    while u < s {
-        v[u] = field::sums::dot(p, &c[..k], board, first + u, step);
-        u += 1;
+    for (u, x) in v.iter_mut().enumerate() {
+        *x = field::sums::dot(p, &c[..k], board, first + u, step);
     }
 }
 

@@ -59,7 +59,7 @@ fn take_next<R: Read, W: Write>(
     }
 }
 
-// Takes the frames one after the other. A proved loop has to end, and nothing says that the input does, so it counts down, from
+// Takes the frames one after the other. A proved loop has to end, and nothing says that the input does, so it takes no more than
 // a number of frames that no line sends: at a thousand million frames a second that takes five hundred years.
 fn take_each<R: Read, W: Write>(
     input: &mut R,
@@ -74,9 +74,10 @@ fn take_each<R: Read, W: Write>(
         Writes (W.contents output.old) (W.contents output.new) (λ text.
         AllText board.old mix.old known text board.new))) }
 {
-    let mut left = u64::MAX;
-    while 0 < left && take_next(input, output, board, bytes, mix)? {
-        left -= 1;
+    for _ in 0..u64::MAX {
+        if !take_next(input, output, board, bytes, mix)? {
+            break;
+        }
     }
     Ok(())
 }

@@ -36,10 +36,8 @@ fn record_lines(marks: &[u32], numbers: &[i32], out: &mut [u8]) -> usize
     ensures upper_bound { result ≤ 960 }
 {
     let mut at: usize = 0;
-    let mut j: usize = 0;
-    while j < marks.len() {
-        at = sheet_text::record_line(out, at, j as u32, marks[j], numbers[j]);
-        j += 1;
+    for (j, mark) in marks.iter().enumerate() {
+        at = sheet_text::record_line(out, at, j as u32, *mark, numbers[j]);
     }
     at
 }

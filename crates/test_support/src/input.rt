@@ -47,9 +47,7 @@ pub fn read_bytes(stored: &mut Stored, bytes: &mut [u8]) {
         }
         came += size;
     }
-    for byte in bytes[came..].iter_mut() {
-        *byte = 0;
-    }
+    bytes[came..].fill(0);
 }
 
 // The same where the input has a word for each byte.

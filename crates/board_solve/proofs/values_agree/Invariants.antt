@@ -1,12 +1,9 @@
 -- `board_solve::values_agree` meets its contract. The loop's invariant: the words passed agree; the first that does not refutes all.
 use mathlib.Core.Path.{◌≡◌}
-use Prim.Native.Nat.{ℕ, ◌-◌, ◌≤◌, ◌<◌}
-use lib.ListN.{length, get_or}
+use Prim.Native.Nat.{ℕ, ◌<◌}
+use lib.ListN.{get_or}
 use Rattle.board_solve.specs.Taking.{combined_value}
 use Rattle.board_solve.proofs.values_agree.Given as goal
 
 abbrev pub invariant-loop-u : goal.invariant-loop-u
-invariant-loop-u l = (l.u ≤ length l.v) × ((w : ℕ) → w < l.u → (combined_value l.board l.c w).value ≡ get_or l.v w 0)
-
-abbrev pub decreases-loop-u : goal.decreases-loop-u
-decreases-loop-u l = length l.v - l.u
+invariant-loop-u l = (w : ℕ) → w < l.u → (combined_value l.board l.c w).value ≡ get_or l.v w 0

@@ -2,58 +2,33 @@
 use mathlib.Core.Path.{◌≡◌, ap, ◌∙◌}
 use native.Mathlib.Omega.{arith}
 use lib.ListN.{length}
+use Rattle.std.proofs.lemmas.List.{set-get_or}
 use Rattle.algebra.specs.Quasiinverse.{count}
 use Rattle.field.specs.Written.{marked}
 use Rattle.field.proofs.Written.{is_tabulate}
 use Rattle.clash.proofs.Rows.{marking_none, marking_mark, marking_skip, marking_most}
 use Rattle.clash.proofs.mark_nonzero.Goals as goal
-use Rattle.clash.proofs.mark_nonzero.Goals.{At-loop-t, else-u-t-ne0, then-u-t-ne0}
+use Rattle.clash.proofs.mark_nonzero.Goals.{else-x-ne0, then-x-ne0}
 
-pub loop-t-init : goal.loop-t-init
-loop-t-init c = (omega arith, marking_none _)
-
--- what is written keeps its length
-long : (c : At-loop-t) → length c.loop-t.u ≡ length c.args.u.now
-long c = c.loop-t.invariant.1.walked.long
-
-pub offset_bounds-u-t : goal.offset_bounds-u-t
-offset_bounds-u-t c = omega (arith, c.requires)
-
-pub bounds-u-t : goal.bounds-u-t
-bounds-u-t c = omega (arith, long (goal.at.bounds-u-t c).At-loop-t)
-
-pub offset_bounds-u-t-then-u-t-ne0 : goal.offset_bounds-u-t-then-u-t-ne0
-offset_bounds-u-t-then-u-t-ne0 c = omega (arith, c.requires)
-
-pub bounds-u-t-then-u-t-ne0 : goal.bounds-u-t-then-u-t-ne0
-bounds-u-t-then-u-t-ne0 c = omega (arith, long (goal.at.bounds-u-t-then-u-t-ne0 c).At-loop-t)
+pub loop-x-init : goal.loop-x-init
+loop-x-init c = marking_none _
 
 pub overflow_add-selected : goal.overflow_add-selected
-overflow_add-selected c =
-    let l = c.loop-t in
-    omega (arith, marking_most _ _ _ _ l.invariant.1, c.requires)
+overflow_add-selected c = omega (arith, marking_most _ _ _ _ c.loop-x.invariant, c.requires)
 
-pub overflow_add-t : goal.overflow_add-t
-overflow_add-t c = omega (arith, c.requires)
-
-pub loop-t-preserved : goal.loop-t-preserved
-loop-t-preserved c =
-    let l = c.loop-t in (
-      omega arith,
-      elim c.if-u-t-ne0.branch [
-        | then-u-t-ne0 w ↦ rw (w.u-is, w.selected-is) (marking_mark l.t _ _ _ l.invariant.1 (omega (arith, long (goal.at.loop-t-preserved c).At-loop-t)) w.if-u-t-ne0.true)
-        | else-u-t-ne0 w ↦ rw (w.u-is, w.selected-is) (marking_skip l.t _ _ _ l.invariant.1 w.if-u-t-ne0.false)
-      ],
-    )
-
-pub shape_of-u : goal.shape_of-u
-shape_of-u c = long (goal.at.shape_of-u c).At-loop-t
+pub loop-x-preserved : goal.loop-x-preserved
+loop-x-preserved c =
+    let l = c.loop-x in
+    elim c.if-x-ne0.branch [
+      | then-x-ne0 w ↦ rw (w.u-is, w.selected-is) (marking_mark l.x-index _ _ _ l.invariant (omega arith) w.if-x-ne0.true)
+      | else-x-ne0 w ↦ rw (w.u-is, set-get_or l.u l.x-index 0, w.selected-is) (marking_skip l.x-index _ _ _ l.invariant w.if-x-ne0.false)
+    ]
 
 pub returns : goal.returns
 returns c =
-    let l = c.loop-t in
+    let l = c.loop-x in
     let xs = c.args.u.now in
-    let end : l.t ≡ length xs = omega arith in (
-      is_tabulate (length xs) _ l.u (long (goal.at.returns c).At-loop-t) (λ i h. l.invariant.1.walked.passed i (omega arith)),
-      l.invariant.1.counted ∙ ap (λ k. count k (marked xs)) end,
+    let end : l.x-index ≡ length xs = omega arith in (
+      is_tabulate (length xs) _ l.u l.auto.u (λ i h. l.invariant.walked.passed i (omega arith)),
+      l.invariant.counted ∙ ap (λ k. count k (marked xs)) end,
     )

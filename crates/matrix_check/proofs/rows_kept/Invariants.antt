@@ -1,10 +1,6 @@
 -- `matrix_check::rows_kept` meets its contract. The loop's invariant: the rows before row i are kept.
-use Prim.Native.Nat.{◌≤◌, ◌-◌}
 use Rattle.matrix_check.specs.Rows.{Rooms, RowsKept}
 use Rattle.matrix_check.proofs.rows_kept.Given as goal
 
 abbrev pub invariant-loop-i : goal.invariant-loop-i
-invariant-loop-i l = RowsKept l.p l.m l.n l.a l.d l.i × Rooms l.m l.n l.through l.back × (l.i ≤ l.m)
-
-abbrev pub decreases-loop-i : goal.decreases-loop-i
-decreases-loop-i l = l.m - l.i
+invariant-loop-i l = RowsKept l.p l.m l.n l.a l.d l.i × Rooms l.m l.n l.through l.back

@@ -1,11 +1,7 @@
 -- `board_solve::records::show_records` meets its contract. The loop's invariant: the records passed are shown as the ledger shows them.
-use Prim.Native.Nat.{◌-◌, ◌≤◌}
 use Rattle.ledger.specs.Board.{entries_of}
 use Rattle.board_solve.proofs.RecordShown.{ShownBelow}
 use Rattle.board_solve.proofs.records.show_records.Given as goal
 
 abbrev pub invariant-loop-j : goal.invariant-loop-j
-invariant-loop-j l = (l.j ≤ l.n) × ShownBelow l.p l.n l.s l.low (entries_of l.board) l.j l.marks l.numbers
-
-abbrev pub decreases-loop-j : goal.decreases-loop-j
-decreases-loop-j l = l.n - l.j
+invariant-loop-j l = ShownBelow l.p l.n l.s l.low (entries_of l.board) l.j l.marks l.numbers

@@ -1,6 +1,5 @@
 -- `matrix::parts::kernel_vector` meets its contract. The loop's invariant: the first j numbers are those of column c of 1 - D A, for
 -- every D and A that the rows belong to.
-use Prim.Native.Nat.{◌-◌, ◌≤◌}
 use Rattle.algebra.specs.Kernel.{kernel_vector}
 use Rattle.field.specs.Residue.{residues}
 use Rattle.words.proofs.Walk.{Walked}
@@ -8,7 +7,4 @@ use Rattle.matrix.specs.Parts.{ReducedRows}
 use Rattle.matrix.proofs.parts.kernel_vector.Given as goal
 
 abbrev pub invariant-loop-j : goal.invariant-loop-j
-invariant-loop-j l = (l.j ≤ l.n) × ((h : ReducedRows l.p l.n l.at l.e) → Walked l.j (λ t. (kernel_vector (residues l.p) h.m h.D h.A l.c t).value) l.initial.out l.out)
-
-abbrev pub decreases-loop-j : goal.decreases-loop-j
-decreases-loop-j l = l.n - l.j
+invariant-loop-j l = (h : ReducedRows l.p l.n l.at l.e) → Walked l.j (λ t. (kernel_vector (residues l.p) h.m h.D h.A l.c t).value) l.initial.out l.out

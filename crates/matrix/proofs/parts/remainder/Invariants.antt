@@ -1,6 +1,6 @@
 -- `matrix::parts::remainder` meets its contract. The loop's invariant: the first i numbers are those of w - A x.
 use mathlib.Core.List.{List}
-use Prim.Native.Nat.{ℕ, ◌-◌, ◌≤◌}
+use Prim.Native.Nat.{ℕ}
 use Rattle.algebra.specs.Solve.{remainder}
 use Rattle.field.specs.Residue.{residues}
 use Rattle.words.proofs.Walk.{Walked}
@@ -12,7 +12,4 @@ unfoldable pub left : (p m n : ℕ) (a x w : List ℕ) → ℕ → ℕ
 left p m n a x w i = (remainder (residues p) n (table_of p m n a) (vector_of p x) (vector_of p w) i).value
 
 abbrev pub invariant-loop-i : goal.invariant-loop-i
-invariant-loop-i l = (l.i ≤ l.m) × Walked l.i (left l.p l.m l.n l.a l.x l.w) l.initial.rest l.rest
-
-abbrev pub decreases-loop-i : goal.decreases-loop-i
-decreases-loop-i l = l.m - l.i
+invariant-loop-i l = Walked l.i (left l.p l.m l.n l.a l.x l.w) l.initial.rest l.rest
