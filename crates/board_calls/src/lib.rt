@@ -11,7 +11,7 @@ pub use board_solve::Taken;
 use board_solve::{combination, records, take_row};
 use board_words::{change, layout, test};
 use checks::Refusal;
-use words::{row_room, wide_table};
+use words::{ROW, WIDE_TABLE, filled};
 
 // Writes a fresh board for n records of s words modulo p. Refused are 1, p no modulus; 2, n not 1 to 64; 12, s not 1 to 16; and 3,
 // another length than a board for n records of s words has.
@@ -39,10 +39,10 @@ pub fn take(board: &mut [u32], frame: &[u8], mix: &mut [u32]) -> Result<Taken, R
     let p = board[layout::MODULUS];
     let n = board[layout::SIZE] as usize;
     let s = board[layout::VALUES] as usize;
-    let mut f = row_room();
-    let mut v = row_room();
+    let mut f: [u32; ROW] = filled(0);
+    let mut v: [u32; ROW] = filled(0);
     let read = frame_bytes::reading::read_frame(p, n, frame, &mut f[..n], &mut v[..s]);
-    let mut c = row_room();
+    let mut c: [u32; ROW] = filled(0);
     if !combination::candidate(board, &f[..n], &mut c) {
         return Err(Refusal::NotBoard);
     }
@@ -79,8 +79,8 @@ pub fn show(board: &[u32], low: u32, marks: &mut [u32], numbers: &mut [i32]) -> 
     if !test::is_laid_out(board) {
         return Err(Refusal::NotBoard);
     }
-    let mut e = wide_table();
-    let mut pivots = row_room();
+    let mut e: [u32; WIDE_TABLE] = filled(0);
+    let mut pivots: [u32; ROW] = filled(0);
     if !records::reduce_board(board, &mut e, &mut pivots) {
         return Err(Refusal::NotBoard);
     }

@@ -4,6 +4,7 @@ ghost use Rattle.board_solve.specs.Combination.{CandidateRoom, CandidateTold, Fi
 
 use board_words::layout;
 use board_words::layout::{COUNT, HEADER, MODULUS, SIZE, VALUES};
+use words::{ROW, filled};
 
 // Whether the k multiplier rows are independent; then the zeros c become f D, the only combination of the rows that can be f: the
 // solution of the system of the turned board with the right side f.
@@ -29,7 +30,7 @@ pub fn find(board: &[u32], f: &[u32], c: &[u32]) -> bool
     let s = board[VALUES] as usize;
     let k = board[COUNT] as usize;
     let width = layout::row_length(n, s);
-    let mut g = words::row_room();
+    let mut g: [u32; ROW] = filled(0);
     matrix_mul::rows::combine(p, &c[..k], &board[HEADER..], 0, width, &mut g[..n]);
     words::same(f, &g[..n])
 }

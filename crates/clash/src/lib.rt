@@ -18,7 +18,7 @@ ghost use Rattle.clash.specs.Parts.{Logged, WorkedRows, carried_number, word_num
 ghost use Rattle.clash.specs.Parts.{WordLooked, FirstOther, FirstByWords};
 
 use matrix_echelon::{Grid, reduced};
-use words::ROW;
+use words::{ROW, WIDE_TABLE, filled};
 
 // What a worked row carries for word w. The row is counted from 1; 0 says that there is none, and gives 0.
 fn carried_number(n: usize, s: usize, w: usize, row: usize, e: &[u32]) -> u32
@@ -36,7 +36,7 @@ fn word_column(n: usize, s: usize, w: usize, at: &[u32], e: &[u32]) -> [u32; ROW
     requires { WorkedRows n s at.now e.now × (w < s) }
     ensures { WordRead n s w at.now e.now result }
 {
-    let mut x = words::row_room();
+    let mut x: [u32; ROW] = filled(0);
     for j in 0..n {
         x[j] = carried_number(n, s, w, at[j] as usize, e);
     }
@@ -151,8 +151,8 @@ pub fn select(p: u32, m: usize, n: usize, s: usize, log: &[u32], marks: &mut [u3
     requires { Logged p m n s log.now × (length marks.old ≡ m) }
     ensures { (ok : IsModulus p) → outcome (results result) marks.new ≡ clash_of p ok m n s log.now }
 {
-    let mut e = words::wide_table();
-    let mut pivots = words::row_room();
+    let mut e: [u32; WIDE_TABLE] = filled(0);
+    let mut pivots: [u32; ROW] = filled(0);
     let y = first_contradiction(p, m, n, s, log, &mut e, &mut pivots);
     if y == m {
         words::clear(marks);

@@ -5,6 +5,8 @@ ghost use Rattle.checks.specs.Largest.{largest, most_words};
 ghost use Rattle.signed.specs.Reading.{residue_of};
 ghost use Rattle.frame.specs.Sealing.{Records, word_of, sealed_word, sealed};
 
+use words::{ROW, filled};
+
 // Writes the residue of word u of each of n records of s words to its place.
 fn put_residues(
     p: u32,
@@ -32,7 +34,7 @@ fn value_of(p: u32, low: u32, records: &[i32], s: usize, u: usize, multipliers: 
     ensures { result ≡ sealed_word p (length multipliers.now) s records.now multipliers.now u }
 {
     let n = multipliers.len();
-    let mut residues = words::row_room();
+    let mut residues: [u32; ROW] = filled(0);
     put_residues(p, low, records, s, u, n, &mut residues);
     field::sums::dot(p, &residues[..n], multipliers, 0, 1)
 }

@@ -8,6 +8,7 @@ ghost use Rattle.matrix.specs.Parts.{plain, Checked, InverseRoom, StoresInverse,
 use checks::Refusal;
 use matrix::parts;
 use matrix_echelon::{Grid, forward, reduced};
+use words::{ROW, WIDE_TABLE, filled};
 
 // The table as it stands, for the eliminations, which read it in place.
 fn plain_grid(m: usize, n: usize) -> Grid
@@ -47,8 +48,8 @@ pub fn kernel_of(p: u32, m: usize, n: usize, a: &[u32], basis: &mut [u32]) -> u3
     ensures { (ok : IsModulus p) → StoresBasis p ok m n a.now basis.new result }
 {
     let plain = plain_grid(m, n);
-    let mut e = words::wide_table();
-    let mut pivots = words::row_room();
+    let mut e: [u32; WIDE_TABLE] = filled(0);
+    let mut pivots: [u32; ROW] = filled(0);
     let rank = reduced::reduced(p, plain, a, a, 0, 0, &mut e, &mut pivots);
     let at = reduced::rows_by_pivot(rank, &pivots);
     parts::kernel_vectors(p, n, &at, &e, basis)
@@ -116,7 +117,7 @@ pub fn solve_of(
     requires { Checked p m n a.now × System p m n w.now z.old u.old }
     ensures { IsSolution p m n a.now w.now z.old (result_told result) z.new u.new }
 {
-    let mut x = words::row_room();
+    let mut x: [u32; ROW] = filled(0);
     solve_with(p, m, n, a, w, &mut x[..n], z, u)
 }
 

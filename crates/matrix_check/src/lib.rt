@@ -10,6 +10,8 @@ ghost use Rattle.field.specs.Written.{numbers};
 ghost use Rattle.matrix_mul.specs.Places.{matrix_of};
 ghost use Rattle.matrix_check.specs.Rows.{RowFactors, row_times, Pair, Rooms, RowKept, RowsKept};
 
+use words::{ROW, filled};
+
 // The row times the table, whose rows are as long as `out`.
 fn times(p: u32, row: &[u32], table: &[u32], out: &mut [u32])
     requires { RowFactors p row.now table.now out.old }
@@ -67,7 +69,7 @@ pub fn absorbs(p: u32, m: usize, n: usize, a: &[u32], d: &[u32]) -> bool
     requires { Pair p m n a.now d.now }
     ensures { Tells result (Absorbs (residues p) m n (matrix_of p a.now m n) (matrix_of p d.now n m)) }
 {
-    let mut through = words::row_room();
-    let mut back = words::row_room();
+    let mut through: [u32; ROW] = filled(0);
+    let mut back: [u32; ROW] = filled(0);
     rows_kept(p, m, n, a, d, &mut through[..m], &mut back[..n])
 }

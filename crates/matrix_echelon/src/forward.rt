@@ -5,7 +5,7 @@ ghost use Rattle.matrix_echelon.specs.Forward.{Room, Settleable, RowSettled, Wor
 
 use super::{Grid, group, worked};
 use matrix_mul::rows;
-use words::WIDE;
+use words::{ROW, WIDE, WIDE_TABLE, filled};
 
 // Makes the row that the sums of limbs stand for a worked row, unless it is 0 at its first n places. x is room for it, carried numbers
 // and all. Answers how many worked rows there are then.
@@ -49,9 +49,9 @@ fn work_row(
     let n = grid.columns;
     let width = n + carried;
     let mut lo = group::row_limbs(grid, i, a, w, step, carried);
-    let mut hi = rows::no_rows();
+    let mut hi: [u64; WIDE] = filled(0);
     group::clear_pivots(p, width, rank, e, pivots, &mut lo, &mut hi);
-    let mut x = words::wide_room();
+    let mut x: [u32; WIDE] = filled(0);
     settle(p, n, rank, &lo, &hi, &mut x[..width], e, pivots)
 }
 
@@ -83,7 +83,7 @@ pub fn rank(p: u32, grid: Grid, a: &[u32]) -> usize
     requires { TableReadable p grid a.now }
     ensures { IsRank p grid a.now result }
 {
-    let mut e = words::wide_table();
-    let mut pivots = words::row_room();
+    let mut e: [u32; WIDE_TABLE] = filled(0);
+    let mut pivots: [u32; ROW] = filled(0);
     forward(p, grid, a, a, 0, 0, &mut e, &mut pivots)
 }

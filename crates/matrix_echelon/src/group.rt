@@ -11,14 +11,14 @@ use super::Grid;
 use field::sums::BASE;
 use matrix_mul::rows;
 use matrix_mul::rows::{Four, Row};
-use words::WIDE;
+use words::{WIDE, filled};
 
 // Row i of the table, as sums of low limbs.
 fn table_limbs(grid: Grid, i: usize, a: &[u32]) -> [u64; WIDE]
     requires { NumbersReadable grid i a.now }
     ensures { NumbersRead grid i a.now result }
 {
-    let mut lo = rows::no_rows();
+    let mut lo: [u64; WIDE] = filled(0);
     let from = grid.start + i * grid.down;
     for j in 0..grid.columns {
         lo[j] = a[from + j * grid.along] as u64;

@@ -7,14 +7,14 @@ ghost use Rattle.matrix_echelon.specs.Reduced.{UnitWritten, FirstFree, Lookable,
 use super::Grid;
 use super::forward::forward;
 use matrix_mul::{Place, rows};
-use words::ROW;
+use words::{ROW, WIDE, WIDE_TABLE, filled};
 
 // The multipliers that make the worked row t 0 at the pivots of the other rows; 0 for itself.
 fn multipliers(p: u32, width: usize, rank: usize, t: usize, e: &[u32], pivots: &[u32]) -> [u32; ROW]
     requires { Lookable p width rank t e.now pivots.now }
     ensures { Multipliers p width rank t e.now pivots.now result }
 {
-    let mut by = words::row_room();
+    let mut by: [u32; ROW] = filled(0);
     let at = t * width;
     for (s, v) in pivots[..rank].iter().enumerate() {
         by[s] = field::arith::minus(p, 0, e[at + *v as usize]);
@@ -60,7 +60,7 @@ fn reduce_row(
     let at = t * width;
     let start = at + from;
     let len = width - from;
-    let mut x = words::wide_room();
+    let mut x: [u32; WIDE] = filled(0);
     words::copy(e, start, len, &mut x);
     let place = Place {
         start: from,
@@ -102,7 +102,7 @@ pub fn rows_by_pivot(rank: usize, pivots: &[u32]) -> [u32; ROW]
     requires { Pivoting rank pivots.now }
     ensures { RowsByPivot rank pivots.now result }
 {
-    let mut at = words::row_room();
+    let mut at: [u32; ROW] = filled(0);
     for (t, v) in pivots[..rank].iter().enumerate() {
         at[*v as usize] = (t + 1) as u32;
     }
@@ -115,8 +115,8 @@ pub fn solution(p: u32, grid: Grid, a: &[u32], w: &[u32], step: usize, z: &mut [
     requires { Readable p grid a.now w.now step 1 × (length z.old ≡ grid.columns) }
     ensures { SolutionFound p grid a.now w.now step result z.new }
 {
-    let mut e = words::wide_table();
-    let mut pivots = words::row_room();
+    let mut e: [u32; WIDE_TABLE] = filled(0);
+    let mut pivots: [u32; ROW] = filled(0);
     let rank = forward(p, grid, a, w, step, 1, &mut e, &mut pivots);
     words::clear(z);
     let n = grid.columns;

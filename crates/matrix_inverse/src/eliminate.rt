@@ -6,7 +6,7 @@ ghost use Rattle.matrix_inverse.specs.Eliminated.{no_marks, Eliminable, Eliminat
 ghost use Rattle.matrix_inverse.specs.Steps.{IsNegativeProduct, Scratch, Reusable, Reducible, Reduced, Joinable, Joined};
 
 use matrix_mul::{Place, Shape, add_product, add_product_within};
-use words::{ROW, row_room};
+use words::{ROW, filled};
 
 // The scratch memory for up to 64, 32 and 8 rows: half as many rows as these, of as many numbers for T and of 64 for C.
 const T_64: usize = 1024;
@@ -34,7 +34,7 @@ fn one_row(
     requires { Eliminable p 1 n a.now d.old at stride no_marks rows.old }
     ensures { Eliminated p 1 n a.now d.old at stride no_marks rows.old d.new result rows.new }
 {
-    let mut marks = row_room();
+    let mut marks: [u32; ROW] = filled(0);
     let Some(v) = words::least_nonzero(a) else {
         return marks;
     };
@@ -114,7 +114,7 @@ fn reduce_rows(
     let m1 = split.upper;
     let m2 = split.lower;
     let n = split.width;
-    let mut next = row_room();
+    let mut next: [u32; ROW] = filled(0);
     matrix_mul::list_marked(&marks[..n], &mut next);
     let first = Shape {
         rows: m2,
@@ -168,7 +168,7 @@ fn join_halves(
         start: middle,
         stride,
     };
-    let mut next = row_room();
+    let mut next: [u32; ROW] = filled(0);
     matrix_mul::list_marked(&marks[..n], &mut next);
     let first = Shape {
         rows: m1,

@@ -9,6 +9,8 @@ ghost use Rattle.words.specs.Words.{Below};
 ghost use Rattle.matrix_mul.specs.Rows.{Passes};
 ghost use Rattle.matrix_mul.specs.Places.{place, shape, Negated, Factors, Multiplied, ZerosAt, FactorsWithin, Listed};
 
+use words::{ROW, filled};
+
 pub mod rows;
 
 // Where a block of numbers begins, and how far the starts of its rows are apart.
@@ -130,7 +132,7 @@ fn add_row_within(
     if mark == 0 {
         return;
     }
-    let mut by = words::row_room();
+    let mut by: [u32; ROW] = filled(0);
     words::copy(z, x_at, k, &mut by);
     add_row(p, k, n, &by, 0, next, y, right, z, z_at);
 }

@@ -13,14 +13,7 @@ ghost use Rattle.matrix_mul.specs.Rows.{Each, Passes, Walkable, RowTaken, FourTa
 use super::Place;
 use field::sums::BASE;
 use std::array;
-use words::{ROW, WIDE};
-
-// The sums of limbs of no rows.
-pub fn no_rows() -> [u64; WIDE]
-    ensures { Zeros widest_row result }
-{
-    [0u64; WIDE]
-}
+use words::{ROW, WIDE, filled};
 
 // A row of a table that is to be added: its multiplier, where it begins, and the row to look at after it.
 #[derive(Clone, Copy)]
@@ -165,8 +158,8 @@ fn add_all(p: u32, by: &[u32], next: &[u32], table: &[u32], rows: Place, out: &m
     ensures { Summed p (sum_at by.now table.now rows) out.old out.new }
 {
     let width = out.len();
-    let mut lo = no_rows();
-    let mut hi = no_rows();
+    let mut lo: [u64; WIDE] = filled(0);
+    let mut hi: [u64; WIDE] = filled(0);
     let mut t = 0;
     while t < by.len() {
         let four = next_four(by, next, rows, t);

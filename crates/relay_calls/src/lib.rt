@@ -13,7 +13,7 @@ use board_solve::combination;
 use board_words::{layout, test};
 use checks::Refusal;
 use frame_bytes::writer::{longest, write_frame};
-use words::{all_below, row_room};
+use words::{ROW, all_below, filled};
 
 // Writes the values of the combination c of the standing rows, one for each word of a record.
 fn combine_values(board: &[u32], c: &[u32], v: &mut [u32])
@@ -49,7 +49,7 @@ fn relay_row(
         return Err(Refusal::NotInSpan);
     }
     let s = board[layout::VALUES] as usize;
-    let mut v = row_room();
+    let mut v: [u32; ROW] = filled(0);
     combine_values(board, c, &mut v[..s]);
     words::put(&c[..wanted.len()], mix, 0);
     let p = board[layout::MODULUS];
@@ -80,7 +80,7 @@ pub fn relay(
         }
         return Err(Refusal::Length);
     }
-    let mut c = row_room();
+    let mut c: [u32; ROW] = filled(0);
     if !combination::candidate(board, wanted, &mut c) {
         return Err(Refusal::NotBoard);
     }

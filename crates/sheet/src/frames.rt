@@ -5,10 +5,11 @@ ghost use Rattle.sheet_heat.specs.Calls.{SheetBoard};
 ghost use Rattle.sheet.specs.Program.{Reads, Writes, FrameText, NextText, AllText};
 
 use super::input::read_full;
-use super::{lent, lines};
+use super::lines;
 use board_words::layout;
 use std::io;
 use std::io::{Read, Write};
+use words::{ROW, filled};
 
 // Reads a frame's bytes into the lent ones, which are as many as its length says, and takes it. Answers whether it was whole.
 fn take_body<R: Read, W: Write>(
@@ -47,7 +48,7 @@ fn take_next<R: Read, W: Write>(
         Writes (W.contents output.old) (W.contents output.new) (λ text.
         NextText board.old mix.old known text more board.new mix.new left))) }
 {
-    let mut pair = lent::frame_length();
+    let mut pair: [u8; 2] = filled(0);
     let came = read_full(input, &mut pair)?;
     match sheet_text::frame_start(&pair[..came]) {
         Ok(None) => Ok(false),
@@ -96,7 +97,7 @@ pub fn take_all<R: Read, W: Write>(
         AllText board.old mix known text board.new))) }
 {
     let n = board[layout::SIZE] as usize;
-    let mut bytes = lent::frame();
-    let mut mix = lent::words();
+    let mut bytes: [u8; 65536] = filled(0);
+    let mut mix: [u32; ROW] = filled(0);
     take_each(input, output, board, &mut bytes, &mut mix[..n])
 }

@@ -5,10 +5,12 @@ ghost use Rattle.ledger.specs.Board.{header_length, board_length, largest_board}
 ghost use Rattle.sheet_heat.specs.Sheet.{sheet_words, heat_of};
 ghost use Rattle.sheet.specs.Program.{Prints};
 
-use super::{frames, lent, lines};
+use super::{frames, lines};
 use board_words::layout;
+use board_words::layout::LARGEST_BOARD;
 use std::io;
 use std::io::{Read, Write};
+use words::filled;
 
 // The words of a record on a sheet.
 const WORDS: u32 = 1;
@@ -48,7 +50,7 @@ fn open_in<R: Read, W: Write>(
 pub fn open<R: Read, W: Write>(input: &mut R, output: &mut W, p: u32, n: u32) -> io::Result<()>
     ensures { OnOk result (Prints (R.remaining input.old) (W.contents output.old) (W.contents output.new) (heat_of p n)) }
 {
-    let mut words = lent::board();
+    let mut words: [u32; LARGEST_BOARD] = filled(0);
     let size = board_length(n);
     open_in(input, output, p, n, &mut words[..size])
 }

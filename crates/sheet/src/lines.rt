@@ -6,10 +6,10 @@ ghost use Rattle.ledger.specs.Calls.{take_call};
 ghost use Rattle.sheet_text.specs.Lines.{refused_line};
 ghost use Rattle.sheet_heat.specs.Calls.{SheetBoard, taken_line, ending_of};
 
-use super::lent;
 use checks::Refusal;
 use std::io;
 use std::io::Write;
+use words::filled;
 
 // Writes the text at the front of the buffer.
 fn write<W: Write>(output: &mut W, buffer: &[u8], size: usize) -> io::Result<()>
@@ -33,7 +33,7 @@ pub fn frame<W: Write>(
     ensures mix { mix.new ≡ (take_call board.old frame.now mix.old).lent.1 }
     ensures line { OnOk result (Appends (W.contents output.old) (W.contents output.new) (taken_line board.old frame.now mix.old)) }
 {
-    let mut line = lent::line();
+    let mut line: [u8; 32] = filled(0);
     let size = sheet_heat::frame_line(board, frame, mix, &mut line);
     write(output, &line, size)
 }
@@ -42,7 +42,7 @@ pub fn frame<W: Write>(
 pub fn refused<W: Write>(output: &mut W, kind: Refusal) -> io::Result<()>
     ensures { OnOk result (Appends (W.contents output.old) (W.contents output.new) (refused_line (refusal_number kind))) }
 {
-    let mut line = lent::line();
+    let mut line: [u8; 32] = filled(0);
     let size = sheet_text::refused_line(kind, &mut line);
     write(output, &line, size)
 }
@@ -52,7 +52,7 @@ pub fn ending<W: Write>(output: &mut W, board: &[u32]) -> io::Result<()>
     requires { SheetBoard board.now }
     ensures { OnOk result (Appends (W.contents output.old) (W.contents output.new) (ending_of board.now)) }
 {
-    let mut text = lent::text();
+    let mut text: [u8; 1024] = filled(0);
     let size = sheet_heat::ending(board, &mut text);
     write(output, &text, size)
 }

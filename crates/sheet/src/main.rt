@@ -11,18 +11,18 @@ ghost use Rattle.sheet.specs.Program.{Prints};
 mod frames;
 mod heat;
 mod input;
-mod lent;
 mod lines;
 
 use input::UntilFailure;
 use std::io;
 use std::io::{Read, Write};
+use words::filled;
 
 // Reads the whole input and writes its sheet.
 fn run<R: Read, W: Write>(input: &mut R, output: &mut W) -> io::Result<()>
     ensures { OnOk result (Prints (R.remaining input.old) (W.contents output.old) (W.contents output.new) sheet_of) }
 {
-    let mut bytes = lent::header();
+    let mut bytes: [u8; 5] = filled(0);
     let came = input::read_full(input, &mut bytes)?;
     match sheet_text::header(&bytes[..came]) {
         Ok((p, n)) => heat::open(input, output, p, n),

@@ -11,7 +11,7 @@ ghost use Rattle.sheet_text.specs.Written.{Printed};
 ghost use Rattle.sheet_heat.specs.Calls.{FrameWritten, ending_of, SheetBoard};
 
 use board_words::layout;
-use words::ROW;
+use words::{ROW, filled};
 
 // Takes the frame, and writes its line at the front of the buffer: by what take answers, and the count that it leaves.
 pub fn frame_line(board: &mut [u32], frame: &[u8], mix: &mut [u32], out: &mut [u8]) -> usize
@@ -20,13 +20,6 @@ pub fn frame_line(board: &mut [u32], frame: &[u8], mix: &mut [u32], out: &mut [u
 {
     let answer = board_calls::take(board, frame, mix);
     sheet_text::answer_line(answer, board[layout::COUNT], out)
-}
-
-// A signed number for each of 64 records. Only the length is told, so that no goal holds the zeros.
-fn numbers_room() -> [i32; ROW]
-    ensures { longest_row ≡ length result }
-{
-    [0; ROW]
 }
 
 // The lines of all records, from show's marks and numbers, at the front of the buffer: fifteen bytes at most for each.
@@ -64,7 +57,7 @@ pub fn ending(board: &[u32], out: &mut [u8]) -> usize
     ensures { Printed (ending_of board.now) out.old out.new result }
 {
     let n = board[layout::SIZE] as usize;
-    let mut marks = words::row_room();
-    let mut numbers = numbers_room();
+    let mut marks: [u32; ROW] = filled(0);
+    let mut numbers: [i32; ROW] = filled(0);
     show_lines(board, &mut marks[..n], &mut numbers[..n], out)
 }

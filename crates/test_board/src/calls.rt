@@ -2,8 +2,8 @@
 // answer, the lent memory and the board are compared with what the file says.
 use super::{memory, report};
 use board_words::layout::LARGEST_BOARD;
-use test_support::lent::{BYTES, NUMBERS, WORDS};
 use test_support::input::Stored;
+use test_support::lent::{BYTES, NUMBERS, WORDS};
 use test_support::told::Told;
 use test_support::{counts, input, lent, told};
 use words::filled;

@@ -2,8 +2,8 @@
 use board_calls::Taken;
 use checks::Refusal;
 use std::io;
-use test_support::told::Told;
 use test_support::output;
+use test_support::told::Told;
 
 // The places of the counts.
 pub const HISTORIES: usize = 0;

@@ -2,9 +2,9 @@
 // the file says. A frame is then taken and read.
 use super::{frames, memory, report};
 use board_words::layout::LARGEST_BOARD;
+use test_support::input::Stored;
 use test_support::lent::{BYTES, WORDS};
 use test_support::told::Told;
-use test_support::input::Stored;
 use test_support::{counts, input, lent, told};
 use words::filled;
 

@@ -1,7 +1,7 @@
 // What becomes of a frame that relay left: the same board takes it as a repeat with the same mix, and reading gives the wanted row.
 use super::{memory, report};
 use board_words::layout;
-use test_support::lent::{WORDS};
+use test_support::lent::WORDS;
 use test_support::{counts, lent};
 use words::filled;
 

@@ -4,8 +4,7 @@
 
 ghost use Rattle.std.specs.Prelude.{◌≡◌, ◌+◌, ◌≤◌, ◌<◌, length, MatchOption};
 ghost use Rattle.algebra.specs.Answers.{Tells};
-ghost use Rattle.words.specs.Lengths.{longest_row, widest_row, widest_table};
-ghost use Rattle.words.specs.Words.{Below, Blank, Filled, Zeros, Copied, PutAt, FirstDifference, LeastNonzero};
+ghost use Rattle.words.specs.Words.{Below, Blank, Filled, Copied, PutAt, FirstDifference, LeastNonzero};
 
 // The most numbers of a row or a column.
 pub const ROW: usize = 64;
@@ -21,27 +20,6 @@ pub fn filled<T: Copy, const N: usize>(x: T) -> [T; N]
     ensures { Filled N x result }
 {
     [x; N]
-}
-
-// Zeros: room for the longest row or column.
-pub fn row_room() -> [u32; ROW]
-    ensures { Zeros longest_row result }
-{
-    [0u32; ROW]
-}
-
-// Room for a row with the numbers carried behind it.
-pub fn wide_room() -> [u32; WIDE]
-    ensures { Zeros widest_row result }
-{
-    [0u32; WIDE]
-}
-
-// Room for a table with the numbers carried behind each row.
-pub fn wide_table() -> [u32; WIDE_TABLE]
-    ensures { Zeros widest_table result }
-{
-    [0u32; WIDE_TABLE]
 }
 
 // Makes each number 0.

@@ -30,7 +30,7 @@ pub returns-then-not-is_laid_out : goal.returns-then-not-is_laid_out
 returns-then-not-is_laid_out c = sym (show_off_board _ (λ b. guard_taken c.is_laid_out.ensures c.if-not-is_laid_out.true-raw (board_laid b)) _ _ _)
 
 pub reduce_board-requires : goal.reduce_board-requires
-reduce_board-requires c = record { laid = laid (goal.at.reduce_board-requires c).Else-not-is_laid_out; rows_room = c.wide_table-e.ensures; pivots_room = c.row_room-pivots.ensures }
+reduce_board-requires c = record { laid = laid (goal.at.reduce_board-requires c).Else-not-is_laid_out; rows_room = c.filled-e.ensures; pivots_room = c.filled-pivots.ensures }
 
 pub returns-then-not-reduce_board : goal.returns-then-not-reduce_board
 returns-then-not-reduce_board c = sym (show_off_board _ (guard_taken c.reduce_board.ensures.tells c.if-not-reduce_board.true-raw) _ _ _)

@@ -19,7 +19,7 @@ use Rattle.clash.proofs.select.Goals.{After-combination-by, After-put, Else-y-m}
 pub first_contradiction-y-requires : goal.first_contradiction-y-requires
 first_contradiction-y-requires c =
     let k = c.requires.0 in
-    (k, room_fresh _ _ k.is_modulus c.wide_table-e.ensures c.row_room-pivots.ensures)
+    (k, room_fresh _ _ k.is_modulus c.filled-e.ensures c.filled-pivots.ensures)
 
 pub returns-then-y-m : goal.returns-then-y-m
 returns-then-y-m c ok =

@@ -10,11 +10,11 @@ pub returns-then-mark-eq0 : goal.returns-then-mark-eq0
 returns-then-mark-eq0 c = row_skipped c.requires.0 (c.requires.2 c.if-mark-eq0.true)
 
 pub copy-requires : goal.copy-requires
-copy-requires c = (row_fits c.requires.0.left, omega (arith, c.row_room-by.ensures.0, c.requires.0.inner))
+copy-requires c = (row_fits c.requires.0.left, omega (arith, c.filled-by.ensures.0, c.requires.0.inner))
 
 pub add_row-requires : goal.add_row-requires
 add_row-requires c =
-    let room = c.row_room-by.ensures in
+    let room = c.filled-by.ensures in
     let copied = c.copy.ensures in (
       factors_front (omega (arith, room.0, copied.same_length, c.requires.0.inner))
           (copied_below c.requires.0.positive room.1 (row_fits c.requires.0.left) c.requires.0.left.below copied)

@@ -55,7 +55,7 @@ pub returns-then-wanted-n : goal.returns-then-wanted-n
 returns-then-wanted-n c = other_length _ (guard_left c.is_board.ensures c.if-not-is_board.false-raw) _ _ _ (λ l _ _. c.if-wanted-n.true l)
 
 pub candidate-requires : goal.candidate-requires
-candidate-requires c = record { laid = laid (goal.at.candidate-requires c).Else-not-is_laid_out; long = c.if-wanted-n.false; room = c.row_room-c.ensures }
+candidate-requires c = record { laid = laid (goal.at.candidate-requires c).Else-not-is_laid_out; long = c.if-wanted-n.false; room = c.filled-c.ensures }
 
 pub returns-then-not-candidate : goal.returns-then-not-candidate
 returns-then-not-candidate c = off_board _ _ _ _ (guard_taken c.candidate.ensures.tells c.if-not-candidate.true-raw)

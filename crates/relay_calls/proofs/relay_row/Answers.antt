@@ -32,15 +32,15 @@ some c = subst (Combination _ _ _) (not-false c.find.result c.if-not-find.false-
 
 -- the room for the values
 pub slice_bounds-combine_values-end : goal.slice_bounds-combine_values-end
-slice_bounds-combine_values-end c = sym (length-take-le _ _ (omega (arith, c.row_room-v.ensures.0, (board (goal.at.slice_bounds-combine_values-end c).Start).words.1)))
+slice_bounds-combine_values-end c = sym (length-take-le _ _ (omega (arith, c.filled-v.ensures.0, (board (goal.at.slice_bounds-combine_values-end c).Start).words.1)))
 
 pub combine_values-requires : goal.combine_values-requires
 combine_values-requires c = record { board = board (goal.at.combine_values-requires c).Start; long = (some (goal.at.combine_values-requires c).Else-not-find).long; values_long = sym (slice_bounds-combine_values-end (goal.at.combine_values-requires c).After-v-1) }
 
-front-is : (c : After-combine_values) → (let s = values_word c.args.board.now in take s (c.combine_values.new.v ++ drop s c.row_room-v.result)) ≡ c.combine_values.new.v
+front-is : (c : After-combine_values) → (let s = values_word c.args.board.now in take s (c.combine_values.new.v ++ drop s c.filled-v.result)) ≡ c.combine_values.new.v
 front-is c = take_at c.combine_values.new.v _ _ c.combine_values.ensures.0
 
-front_long : (c : After-combine_values) → length (let s = values_word c.args.board.now in take s (c.combine_values.new.v ++ drop s c.row_room-v.result)) ≡ values_word c.args.board.now
+front_long : (c : After-combine_values) → length (let s = values_word c.args.board.now in take s (c.combine_values.new.v ++ drop s c.filled-v.result)) ≡ values_word c.args.board.now
 front_long c = ap length (front-is c) ∙ c.combine_values.ensures.0
 
 pub slice_bounds-put-end : goal.slice_bounds-put-end
@@ -60,7 +60,7 @@ mix_written c fits =
 pub slice_bounds-v-end-2 : goal.slice_bounds-v-end-2
 slice_bounds-v-end-2 c =
     let s = values_word c.args.board.now in
-    omega (arith, length-append c.combine_values.new.v (drop s c.row_room-v.result), c.combine_values.ensures.0)
+    omega (arith, length-append c.combine_values.new.v (drop s c.filled-v.result), c.combine_values.ensures.0)
 
 pub slice_bounds-write_frame-end : goal.slice_bounds-write_frame-end
 slice_bounds-write_frame-end c = sym (front_long (goal.at.slice_bounds-write_frame-end c).After-combine_values)
@@ -78,9 +78,9 @@ write_frame-length-requires c =
 
 pub overflow_cast-length : goal.overflow_cast-length
 unfolding longest
-overflow_cast-length c = omega (arith, c.write_frame-length.ensures.end, frame_most _ _ _ _ _ c.requires (let s = values_word c.args.board.now in take s (c.combine_values.new.v ++ drop s c.row_room-v.result)) (front_long (goal.at.overflow_cast-length c).After-combine_values), (board (goal.at.overflow_cast-length c).Start).words.1)
+overflow_cast-length c = omega (arith, c.write_frame-length.ensures.end, frame_most _ _ _ _ _ c.requires (let s = values_word c.args.board.now in take s (c.combine_values.new.v ++ drop s c.filled-v.result)) (front_long (goal.at.overflow_cast-length c).After-combine_values), (board (goal.at.overflow_cast-length c).Start).words.1)
 
 pub returns : goal.returns
 returns c =
-    some_outcome _ _ _ _ _ c.requires (some (goal.at.returns c).Else-not-find) (let s = values_word c.args.board.now in take s (c.combine_values.new.v ++ drop s c.row_room-v.result)) (front_long (goal.at.returns c).After-combine_values)
+    some_outcome _ _ _ _ _ c.requires (some (goal.at.returns c).Else-not-find) (let s = values_word c.args.board.now in take s (c.combine_values.new.v ++ drop s c.filled-v.result)) (front_long (goal.at.returns c).After-combine_values)
     (λ i h. ap (λ xs. get_or xs i 0) (front-is (goal.at.returns c).After-combine_values) ∙ c.combine_values.ensures.1 i h) _ _ _ (mix_written (goal.at.returns c).After-put (slice_bounds-put-end (goal.at.returns c).After-v-2-1)) c.write_frame-length.ensures

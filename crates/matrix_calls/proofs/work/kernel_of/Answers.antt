@@ -9,16 +9,16 @@ use Rattle.matrix_calls.proofs.work.kernel_of.Goals as goal
 use Rattle.matrix_calls.proofs.work.kernel_of.Goals.{After-reduced-rank}
 
 pub slice_bounds-reduced-end : goal.slice_bounds-reduced-end
-slice_bounds-reduced-end c = sym c.wide_table-e.ensures.0
+slice_bounds-reduced-end c = sym c.filled-e.ensures.0
 
 pub slice_bounds-reduced-end-2 : goal.slice_bounds-reduced-end-2
-slice_bounds-reduced-end-2 c = sym c.row_room-pivots.ensures.0
+slice_bounds-reduced-end-2 c = sym c.filled-pivots.ensures.0
 
 pub reduced-rank-requires : goal.reduced-rank-requires
 reduced-rank-requires c =
     let k = c.requires.0 in
     rw c.plain_grid-plain.ensures
-    (readable_none _ 0 (plain_table k), room_fresh _ _ k.is_modulus c.wide_table-e.ensures c.row_room-pivots.ensures)
+    (readable_none _ 0 (plain_table k), room_fresh _ _ k.is_modulus c.filled-e.ensures c.filled-pivots.ensures)
 
 -- the reduced form of the table as it stands
 found : (c : After-reduced-rank) → let a = c.args in

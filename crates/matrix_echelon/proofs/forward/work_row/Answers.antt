@@ -13,18 +13,18 @@ pub row_limbs-lo-requires : goal.row_limbs-lo-requires
 row_limbs-lo-requires c = row_readable _ _ _ _ _ _ _ _ _ _ c.requires
 
 pub clear_pivots-requires : goal.clear_pivots-requires
-clear_pivots-requires c = clearable _ _ _ _ _ _ _ _ _ _ c.requires _ _ c.row_limbs-lo.ensures c.no_rows-hi.ensures
+clear_pivots-requires c = clearable _ _ _ _ _ _ _ _ _ _ c.requires _ _ c.row_limbs-lo.ensures c.filled-hi.ensures
 
 pub slice_bounds-x-end : goal.slice_bounds-x-end
 slice_bounds-x-end c = omega (arith, c.requires.readable.table.columns_most, c.requires.readable.carried_most)
 
 pub slice_bounds-settle-end : goal.slice_bounds-settle-end
-slice_bounds-settle-end c = sym (length-take-le _ _ (omega (arith, c.wide_room-x.ensures.0, c.requires.readable.table.columns_most, c.requires.readable.carried_most)))
+slice_bounds-settle-end c = sym (length-take-le _ _ (omega (arith, c.filled-x.ensures.0, c.requires.readable.table.columns_most, c.requires.readable.carried_most)))
 
 pub settle-requires : goal.settle-requires
-settle-requires c = settleable _ _ _ _ _ _ _ _ _ _ c.requires _ _ c.row_limbs-lo.ensures c.no_rows-hi.ensures _ _ c.clear_pivots.ensures _ c.wide_room-x.ensures
+settle-requires c = settleable _ _ _ _ _ _ _ _ _ _ c.requires _ _ c.row_limbs-lo.ensures c.filled-hi.ensures _ _ c.clear_pivots.ensures _ c.filled-x.ensures
 
 pub returns : goal.returns
 returns c =
-    row_worked _ _ _ _ _ _ _ _ _ _ c.requires _ _ c.row_limbs-lo.ensures c.no_rows-hi.ensures _ _ c.clear_pivots.ensures _ c.wide_room-x.ensures
+    row_worked _ _ _ _ _ _ _ _ _ _ c.requires _ _ c.row_limbs-lo.ensures c.filled-hi.ensures _ _ c.clear_pivots.ensures _ c.filled-x.ensures
     c.settle.ensures

@@ -18,11 +18,11 @@ unfolding opposite_at
 loop-s-preserved c =
     let l = c.loop-s in
     let inside : l.s < c.args.rank = omega (arith, front-long (goal.at.loop-s-preserved c).Start) in
-    walked_more l.s _ _ _ _ l.invariant (omega (arith, inside, c.requires.pivots_in.few, c.row_room-by.ensures.0))
+    walked_more l.s _ _ _ _ l.invariant (omega (arith, inside, c.requires.pivots_in.few, c.filled-by.ensures.0))
     (rw (get_or-take c.args.rank c.args.pivots.now l.s 0 inside) at c.minus.ensures)
 
 pub returns : goal.returns
 returns c =
     let l = c.loop-s in
     let e : l.s ≡ c.args.rank = omega (arith, front-long (goal.at.returns c).Start) in
-    multipliers_found c.requires c.row_room-by.ensures (rw e at l.invariant)
+    multipliers_found c.requires c.filled-by.ensures (rw e at l.invariant)

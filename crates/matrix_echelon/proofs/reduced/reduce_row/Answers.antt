@@ -30,36 +30,36 @@ overflow_sub-len c = c.requires.within
 pub copy-requires : goal.copy-requires
 copy-requires c = (
   omega (arith, looked_inside c.requires.lookable c.args.t c.requires.lookable.one_of, parts (goal.at.copy-requires c).Start),
-  omega (arith, c.wide_room-x.ensures.0, c.requires.lookable.pivots_in.narrow),
+  omega (arith, c.filled-x.ensures.0, c.requires.lookable.pivots_in.narrow),
 )
 
 pub slice_bounds-combine_listed-end : goal.slice_bounds-combine_listed-end
-slice_bounds-combine_listed-end c = sym (by_long (from (goal.at.slice_bounds-combine_listed-end c).Start) (len (goal.at.slice_bounds-combine_listed-end c).Start) c.requires.lookable (parts (goal.at.slice_bounds-combine_listed-end c).Start) c.multipliers-by.ensures c.wide_room-x.ensures c.copy.ensures)
+slice_bounds-combine_listed-end c = sym (by_long (from (goal.at.slice_bounds-combine_listed-end c).Start) (len (goal.at.slice_bounds-combine_listed-end c).Start) c.requires.lookable (parts (goal.at.slice_bounds-combine_listed-end c).Start) c.multipliers-by.ensures c.filled-x.ensures c.copy.ensures)
 
 pub slice_bounds-combine_listed-end-3 : goal.slice_bounds-combine_listed-end-3
-slice_bounds-combine_listed-end-3 c = sym (copy_long (from (goal.at.slice_bounds-combine_listed-end-3 c).Start) (len (goal.at.slice_bounds-combine_listed-end-3 c).Start) c.requires.lookable (parts (goal.at.slice_bounds-combine_listed-end-3 c).Start) c.multipliers-by.ensures c.wide_room-x.ensures c.copy.ensures)
+slice_bounds-combine_listed-end-3 c = sym (copy_long (from (goal.at.slice_bounds-combine_listed-end-3 c).Start) (len (goal.at.slice_bounds-combine_listed-end-3 c).Start) c.requires.lookable (parts (goal.at.slice_bounds-combine_listed-end-3 c).Start) c.multipliers-by.ensures c.filled-x.ensures c.copy.ensures)
 
 pub combine_listed-requires : goal.combine_listed-requires
 combine_listed-requires c = (
-  combinable (from (goal.at.combine_listed-requires c).Start) (len (goal.at.combine_listed-requires c).Start) c.requires.lookable (parts (goal.at.combine_listed-requires c).Start) c.multipliers-by.ensures c.wide_room-x.ensures c.copy.ensures,
-  passes (from (goal.at.combine_listed-requires c).Start) (len (goal.at.combine_listed-requires c).Start) c.requires.lookable (parts (goal.at.combine_listed-requires c).Start) c.multipliers-by.ensures c.wide_room-x.ensures c.copy.ensures
+  combinable (from (goal.at.combine_listed-requires c).Start) (len (goal.at.combine_listed-requires c).Start) c.requires.lookable (parts (goal.at.combine_listed-requires c).Start) c.multipliers-by.ensures c.filled-x.ensures c.copy.ensures,
+  passes (from (goal.at.combine_listed-requires c).Start) (len (goal.at.combine_listed-requires c).Start) c.requires.lookable (parts (goal.at.combine_listed-requires c).Start) c.multipliers-by.ensures c.filled-x.ensures c.copy.ensures
       c.requires.through,
 )
 
 pub slice_bounds-x-end-2 : goal.slice_bounds-x-end-2
 slice_bounds-x-end-2 c =
-    back_short (from (goal.at.slice_bounds-x-end-2 c).Start) (len (goal.at.slice_bounds-x-end-2 c).Start) c.requires.lookable (parts (goal.at.slice_bounds-x-end-2 c).Start) c.multipliers-by.ensures c.wide_room-x.ensures c.copy.ensures
+    back_short (from (goal.at.slice_bounds-x-end-2 c).Start) (len (goal.at.slice_bounds-x-end-2 c).Start) c.requires.lookable (parts (goal.at.slice_bounds-x-end-2 c).Start) c.multipliers-by.ensures c.filled-x.ensures c.copy.ensures
     c.combine_listed.new.out c.combine_listed.ensures
 
 pub slice_bounds-put-end : goal.slice_bounds-put-end
 slice_bounds-put-end c =
     sym
-    (back_long (from (goal.at.slice_bounds-put-end c).Start) (len (goal.at.slice_bounds-put-end c).Start) c.requires.lookable (parts (goal.at.slice_bounds-put-end c).Start) c.multipliers-by.ensures c.wide_room-x.ensures c.copy.ensures
+    (back_long (from (goal.at.slice_bounds-put-end c).Start) (len (goal.at.slice_bounds-put-end c).Start) c.requires.lookable (parts (goal.at.slice_bounds-put-end c).Start) c.multipliers-by.ensures c.filled-x.ensures c.copy.ensures
     c.combine_listed.new.out c.combine_listed.ensures)
 
 pub put-requires : goal.put-requires
 put-requires c =
-    back_inside (from (goal.at.put-requires c).Start) (len (goal.at.put-requires c).Start) c.requires.lookable (parts (goal.at.put-requires c).Start) c.multipliers-by.ensures c.wide_room-x.ensures c.copy.ensures
+    back_inside (from (goal.at.put-requires c).Start) (len (goal.at.put-requires c).Start) c.requires.lookable (parts (goal.at.put-requires c).Start) c.multipliers-by.ensures c.filled-x.ensures c.copy.ensures
     c.combine_listed.new.out c.combine_listed.ensures
 
 pub bounds-pivots-t : goal.bounds-pivots-t
@@ -73,6 +73,6 @@ write_unit-requires c = omega (arith, c.put.ensures.0, looked_inside c.requires.
 
 pub returns : goal.returns
 returns c =
-    row_lessened (from (goal.at.returns c).Start) (len (goal.at.returns c).Start) c.requires.lookable (parts (goal.at.returns c).Start) c.multipliers-by.ensures c.wide_room-x.ensures c.copy.ensures
+    row_lessened (from (goal.at.returns c).Start) (len (goal.at.returns c).Start) c.requires.lookable (parts (goal.at.returns c).Start) c.multipliers-by.ensures c.filled-x.ensures c.copy.ensures
     c.combine_listed.new.out c.combine_listed.ensures c.put.new.out _ c.put.ensures c.write_unit.ensures
     c.requires.proper

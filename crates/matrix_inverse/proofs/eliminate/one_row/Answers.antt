@@ -8,7 +8,7 @@ use Rattle.matrix_inverse.proofs.eliminate.one_row.Goals as goal
 -- no number is other than 0
 pub returns-in_default : goal.returns-in_default
 returns-in_default c =
-    let room = c.row_room-marks in
+    let room = c.filled-marks in
     let blank = c.in_default.ensures in
     rw (room_fresh room.result room.ensures) (nothing_chosen c.requires (row_zero c.args.n c.args.a.now (λ t h. blank t)))
 
@@ -16,7 +16,7 @@ returns-in_default c =
 pub returns : goal.returns
 returns c =
     let least = c.in-Some.ensures in
-    let room = c.row_room-marks in
+    let room = c.filled-marks in
     rw (room_fresh room.result room.ensures)
     (one_chosen c.requires c.in-Some.v c.inverse.result (omega (arith, least.within, c.requires.a_long)) least.before c.inverse.ensures.0
     c.inverse.ensures.1)

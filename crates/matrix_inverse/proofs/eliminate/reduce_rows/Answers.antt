@@ -12,16 +12,16 @@ pub slice_bounds-list_marked-end : goal.slice_bounds-list_marked-end
 slice_bounds-list_marked-end c = sym (length-take-le _ _ c.requires.used.long)
 
 pub slice_bounds-list_marked-end-2 : goal.slice_bounds-list_marked-end-2
-slice_bounds-list_marked-end-2 c = sym c.row_room-next.ensures.0
+slice_bounds-list_marked-end-2 c = sym c.filled-next.ensures.0
 
 pub list_marked-requires : goal.list_marked-requires
 list_marked-requires c =
     let pre = c.requires in
     let long = length-take-le c.args.split.width c.args.marks.now pre.used.long in
-    (omega (arith, long, pre.halves.n_most), omega (arith, long, pre.halves.n_most, c.row_room-next.ensures.0))
+    (omega (arith, long, pre.halves.n_most), omega (arith, long, pre.halves.n_most, c.filled-next.ensures.0))
 
 pub slice_bounds-negative_product-end : goal.slice_bounds-negative_product-end
-slice_bounds-negative_product-end c = sym (c.list_marked.ensures.0 ∙ c.row_room-next.ensures.0)
+slice_bounds-negative_product-end c = sym (c.list_marked.ensures.0 ∙ c.filled-next.ensures.0)
 
 pub negative_product-requires : goal.negative_product-requires
 negative_product-requires c =

@@ -7,7 +7,7 @@ use Rattle.matrix_mul.proofs.RowSums.{held_none, held_ready, held_four, held_who
 use Rattle.matrix_mul.proofs.rows.add_all.Goals as goal
 
 pub loop-t-init : goal.loop-t-init
-loop-t-init c = (omega arith, held_none c.no_rows-lo.ensures c.no_rows-hi.ensures)
+loop-t-init c = (omega arith, held_none c.filled-lo.ensures c.filled-hi.ensures)
 
 pub next_four-four-requires : goal.next_four-four-requires
 next_four-four-requires c = walkable c.requires.0 (omega arith) c.requires.1 _ c.loop-t.invariant.0

@@ -1,8 +1,0 @@
--- `words::wide_room` meets its contract.
-use mathlib.Core.Path.{refl}
-use Rattle.words.specs.Lengths.{widest_row}
-use Rattle.words.proofs.Zeros.{zeros_at}
-use Rattle.words.proofs.wide_room.Goals as goal
-
-pub returns : goal.returns
-returns c = (refl, zeros_at widest_row)
