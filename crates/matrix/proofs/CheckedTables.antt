@@ -3,7 +3,7 @@
 use mathlib.Core.Path.{◌≡◌, ap}
 use mathlib.Core.Bool.{Bool, true, not}
 use mathlib.Core.List.{List}
-use Prim.Native.Nat.{ℕ, ◌*◌, ◌%◌, ◌<◌}
+use Prim.Native.Nat.{ℕ, ◌*◌, ◌%◌, ◌≤◌, ◌<◌}
 use native.Mathlib.Nat.{mod-eq-zero_of_dvd}
 use native.Mathlib.Omega.{arith}
 use lib.Dec.{eqb, ltb, leb}
@@ -20,7 +20,8 @@ use Rattle.algebra.proofs.Sized.{by_size, absorbs_inside}
 use Rattle.checks.specs.Prime.{Prime, IsModulus}
 use Rattle.field.specs.Residue.{Residue, residues}
 use Rattle.field.specs.View.{table}
-use Rattle.words.specs.Words.{Below, LeastNonzero}
+use Rattle.words.specs.Words.{Below, Blank, LeastNonzero}
+use Rattle.words.proofs.Zeros.{blank_inside}
 use Rattle.field.proofs.Field.{residues_ring}
 use Rattle.field.proofs.Residues.{residue_path}
 use Rattle.field.proofs.Views.{table_sized}
@@ -68,16 +69,22 @@ is_least_nonzero xs r =
     and every_below r (λ i. eqb (get_or xs i 0) 0)
     and (ltb r (length xs) implies not (eqb (get_or xs r 0) 0))
 
-pub least_nonzero : (xs : List ℕ) (r : ℕ) → is_least_nonzero xs r ≡ true → LeastNonzero xs r
-unfolding is_least_nonzero
-least_nonzero xs r t =
-    let (t, not_zero) = both _ _ t in
-    let (within, before) = both _ _ t in
-    record {
-      within = leb-true _ _ within;
-      before = λ i h. eqb-true _ _ (every_below_lem r _ before i h);
-      not_zero = λ h. eqb-false _ _ (not-true _ (implied not_zero (lt-ltb _ _ h)));
-    }
+module _ (xs : List ℕ) (r : ℕ) (t : is_least_nonzero xs r ≡ true) where
+  zeros_before : (i : ℕ) → i < r → get_or xs i 0 ≡ 0
+  unfolding is_least_nonzero
+  zeros_before i h = eqb-true _ _ (every_below_lem r _ (both _ _ (both _ _ t).0).1 i h)
+
+  pub least_nonzero : r < length xs → LeastNonzero xs r
+  unfolding is_least_nonzero
+  least_nonzero h =
+      record {
+        within = h;
+        before = zeros_before;
+        not_zero = eqb-false _ _ (not-true _ (implied (both _ _ t).1 (lt-ltb _ _ h)));
+      }
+
+  pub none_nonzero : length xs ≤ r → Blank xs
+  none_nonzero h = blank_inside xs (λ i l. zeros_before i (omega arith))
 
 -- ---- the table
 

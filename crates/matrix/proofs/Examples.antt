@@ -7,13 +7,15 @@ use mathlib.Core.List.{List, ◌++◌, flatten, Memᴰ}
 use Prim.Native.Nat.{ℕ, ◌+◌, ◌*◌}
 use lib.Dec.{eqb, ltb, leb}
 use lib.ListN.{length, get_or, replicate}
+use native.Mathlib.Omega.{arith}
 use borrow.Author.Tests.{eqb-true, ltb-true, leb-true}
+use Rattle.field.proofs.Written.{length_tabulate}
 use Rattle.algebra.specs.Choice.{first_from}
 use Rattle.algebra.specs.Matrix.{Matrix, sum, unit, product, apply}
 use Rattle.algebra.specs.Quasiinverse.{count}
 use Rattle.algebra.specs.Kernel.{kernel_vector}
 use Rattle.algebra.specs.Solve.{mix_of, remainder}
-use Rattle.words.specs.Words.{Below, LeastNonzero}
+use Rattle.words.specs.Words.{Below}
 use Rattle.field.specs.Residue.{residues, reduce, ◌⊕◌, ◌⊗◌, negated}
 use Rattle.field.specs.View.{table}
 use Rattle.field.specs.Written.{numbers, tabulate, marked}
@@ -31,7 +33,7 @@ use Rattle.matrix.proofs.Answers.{quasiinverse_done, kernel_done, system_hold, s
 use Rattle.matrix.proofs.Basis.{basis_stored}
 use Rattle.matrix.proofs.Systems.{solved_by_lem, refused_by_lem}
 use Rattle.matrix.proofs.Checker.{◌and◌, every, every_below, is_pivot_inverse, both, every_member}
-use Rattle.matrix.proofs.CheckedTables.{are_below, all_below, are_same, all_same, are_marks, is_least_nonzero, least_nonzero, is_prime}
+use Rattle.matrix.proofs.CheckedTables.{are_below, all_below, are_same, all_same, are_marks, is_least_nonzero, least_nonzero, none_nonzero, is_prime}
 use Rattle.matrix.proofs.CheckedTables.{is_table, table_checked, same, holds_inverse, quasiinverse_checked, inverse_checked}
 use Rattle.matrix.proofs.CheckedTables.{is_absorbed, absorbs_checked, absorbs_unchecked}
 
@@ -137,9 +139,12 @@ module _ (e : TableExample) (checks : Checked e.p e.m e.n e.a)
         system_hold p m n a w z u checks
         (record { w_long = passes_checks.0; w_below = passes_checks.1; z_long = z_long; u_long = u_long })
 
-    first : LeastNonzero (rest_of e w) (differing e w)
+    rest_size : length (rest_of e w) ≡ m
+    rest_size = length_tabulate m _
+
+    least : is_least_nonzero (rest_of e w) (differing e w) ≡ true
     unfolding is_system
-    first = least_nonzero _ _ (both _ _ t).1
+    least = (both _ _ t).1
 
     fit_so : (ok : IsModulus p) → StoresFit p ok m n a w rank (candidate_of e w) (rest_of e w)
     fit_so ok =
@@ -157,10 +162,10 @@ module _ (e : TableExample) (checks : Checked e.p e.m e.n e.a)
         let (s, zeros) = both _ _ s in
         let (nowhere, same) = both _ _ s in
         ap (λ u. outcome (results rank) (x, u)) (all_same _ _ zeros)
-        ∙ solved_by_lem p ok m n a w (fit_so ok) z (differing e w) first x (leb-true _ _ nowhere) (all_same _ _ same)
+        ∙ solved_by_lem p ok m n a w (fit_so ok) z x (none_nonzero _ _ least (omega (arith, rest_size, leb-true _ _ nowhere))) (all_same _ _ same)
     answers (refused_by u) s z ok =
         let (somewhere, same) = both _ _ s in
-        refused_by_lem p ok m n a w (fit_so ok) z (differing e w) first u (ltb-true _ _ somewhere)
+        refused_by_lem p ok m n a w (fit_so ok) (differing e w) (least_nonzero _ _ least (omega (arith, rest_size, ltb-true _ _ somewhere))) z u
         (all_same _ _ same ∙ ap (λ X. numbers m (mix_of (residues p) n (A e) X (differing e w))) (stored ok).is_D)
 
     solves : (o : Becomes) → becomes_so e w o ≡ true → (z u : List ℕ) → length z ≡ n → length u ≡ m

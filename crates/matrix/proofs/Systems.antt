@@ -16,7 +16,7 @@ use Rattle.checks.specs.Told.{results, refused}
 use Rattle.checks.specs.Outcome.{outcome}
 use Rattle.checks.specs.Prime.{IsModulus}
 use Rattle.words.specs.Words.{Blank, LeastNonzero}
-use Rattle.words.proofs.Zeros.{blank_inside, zeros_written}
+use Rattle.words.proofs.Zeros.{zeros_written}
 use Rattle.field.specs.Residue.{residues}
 use Rattle.field.specs.Written.{numbers}
 use Rattle.field.proofs.Written.{length_tabulate, is_tabulate}
@@ -53,32 +53,34 @@ module _ (p : ℕ) (ok : IsModulus p) (m n : ℕ) (a w : List ℕ) where
         ∙ zero_written p m (left_over p ok m n a w) i (omega (arith, ok.prime.two_or_more)) l
         (remainder_zero (residues p) (field p ok).ring n (table_of p m n a) (candidate p ok m n a w) (vector_of p w) i e)
 
-    module _ (z : List ℕ) (y : ℕ) (first : LeastNonzero rest y) where
-      -- no number is left over: the system is solved
-      pub solved_by_lem : (z' : List ℕ) → m ≤ y → z' ≡ x → outcome (results r) (z', rest) ≡ solution p ok m n a w z
-      solved_by_lem z' h same =
-          let zeros = zeros_written m rest rest_long (blank_inside rest (λ i l. first.before i (omega (arith, rest_long)))) in
-          (λ i. outcome (results (f.is_rank i)) ((same ∙ f.z_written) i, zeros i))
-          ∙ sym (solution_found p ok m n a w z (λ i l. agrees i l (first.before i (omega arith))))
+    -- no number is left over: the system is solved
+    pub solved_by_lem : (z z' : List ℕ) → Blank rest → z' ≡ x → outcome (results r) (z', rest) ≡ solution p ok m n a w z
+    solved_by_lem z z' blank same =
+        (λ i. outcome (results (f.is_rank i)) ((same ∙ f.z_written) i, zeros_written m rest rest_long blank i))
+        ∙ sym (solution_found p ok m n a w z (λ i l. agrees i l (blank i)))
 
-      -- y is a row where a number is left over: it is the first, and the system is refused
-      differs : y < m → image y ≡ vector_of p w y → ⊥
-      differs h e = first.not_zero (omega (arith, rest_long)) (is_zero y h e)
+    -- y is a row where a number is left over: it is the first, and the system is refused
+    module _ (y : ℕ) (first : LeastNonzero rest y) where
+      inside : y < m
+      inside = omega (arith, first.within, rest_long)
 
-      first_row_lem : y < m → first_row p ok m n a w ≡ y
-      first_row_lem h =
-          let (row, other) = first_row_differs p ok m n a w (λ s. differs h (s y h)) in
+      differs : image y ≡ vector_of p w y → ⊥
+      differs e = first.not_zero (is_zero y inside e)
+
+      first_row_lem : first_row p ok m n a w ≡ y
+      first_row_lem =
+          let (row, other) = first_row_differs p ok m n a w (λ s. differs (s y inside)) in
           let q = first_row p ok m n a w in
           let late : q < y → ⊥ = λ l. other (agrees q row (first.before q l)) in
-          let early : y < q → ⊥ = λ l. differs h (first_row_first p ok m n a w y l) in
+          let early : y < q → ⊥ = λ l. differs (first_row_first p ok m n a w y l) in
           omega arith
 
-      pub refused_by_lem : (u' : List ℕ) → y < m → u' ≡ numbers m (mix_of (residues p) n (table_of p m n a) (inverse_of p ok m n a) y)
+      pub refused_by_lem : (z u' : List ℕ) → u' ≡ numbers m (mix_of (residues p) n (table_of p m n a) (inverse_of p ok m n a) y)
           → outcome (refused Insoluble) (z, u') ≡ solution p ok m n a w z
-      refused_by_lem u' h e =
+      refused_by_lem z u' e =
           ap (λ u. outcome (refused Insoluble) (z, u))
-          (e ∙ ap (λ k. numbers m (mix_of (residues p) n (table_of p m n a) (inverse_of p ok m n a) k)) (sym (first_row_lem h)))
-          ∙ sym (solution_none p ok m n a w z (λ s. differs h (s y h)))
+          (e ∙ ap (λ k. numbers m (mix_of (residues p) n (table_of p m n a) (inverse_of p ok m n a) k)) (sym first_row_lem))
+          ∙ sym (solution_none p ok m n a w z (λ s. differs (s y inside)))
 
 -- ---- what the forward elimination gives
 

@@ -95,8 +95,7 @@ fn solve_with(
     ensures { IsSolution p m n a.now w.now z.old (result_told result) z.new u.new }
 {
     let rank = fit_of(p, m, n, a, w, x, u);
-    let y = words::least_nonzero(u);
-    if y < m {
+    if let Some(y) = words::least_nonzero(u) {
         parts::row_mix(p, m, n, a, y, u);
         return Err(Refusal::Insoluble);
     }

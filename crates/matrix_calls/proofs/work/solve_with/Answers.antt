@@ -5,7 +5,7 @@ use lib.ListN.{length}
 use Rattle.matrix.proofs.Memory.{copied_whole}
 use Rattle.matrix.proofs.Systems.{solved_by_lem, refused_by_lem}
 use Rattle.matrix_calls.proofs.work.solve_with.Goals as goal
-use Rattle.matrix_calls.proofs.work.solve_with.Goals.{After-fit_of-rank, After-least_nonzero-y}
+use Rattle.matrix_calls.proofs.work.solve_with.Goals.{After-fit_of-rank}
 
 long : (c : After-fit_of-rank) → length (c.fit_of-rank.new.z) ≡ c.args.n
 long c = c.fit_of-rank.auto.z ∙ c.requires.2
@@ -18,22 +18,23 @@ fit_of-rank-requires c =
     )
 
 -- as many numbers are left over as were lent
-left-long : (c : After-least_nonzero-y) → length c.fit_of-rank.new.rest ≡ c.args.m
+left-long : (c : After-fit_of-rank) → length c.fit_of-rank.new.rest ≡ c.args.m
 left-long c = c.fit_of-rank.auto.rest ∙ c.requires.1.u_long
 
 pub row_mix-requires : goal.row_mix-requires
-row_mix-requires c = (c.requires.0, omega (arith, c.if-y-m.true), left-long (goal.at.row_mix-requires c).After-least_nonzero-y)
+row_mix-requires c =
+    let long = left-long (goal.at.row_mix-requires c).After-fit_of-rank in
+    (c.requires.0, omega (arith, long, c.in-Some.ensures.within), long)
 
-pub shape_of-x-then-y-m : goal.shape_of-x-then-y-m
-shape_of-x-then-y-m c = c.fit_of-rank.auto.z
+pub shape_of-x-in-Some : goal.shape_of-x-in-Some
+shape_of-x-in-Some c = c.fit_of-rank.auto.z
 
-pub shape_of-u-then-y-m : goal.shape_of-u-then-y-m
-shape_of-u-then-y-m c = c.row_mix.auto.u ∙ c.fit_of-rank.auto.rest
+pub shape_of-u-in-Some : goal.shape_of-u-in-Some
+shape_of-u-in-Some c = c.row_mix.auto.u ∙ c.fit_of-rank.auto.rest
 
-pub returns-then-y-m : goal.returns-then-y-m
-returns-then-y-m c ok =
-    refused_by_lem _ ok _ _ _ _ (c.fit_of-rank.ensures ok) _ _ c.least_nonzero-y.ensures _
-    c.if-y-m.true (c.row_mix.ensures ok)
+pub returns-in-Some : goal.returns-in-Some
+returns-in-Some c ok =
+    refused_by_lem _ ok _ _ _ _ (c.fit_of-rank.ensures ok) _ c.in-Some.ensures _ _ (c.row_mix.ensures ok)
 
 pub copy-requires : goal.copy-requires
 copy-requires c = (omega (arith, long (goal.at.copy-requires c).After-fit_of-rank), omega (arith, c.requires.1.z_long))
@@ -50,5 +51,5 @@ shape_of-u c = c.fit_of-rank.auto.rest
 pub returns : goal.returns
 returns c ok =
     let z = c.copy in
-    solved_by_lem _ ok _ _ _ _ (c.fit_of-rank.ensures ok) _ _ c.least_nonzero-y.ensures _ c.if-y-m.false
+    solved_by_lem _ ok _ _ _ _ (c.fit_of-rank.ensures ok) _ _ c.in_default.ensures
     (copied_whole _ (c.fit_of-rank.new.z) z.new.zs (long (goal.at.returns c).After-fit_of-rank) (z.ensures.same_length ∙ c.requires.1.z_long) z.ensures.front)
