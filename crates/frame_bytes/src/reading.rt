@@ -30,7 +30,14 @@ fn values_below(p: u32, w: usize, bytes: &[u8], start: usize, s: usize) -> bool
 }
 
 // Judges the multipliers that stand from the place on, and the s values behind them: why the first bad one is refused.
-fn judged(p: u32, w: usize, bytes: &[u8], start: usize, count: usize, s: usize) -> Result<(), Refusal>
+fn judged(
+    p: u32,
+    w: usize,
+    bytes: &[u8],
+    start: usize,
+    count: usize,
+    s: usize,
+) -> Result<(), Refusal>
     requires { (w ≤ 4) × (length bytes.now ≡ start + w * count + w * s) }
     ensures { Judges (checks_from p w s bytes.now start count) result }
 {
