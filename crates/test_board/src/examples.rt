@@ -142,7 +142,7 @@ fn no_board(out: &impl Print, board: &mut [u32; 16]) -> io::Result<()> {
 
 // The examples on a board of three records modulo 7.
 fn run_on(out: &impl Print, board: &mut [u32; 16]) -> io::Result<()> {
-    board_calls::open(7, 3, 1, board);
+    let _ = board_calls::open(7, 3, 1, board);
     wrong_sheet(out, board)?;
     sheet(out, board)?;
     low_ends(out, board)?;

@@ -16,7 +16,7 @@ fn expect_repeat(board: &mut [u32], frame: &[u8], mix: &[u32], tally: &mut [u32;
     let mut words: [u32; WORDS] = filled(memory::WORD);
     let again = lent::front(&mut words, mix.len().min(66));
     let is_repeat = report::is_repeat(board_calls::take(board, frame, again), count);
-    let is_same = again == mix;
+    let is_same = &*again == mix;
     counts::count_if(tally, report::REPEATS, is_repeat && is_same);
 }
 
@@ -30,7 +30,7 @@ fn expect_row(board: &[u32], frame: &[u8], row: &[u32], tally: &mut [u32; 16]) {
     let mut more_words: [u32; WORDS] = filled(memory::WORD);
     let values = lent::front(&mut more_words, (s as usize).min(66));
     let is_so = frame_calls::read(p, n, s, frame, multipliers, values).is_ok();
-    let is_same = multipliers == row;
+    let is_same = &*multipliers == row;
     counts::count_if(tally, report::READS, is_so && is_same);
 }
 
