@@ -19,12 +19,13 @@ mod memory;
 mod report;
 
 use std::io;
+use test_support::counts::Tally;
 use test_support::input::Stored;
-use test_support::{counts, input, output};
+use test_support::{counts, output};
 
 fn main(rt: HostRuntime) -> io::Result<()> {
     let mut stored = Stored::new(rt.stdin());
-    let mut tally = counts::none();
+    let mut tally = Tally::new();
     calls::run(&mut stored, &mut tally);
     report::print_calls(&rt, &tally)?;
     examples::run(&rt)?;

@@ -2,6 +2,7 @@
 use board_calls::Taken;
 use checks::Refusal;
 use std::io;
+use test_support::counts::Tally;
 use test_support::output;
 use test_support::told::Told;
 
@@ -59,37 +60,25 @@ pub fn open_place(number: u32) -> usize {
 
 // The place of a take by the number of its answer.
 pub fn take_place(number: u32) -> usize {
-    if number == 0 {
-        return NEW;
+    match number {
+        0 => NEW,
+        100 => REPEAT,
+        9 => CONFLICT,
+        _ => REFUSED,
     }
-    if number == 100 {
-        return REPEAT;
-    }
-    if number == 9 {
-        return CONFLICT;
-    }
-    REFUSED
-}
-
-// A space and z in decimal, with a leading minus where it is below 0.
-fn print_signed(out: &impl Print, z: i32) -> io::Result<()> {
-    let mut text = [0u8; 16];
-    let end = codec::put_signed(&mut text, 0, z);
-    output::print_text(out, b" ")?;
-    output::print_text(out, &text[..end])
 }
 
 // The name and the signed numbers behind it.
 pub fn print_numbers(out: &impl Print, name: &[u8], numbers: &[i32]) -> io::Result<()> {
     output::print_text(out, name)?;
     for number in numbers {
-        print_signed(out, *number)?;
+        output::print_signed(out, *number)?;
     }
     Ok(())
 }
 
 // The lines of the takes.
-fn print_takes(out: &impl Print, tally: &[u32; 16]) -> io::Result<()> {
+fn print_takes(out: &impl Print, tally: &Tally) -> io::Result<()> {
     output::print_count(out, b"takes", tally, TAKES)?;
     output::print_count(out, b"new", tally, NEW)?;
     output::print_count(out, b"repeat", tally, REPEAT)?;
@@ -98,7 +87,7 @@ fn print_takes(out: &impl Print, tally: &[u32; 16]) -> io::Result<()> {
 }
 
 // The lines of the stored calls.
-pub fn print_calls(out: &impl Print, tally: &[u32; 16]) -> io::Result<()> {
+pub fn print_calls(out: &impl Print, tally: &Tally) -> io::Result<()> {
     output::print_count(out, b"histories", tally, HISTORIES)?;
     output::print_count(out, b"unopened", tally, UNOPENED)?;
     print_takes(out, tally)?;

@@ -1,5 +1,6 @@
 // What the run counts, the answers as numbers, and the lines of the stored calls.
 use std::io;
+use test_support::counts::Tally;
 use test_support::output;
 
 // The places of the counts.
@@ -21,28 +22,18 @@ pub const REFUSED_4: usize = 7;
 
 // The place of a call by the number of its answer.
 pub fn place_of(number: u32) -> usize {
-    if number == 1 {
-        return REFUSED_1;
+    match number {
+        1 => REFUSED_1,
+        2 => REFUSED_2,
+        12 => REFUSED_12,
+        3 => REFUSED_3,
+        4 => REFUSED_4,
+        200 => CLEAR,
+        _ => CLASHES,
     }
-    if number == 2 {
-        return REFUSED_2;
-    }
-    if number == 12 {
-        return REFUSED_12;
-    }
-    if number == 3 {
-        return REFUSED_3;
-    }
-    if number == 4 {
-        return REFUSED_4;
-    }
-    if number == 200 {
-        return CLEAR;
-    }
-    CLASHES
 }
 
-pub fn print_cases(out: &impl Print, tally: &[u32; 16]) -> io::Result<()> {
+pub fn print_cases(out: &impl Print, tally: &Tally) -> io::Result<()> {
     output::print_count(out, b"cases", tally, CASES)?;
     output::print_count(out, b"clashes", tally, CLASHES)?;
     output::print_count(out, b"clear", tally, CLEAR)?;

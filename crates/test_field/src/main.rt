@@ -13,44 +13,16 @@
 // - `readings N`, `residues N`, `refused N`, `mismatches N`: the stored cases by their answers, and how often one was not as expected.
 #![tactic(auto)]
 
-ghost use Rattle.std.specs.Prelude.{◌≡◌, ◌≤◌, ◌<◌, pos, neg_ℤ, nat_abs};
+ghost use Rattle.std.specs.Prelude.{◌≤◌, ◌<◌};
 
 mod cases;
 
 use checks::Refusal;
 use std::io;
+use test_support::counts;
+use test_support::counts::Tally;
 use test_support::input::Stored;
-use test_support::output::{print_count, print_end, print_number, print_text};
-use test_support::{counts, input};
-
-// The size of a record, |z|. It is taken in 64 bits, where the smallest i32 has a negation.
-fn magnitude(z: i32) -> u64
-    ensures { result ≡ nat_abs z }
-{
-    if z < 0 {
-        (-(z as i64)) as u64
-    } else {
-        z as u64
-    }
-}
-
-// The record -n.
-fn minus(n: u32) -> i32
-    requires { n ≤ 2147483647 }
-    ensures { result ≡ neg_ℤ (pos n) }
-{
-    -(n as i32)
-}
-
-// A space and z in decimal, with a leading minus where it is below 0.
-fn print_record(out: &impl Print, z: i32) -> io::Result<()> {
-    print_text(out, b" ")?;
-    if z < 0 {
-        print_text(out, b"-")?;
-    }
-    let size = magnitude(z);
-    print!(out; "{size}")
-}
+use test_support::output::{print_count, print_end, print_number, print_signed, print_text};
 
 fn print_refused(out: &impl Print, kind: Refusal) -> io::Result<()> {
     print_text(out, b" refused")?;
@@ -74,14 +46,14 @@ fn print_refusal(out: &impl Print, kind: Refusal) -> io::Result<()> {
     print_end(out)
 }
 
-fn print_signed(out: &impl Print, p: u32, v: u32) -> io::Result<()>
+fn print_reading(out: &impl Print, p: u32, v: u32) -> io::Result<()>
     requires { 0 < p }
 {
     print_text(out, b"signed")?;
     print_number(out, p)?;
     print_number(out, v)?;
     match signed::signed(p, signed::balanced_low(p), v) {
-        Ok(z) => print_record(out, z)?,
+        Ok(z) => print_signed(out, z)?,
         Err(kind) => print_refused(out, kind)?,
     }
     print_end(out)
@@ -92,7 +64,7 @@ fn print_residue(out: &impl Print, p: u32, z: i32) -> io::Result<()>
 {
     print_text(out, b"residue")?;
     print_number(out, p)?;
-    print_record(out, z)?;
+    print_signed(out, z)?;
     match signed::residue(p, signed::balanced_low(p), z) {
         Ok(v) => print_number(out, v)?,
         Err(kind) => print_refused(out, kind)?,
@@ -141,13 +113,13 @@ fn print_refusals(out: &impl Print) -> io::Result<()> {
 fn print_readings(out: &impl Print, p: u32) -> io::Result<()>
     requires { (2 ≤ p) × (p ≤ 2147483647) }
 {
-    print_signed(out, p, 0)?;
-    print_signed(out, p, p / 2)?;
+    print_reading(out, p, 0)?;
+    print_reading(out, p, p / 2)?;
     if p / 2 + 1 < p {
-        print_signed(out, p, p / 2 + 1)?;
+        print_reading(out, p, p / 2 + 1)?;
     }
-    print_signed(out, p, p - 1)?;
-    print_signed(out, p, p)
+    print_reading(out, p, p - 1)?;
+    print_reading(out, p, p)
 }
 
 // The ends of the range, -(p - 1)/2 and p/2, and the numbers one beyond them, which check 4 stops.
@@ -156,9 +128,9 @@ fn print_residues(out: &impl Print, p: u32) -> io::Result<()>
 {
     let low = (p - 1) / 2;
     let high = p / 2;
-    print_residue(out, p, minus(low))?;
+    print_residue(out, p, -(low as i32))?;
     print_residue(out, p, high as i32)?;
-    print_residue(out, p, minus(low + 1))?;
+    print_residue(out, p, -((low + 1) as i32))?;
     print_residue(out, p, (high + 1) as i32)
 }
 
@@ -179,16 +151,16 @@ fn print_old(out: &impl Print) -> io::Result<()> {
     print_both(out, 251)?;
     print_both(out, 65537)?;
     print_both(out, 2147483647)?;
-    print_signed(out, 4, 1)?;
+    print_reading(out, 4, 1)?;
     print_residue(out, 1, 0)?;
     // Check 1 comes before check 4.
-    print_signed(out, 4, 9)
+    print_reading(out, 4, 9)
 }
 
 fn main(rt: HostRuntime) -> io::Result<()> {
     print_old(&rt)?;
     let mut stored = Stored::new(rt.stdin());
-    let mut tally = counts::none();
+    let mut tally = Tally::new();
     cases::run(&mut stored, &mut tally);
     print_count(&rt, b"readings", &tally, cases::READINGS)?;
     print_count(&rt, b"residues", &tally, cases::RESIDUES)?;

@@ -2,25 +2,26 @@
 ghost use Rattle.std.specs.Prelude.{◌≤◌};
 
 use super::{memory, report};
+use test_support::counts::Tally;
 use test_support::input::Stored;
 use test_support::lent::BYTES;
 use test_support::told::Told;
-use test_support::{counts, input, lent, told};
+use test_support::{lent, told};
 use words::filled;
 
 // Counts the answer by the number that the input says, and hands that number on.
-pub fn expect_number(stored: &mut Stored, answer: Told, tally: &mut [u32; 16]) -> u32 {
-    let number = input::word(stored);
-    counts::count_if(tally, report::place(number), answer.number == number);
+pub fn expect_number(stored: &mut Stored, answer: Told, tally: &mut Tally) -> u32 {
+    let number = stored.word();
+    tally.count_if(report::place(number), answer.number == number);
     number
 }
 
 // Lent words are the next ones of the input where the call is done, and as they were where it is refused.
-pub fn expect_words(stored: &mut Stored, number: u32, words: &[u32], tally: &mut [u32; 16]) {
+pub fn expect_words(stored: &mut Stored, number: u32, words: &[u32], tally: &mut Tally) {
     if told::is_refused(number) {
-        counts::expect(tally, lent::are_untouched(words, memory::WORD));
+        tally.expect(lent::are_untouched(words, memory::WORD));
     } else {
-        counts::expect_words(stored, tally, words);
+        tally.expect_words(stored, words);
     }
 }
 
@@ -38,10 +39,10 @@ fn length_of(number: u32) -> usize
 }
 
 // Lent bytes begin with the next ones of the input, as many as the number tells, and behind them are as they were.
-pub fn expect_frame(stored: &mut Stored, number: u32, bytes: &[u8], tally: &mut [u32; 16]) {
+pub fn expect_frame(stored: &mut Stored, number: u32, bytes: &[u8], tally: &mut Tally) {
     let length = length_of(number);
     let mut space: [u8; BYTES] = filled(0);
     let frame = lent::front(&mut space, length);
-    input::read_bytes(stored, frame);
-    counts::expect(tally, memory::is_only_front(frame, bytes));
+    stored.read_bytes(frame);
+    tally.expect(memory::is_only_front(frame, bytes));
 }

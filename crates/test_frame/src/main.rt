@@ -21,25 +21,32 @@ mod report;
 mod seals;
 mod writes;
 
-use cases::Call;
 use std::io;
+use test_support::counts::Tally;
 use test_support::input::Stored;
-use test_support::{counts, input, output};
+use test_support::{counts, output};
 
 // The cases of a call that stand behind those of reading.
-fn print_calls(out: &impl Print, stored: &mut Stored, call: Call, done: &[u8]) -> io::Result<()> {
-    let mut tally = counts::none();
-    cases::run(stored, call, &mut tally);
+fn print_calls<F: Fn(&mut Stored, u32, u32, u32, &mut Tally)>(
+    out: &impl Print,
+    stored: &mut Stored,
+    compare: &F,
+    done: &[u8],
+) -> io::Result<()>
+    requires { F.IsAlwaysCallable compare.now }
+{
+    let mut tally = Tally::new();
+    cases::run(stored, compare, &mut tally);
     report::print_calls(out, done, &tally)
 }
 
 fn main(rt: HostRuntime) -> io::Result<()> {
     let mut stored = Stored::new(rt.stdin());
-    let mut tally = counts::none();
-    cases::run(&mut stored, Call::Read, &mut tally);
+    let mut tally = Tally::new();
+    cases::run(&mut stored, &reads::compare, &mut tally);
     report::print_cases(&rt, &tally)?;
-    print_calls(&rt, &mut stored, Call::Seal, b"sealed")?;
-    print_calls(&rt, &mut stored, Call::Write, b"written")?;
+    print_calls(&rt, &mut stored, &seals::compare, b"sealed")?;
+    print_calls(&rt, &mut stored, &writes::compare, b"written")?;
     examples::run(&rt)?;
     output::print_count(&rt, b"mismatches", &tally, counts::MISMATCHES)
 }

@@ -1,9 +1,10 @@
 // The stored cases of sealing: each is compared with what its case says.
 use super::{expected, memory, report};
+use test_support::counts::Tally;
 use test_support::input::Stored;
+use test_support::lent;
 use test_support::lent::{NUMBERS, WORDS};
 use test_support::told::Told;
-use test_support::{input, lent};
 use words::filled;
 
 // One case from its values on, for which there are so many lent words as the input says.
@@ -15,9 +16,9 @@ fn compare_lent(
     low: u32,
     records: &[i32],
     multipliers: &[u32],
-    tally: &mut [u32; 16],
+    tally: &mut Tally,
 ) {
-    let space = input::length(stored, 66);
+    let space = stored.length(66);
     let mut words: [u32; WORDS] = filled(memory::WORD);
     let values = lent::front(&mut words, space);
     let answer = Told::from(frame_calls::seal(p, n, s, low, records, multipliers, values));
@@ -26,15 +27,15 @@ fn compare_lent(
 }
 
 // One case behind its sizes, with room for its records and multipliers.
-pub fn compare(stored: &mut Stored, p: u32, n: u32, s: u32, tally: &mut [u32; 16]) {
-    let low = input::word(stored);
-    let count = input::length(stored, 1026);
+pub fn compare(stored: &mut Stored, p: u32, n: u32, s: u32, tally: &mut Tally) {
+    let low = stored.word();
+    let count = stored.length(1026);
     let mut signed: [i32; NUMBERS] = filled(0);
     let records = lent::front(&mut signed, count);
-    input::read_numbers(stored, records);
-    let room = input::length(stored, 66);
+    stored.read(records);
+    let room = stored.length(66);
     let mut words: [u32; WORDS] = filled(0);
     let multipliers = lent::front(&mut words, room);
-    input::read_words(stored, multipliers);
+    stored.read(multipliers);
     compare_lent(stored, p, n, s, low, records, multipliers, tally);
 }

@@ -1,50 +1,41 @@
 // The stored cases: the tables of one list, then the pairs of the other.
 ghost use Rattle.std.specs.Prelude.{◌≤◌};
 
-use super::{calls, pairs};
+use test_support::counts::Tally;
 use test_support::input::Stored;
-use test_support::{counts, input};
 
-// What a list has behind the sizes: a table with all that the calls give for it, or a table with D for check.
-#[derive(Clone, Copy)]
-pub enum Kind {
-    Table,
-    Pair,
-}
-
-// One case behind its sizes.
-fn compare(stored: &mut Stored, kind: Kind, p: u32, m: u32, n: u32, tally: &mut [u32; 16])
-    requires { (m ≤ 64) × (n ≤ 64) }
+// The next case of the list, which `compare` reads behind its sizes; and whether there was one. A table of more rows or columns than
+// there is room for is none of the script's.
+fn next<F: Fn(&mut Stored, u32, u32, u32, &mut Tally)>(
+    stored: &mut Stored,
+    compare: &F,
+    tally: &mut Tally,
+) -> bool
+    requires { (stored : _) (p m n : _) (tally : _) → m ≤ 64 → n ≤ 64 → F.pre compare.now stored p m n tally }
 {
-    match kind {
-        Kind::Table => calls::compare(stored, p, m, n, tally),
-        Kind::Pair => pairs::compare(stored, p, m, n, tally),
-    }
-}
-
-// The next case of the list, and whether there was one. A table of more rows or columns than there is room for is none of the
-// script's.
-fn next(stored: &mut Stored, kind: Kind, tally: &mut [u32; 16]) -> bool {
-    let p = input::word(stored);
+    let p = stored.word();
     if p == 0 {
         return false;
     }
-    let m = input::word(stored);
-    let n = input::word(stored);
-    if 64 < m {
-        return counts::stop(tally);
+    let m = stored.word();
+    let n = stored.word();
+    if 64 < m || 64 < n {
+        return tally.stop();
     }
-    if 64 < n {
-        return counts::stop(tally);
-    }
-    compare(stored, kind, p, m, n, tally);
+    compare(stored, p, m, n, tally);
     true
 }
 
 // All cases of the list, of which there are at most 100,000.
-pub fn run(stored: &mut Stored, kind: Kind, tally: &mut [u32; 16]) {
+pub fn run<F: Fn(&mut Stored, u32, u32, u32, &mut Tally)>(
+    stored: &mut Stored,
+    compare: &F,
+    tally: &mut Tally,
+)
+    requires { (stored : _) (p m n : _) (tally : _) → m ≤ 64 → n ≤ 64 → F.pre compare.now stored p m n tally }
+{
     for _ in 0..100000 {
-        if !next(stored, kind, tally) {
+        if !next(stored, compare, tally) {
             return;
         }
     }

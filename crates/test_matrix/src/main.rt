@@ -21,16 +21,16 @@ mod memory;
 mod pairs;
 mod report;
 
-use cases::Kind;
 use std::io;
+use test_support::counts::Tally;
 use test_support::input::Stored;
-use test_support::{counts, input, output};
+use test_support::{counts, output};
 
 fn main(rt: HostRuntime) -> io::Result<()> {
     let mut stored = Stored::new(rt.stdin());
-    let mut tally = counts::none();
-    cases::run(&mut stored, Kind::Table, &mut tally);
-    cases::run(&mut stored, Kind::Pair, &mut tally);
+    let mut tally = Tally::new();
+    cases::run(&mut stored, &calls::compare, &mut tally);
+    cases::run(&mut stored, &pairs::compare, &mut tally);
     report::print_cases(&rt, &tally)?;
     examples::run(&rt)?;
     check_examples::run(&rt)?;

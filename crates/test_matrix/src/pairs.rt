@@ -2,41 +2,42 @@
 ghost use Rattle.std.specs.Prelude.{◌≤◌};
 
 use super::{memory, report};
+use test_support::counts::Tally;
 use test_support::input::Stored;
+use test_support::lent;
 use test_support::told::Told;
-use test_support::{counts, input, lent};
 use words::filled;
 
 // The next D of the table, with its answer.
-fn compare_next(stored: &mut Stored, p: u32, m: u32, n: u32, a: &[u32], tally: &mut [u32; 16])
+fn compare_next(stored: &mut Stored, p: u32, m: u32, n: u32, a: &[u32], tally: &mut Tally)
     requires { (m ≤ 64) × (n ≤ 64) }
 {
     let size = memory::size(n, m);
     let mut table: [u32; memory::TABLE] = filled(0);
     let d = lent::front(&mut table, size);
-    input::read_words(stored, d);
+    stored.read(d);
     let number = Told::from(matrix_calls::check(p, m, n, a, d)).number;
-    let is_answer = number == input::word(stored);
-    counts::count_if(tally, report::check_place(number), is_answer);
+    let is_answer = number == stored.word();
+    tally.count_if(report::check_place(number), is_answer);
 }
 
 // All D of the table, of which there are so many as the input says, at most 1,000.
-fn compare_all(stored: &mut Stored, p: u32, m: u32, n: u32, a: &[u32], tally: &mut [u32; 16])
+fn compare_all(stored: &mut Stored, p: u32, m: u32, n: u32, a: &[u32], tally: &mut Tally)
     requires { (m ≤ 64) × (n ≤ 64) }
 {
-    let count = input::length(stored, 1000);
+    let count = stored.length(1000);
     for _ in 0..count {
         compare_next(stored, p, m, n, a, tally);
     }
 }
 
 // A table with its D, which come from the input behind the sizes.
-pub fn compare(stored: &mut Stored, p: u32, m: u32, n: u32, tally: &mut [u32; 16])
+pub fn compare(stored: &mut Stored, p: u32, m: u32, n: u32, tally: &mut Tally)
     requires { (m ≤ 64) × (n ≤ 64) }
 {
     let size = memory::size(m, n);
     let mut table: [u32; memory::TABLE] = filled(0);
     let a = lent::front(&mut table, size);
-    input::read_words(stored, a);
+    stored.read(a);
     compare_all(stored, p, m, n, a, tally);
 }

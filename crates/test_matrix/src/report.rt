@@ -1,5 +1,6 @@
 // What the run counts, the answers as numbers, and the lines of the stored cases.
 use std::io;
+use test_support::counts::Tally;
 use test_support::output;
 
 // The places of the counts.
@@ -30,16 +31,14 @@ pub fn solve_place(number: u32) -> usize {
 
 // The place of a check by the number of its answer.
 pub fn check_place(number: u32) -> usize {
-    if number == 17 {
-        return NOT_INNER;
+    match number {
+        17 => NOT_INNER,
+        18 => NOT_OUTER,
+        _ => ACCEPTED,
     }
-    if number == 18 {
-        return NOT_OUTER;
-    }
-    ACCEPTED
 }
 
-pub fn print_cases(out: &impl Print, tally: &[u32; 16]) -> io::Result<()> {
+pub fn print_cases(out: &impl Print, tally: &Tally) -> io::Result<()> {
     output::print_count(out, b"cases", tally, CASES)?;
     output::print_count(out, b"quasiinverses", tally, QUASIINVERSES)?;
     output::print_count(out, b"kernels", tally, KERNELS)?;

@@ -21,12 +21,13 @@ mod memory;
 mod report;
 
 use std::io;
+use test_support::counts::Tally;
 use test_support::input::Stored;
-use test_support::{counts, input, output};
+use test_support::{counts, output};
 
 fn main(rt: HostRuntime) -> io::Result<()> {
     let mut stored = Stored::new(rt.stdin());
-    let mut tally = counts::none();
+    let mut tally = Tally::new();
     cases::run(&mut stored, &mut tally);
     report::print_cases(&rt, &tally)?;
     examples::run(&rt)?;

@@ -2,6 +2,7 @@
 use board_calls::Taken;
 use checks::Refusal;
 use std::io;
+use test_support::counts::Tally;
 use test_support::output;
 
 // The places of the counts.
@@ -38,22 +39,16 @@ pub fn is_repeat(answer: Result<Taken, Refusal>, count: u32) -> bool {
 
 // The place of a call by the number of its answer.
 pub fn place_of(number: u32) -> usize {
-    if number == 11 {
-        return REFUSED_11;
+    match number {
+        11 => REFUSED_11,
+        3 => REFUSED_3,
+        4 => REFUSED_4,
+        15 => REFUSED_15,
+        _ => DONE,
     }
-    if number == 3 {
-        return REFUSED_3;
-    }
-    if number == 4 {
-        return REFUSED_4;
-    }
-    if number == 15 {
-        return REFUSED_15;
-    }
-    DONE
 }
 
-pub fn print_cases(out: &impl Print, tally: &[u32; 16]) -> io::Result<()> {
+pub fn print_cases(out: &impl Print, tally: &Tally) -> io::Result<()> {
     output::print_count(out, b"boards", tally, BOARDS)?;
     output::print_count(out, b"calls", tally, CALLS)?;
     output::print_count(out, b"done", tally, DONE)?;

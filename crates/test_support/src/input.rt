@@ -15,80 +15,79 @@ impl Stored {
     pub fn new(input: Stdin) -> Self {
         Stored { input }
     }
-}
 
-// The number in the next four bytes.
-pub fn word(stored: &mut Stored) -> u32 {
-    let mut bytes = [0u8; 4];
-    read_bytes(stored, &mut bytes);
-    u32::from_be_bytes(bytes)
-}
+    // The number in the next four bytes.
+    pub fn word(&mut self) -> u32 {
+        let mut bytes = [0u8; 4];
+        self.read_bytes(&mut bytes);
+        u32::from_be_bytes(bytes)
+    }
 
-// The signed number in the next four bytes.
-pub fn number(stored: &mut Stored) -> i32 {
-    word(stored).cast_signed()
-}
+    // The signed number in the next four bytes.
+    pub fn number(&mut self) -> i32 {
+        self.word().cast_signed()
+    }
 
-// The next word as a length. The scripts have none above `most`; were there one, all that follows would be read out of step,
-// and the mismatches would show it.
-pub fn length(stored: &mut Stored, most: usize) -> usize
-    ensures { result ≤ most }
-{
-    (word(stored) as usize).min(most)
-}
+    // The next word as a length. The scripts have none above `most`; were there one, all that follows would be read out of step,
+    // and the mismatches would show it.
+    pub fn length(&mut self, most: usize) -> usize
+        ensures { result ≤ most }
+    {
+        (self.word() as usize).min(most)
+    }
 
-// The bytes become the next ones of the input.
-pub fn read_bytes(stored: &mut Stored, bytes: &mut [u8]) {
-    let mut came = 0;
-    while came < bytes.len() {
-        let size = stored.input.read(&mut bytes[came..]).unwrap_or(0);
-        if size == 0 {
-            break;
+    // The bytes become the next ones of the input.
+    pub fn read_bytes(&mut self, bytes: &mut [u8]) {
+        let mut came = 0;
+        while came < bytes.len() {
+            let size = self.input.read(&mut bytes[came..]).unwrap_or(0);
+            if size == 0 {
+                break;
+            }
+            came += size;
         }
-        came += size;
+        bytes[came..].fill(0);
     }
-    bytes[came..].fill(0);
-}
 
-// The same where the input has a word for each byte.
-pub fn read_wide_bytes(stored: &mut Stored, bytes: &mut [u8]) {
-    for byte in bytes.iter_mut() {
-        *byte = (word(stored) % 256) as u8;
-    }
-}
-
-// The words become the next ones of the input.
-pub fn read_words(stored: &mut Stored, words: &mut [u32]) {
-    for x in words.iter_mut() {
-        *x = word(stored);
-    }
-}
-
-// The same of signed numbers.
-pub fn read_numbers(stored: &mut Stored, numbers: &mut [i32]) {
-    for z in numbers.iter_mut() {
-        *z = number(stored);
-    }
-}
-
-// Whether the words are the next ones of the input, all of which are read.
-pub fn are_next_words(stored: &mut Stored, words: &[u32]) -> bool {
-    let mut is_same = true;
-    for x in words {
-        if word(stored) != *x {
-            is_same = false;
+    // The same where the input has a word for each byte.
+    pub fn read_wide_bytes(&mut self, bytes: &mut [u8]) {
+        for byte in bytes.iter_mut() {
+            *byte = (self.word() % 256) as u8;
         }
     }
-    is_same
-}
 
-// The same of signed numbers.
-pub fn are_next_numbers(stored: &mut Stored, numbers: &[i32]) -> bool {
-    let mut is_same = true;
-    for z in numbers {
-        if number(stored) != *z {
-            is_same = false;
+    // The words or numbers become the next ones of the input.
+    pub fn read<T: Next>(&mut self, xs: &mut [T]) {
+        for x in xs.iter_mut() {
+            *x = T::next(self);
         }
     }
-    is_same
+
+    // Whether the words or numbers are the next ones of the input, all of which are read.
+    pub fn are_next<T: Next>(&mut self, xs: &[T]) -> bool {
+        let mut is_same = true;
+        for x in xs {
+            if T::next(self) != *x {
+                is_same = false;
+            }
+        }
+        is_same
+    }
+}
+
+// What stands in four bytes of the input: a word, or a signed number.
+pub trait Next: Copy + PartialEq {
+    fn next(stored: &mut Stored) -> Self;
+}
+
+impl Next for u32 {
+    fn next(stored: &mut Stored) -> u32 {
+        stored.word()
+    }
+}
+
+impl Next for i32 {
+    fn next(stored: &mut Stored) -> i32 {
+        stored.number()
+    }
 }

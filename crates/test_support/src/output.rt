@@ -1,6 +1,7 @@
 // The lines of a run, written to standard output.
 ghost use Rattle.std.specs.Prelude.{◌<◌};
 
+use super::counts::Tally;
 use super::{lent, told};
 use std::io;
 
@@ -11,6 +12,11 @@ pub fn print_text(out: &impl Print, text: &[u8]) -> io::Result<()> {
 // A space and n in decimal.
 pub fn print_number(out: &impl Print, n: u32) -> io::Result<()> {
     print!(out; " {n}")
+}
+
+// A space and z in decimal, with a leading minus where it is below 0.
+pub fn print_signed(out: &impl Print, z: i32) -> io::Result<()> {
+    print!(out; " {z}")
 }
 
 // The name and the words behind it.
@@ -28,11 +34,11 @@ pub fn print_end(out: &impl Print) -> io::Result<()> {
 }
 
 // The line of a count.
-pub fn print_count(out: &impl Print, name: &[u8], tally: &[u32; 16], place: usize) -> io::Result<()>
+pub fn print_count(out: &impl Print, name: &[u8], tally: &Tally, place: usize) -> io::Result<()>
     requires { place < 16 }
 {
     print_text(out, name)?;
-    print_number(out, tally[place])?;
+    print_number(out, tally.at(place))?;
     print_end(out)
 }
 
