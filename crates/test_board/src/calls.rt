@@ -1,7 +1,9 @@
 // The stored lists of calls. Each call finds the board as the last one left it and is lent what the file gives, and its
 // answer, the lent memory and the board are compared with what the file says.
 use super::{memory, report};
+use board_calls::Taken;
 use board_words::layout::LARGEST_BOARD;
+use checks::Refusal;
 use test_support::counts::Tally;
 use test_support::input::Stored;
 use test_support::lent::{BYTES, NUMBERS, WORDS};
@@ -10,13 +12,14 @@ use test_support::{lent, told};
 use words::filled;
 
 // Counts a take by its answer, which the file says next: the number, and the count, which new and repeat carry.
-fn expect_take(stored: &mut Stored, answer: Told, tally: &mut Tally) {
+fn expect_take(stored: &mut Stored, answer: Result<Taken, Refusal>, tally: &mut Tally) {
+    let told = report::take_told(answer);
     let number = stored.word();
     let count = stored.word();
     tally.count(report::TAKES);
-    tally.count_if(report::take_place(number), answer.number == number);
+    tally.count_if(report::take_place(answer), told.number == number);
     if !told::is_refused(number) {
-        tally.expect(answer.value == count);
+        tally.expect(told.value == count);
     }
 }
 
@@ -26,7 +29,7 @@ fn take_frame(stored: &mut Stored, board: &mut [u32], frame: &[u8], tally: &mut 
     let mut words: [u32; WORDS] = filled(memory::WORD);
     let mix = lent::front(&mut words, room);
     stored.read(mix);
-    let answer = report::take_told(board_calls::take(board, frame, mix));
+    let answer = board_calls::take(board, frame, mix);
     expect_take(stored, answer, tally);
     tally.expect_words(stored, mix);
     tally.expect_words(stored, board);
@@ -102,9 +105,12 @@ fn play_calls(stored: &mut Stored, board: &mut [u32], tally: &mut Tally) {
 }
 
 // Counts an open by its answer, which the file says next.
-fn expect_open(stored: &mut Stored, answer: Told, tally: &mut Tally) {
+fn expect_open(stored: &mut Stored, answer: Result<(), Refusal>, tally: &mut Tally) {
     let number = stored.word();
-    tally.count_if(report::open_place(number), answer.number == number);
+    tally.count_if(
+        report::open_place(answer),
+        report::open_told(answer).number == number,
+    );
 }
 
 // A history behind open's p, n and s, with so many words for its board as the file says. Calls follow a refused open as well.
@@ -112,7 +118,7 @@ fn play(stored: &mut Stored, p: u32, n: u32, s: u32, tally: &mut Tally) {
     let length = stored.length(LARGEST_BOARD);
     let mut words: [u32; LARGEST_BOARD] = filled(memory::WORD);
     let board = lent::front(&mut words, length);
-    let answer = report::open_told(board_calls::open(p, n, s, board));
+    let answer = board_calls::open(p, n, s, board);
     expect_open(stored, answer, tally);
     tally.expect_words(stored, board);
     play_calls(stored, board, tally);

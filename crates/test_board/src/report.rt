@@ -53,18 +53,21 @@ pub fn take_told(answer: Result<Taken, Refusal>) -> Told {
     }
 }
 
-// The place of an open by the number of its answer.
-pub fn open_place(number: u32) -> usize {
-    if number == 0 { HISTORIES } else { UNOPENED }
+// The place of an open by its answer.
+pub fn open_place(answer: Result<(), Refusal>) -> usize {
+    match answer {
+        Ok(()) => HISTORIES,
+        Err(_) => UNOPENED,
+    }
 }
 
-// The place of a take by the number of its answer.
-pub fn take_place(number: u32) -> usize {
-    match number {
-        0 => NEW,
-        100 => REPEAT,
-        9 => CONFLICT,
-        _ => REFUSED,
+// The place of a take by its answer.
+pub fn take_place(answer: Result<Taken, Refusal>) -> usize {
+    match answer {
+        Ok(Taken::New(_)) => NEW,
+        Ok(Taken::Repeat(_)) => REPEAT,
+        Err(Refusal::Conflict) => CONFLICT,
+        Err(_) => REFUSED,
     }
 }
 
@@ -72,7 +75,7 @@ pub fn take_place(number: u32) -> usize {
 pub fn print_numbers(out: &impl Print, name: &[u8], numbers: &[i32]) -> io::Result<()> {
     output::print_text(out, name)?;
     for number in numbers {
-        output::print_signed(out, *number)?;
+        output::print_number(out, *number)?;
     }
     Ok(())
 }

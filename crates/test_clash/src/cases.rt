@@ -21,9 +21,9 @@ fn compare_marks(
     let mut words: [u32; WORDS] = filled(0);
     let marks = lent::front(&mut words, room);
     stored.read(marks);
-    let number = Told::from(clash_calls::clash(p, m, n, s, log, marks)).number;
-    let expected = stored.word();
-    tally.count_if(report::place_of(expected), number == expected);
+    let answer = clash_calls::clash(p, m, n, s, log, marks);
+    let is_answer = Told::from(answer).number == stored.word();
+    tally.count_if(report::place_of(answer), is_answer);
     tally.expect_words(stored, marks);
 }
 

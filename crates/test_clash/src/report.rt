@@ -1,4 +1,5 @@
 // What the run counts, the answers as numbers, and the lines of the stored calls.
+use checks::Refusal;
 use std::io;
 use test_support::counts::Tally;
 use test_support::output;
@@ -20,15 +21,15 @@ pub const REFUSED_3: usize = 6;
 
 pub const REFUSED_4: usize = 7;
 
-// The place of a call by the number of its answer.
-pub fn place_of(number: u32) -> usize {
-    match number {
-        1 => REFUSED_1,
-        2 => REFUSED_2,
-        12 => REFUSED_12,
-        3 => REFUSED_3,
-        4 => REFUSED_4,
-        200 => CLEAR,
+// The place of a call by its answer.
+pub fn place_of(answer: Result<u32, Refusal>) -> usize {
+    match answer {
+        Err(Refusal::Modulus) => REFUSED_1,
+        Err(Refusal::Size) => REFUSED_2,
+        Err(Refusal::Words) => REFUSED_12,
+        Err(Refusal::Length) => REFUSED_3,
+        Err(Refusal::Number) => REFUSED_4,
+        Ok(0) => CLEAR,
         _ => CLASHES,
     }
 }

@@ -22,7 +22,7 @@ use std::io;
 use test_support::counts;
 use test_support::counts::Tally;
 use test_support::input::Stored;
-use test_support::output::{print_count, print_end, print_number, print_signed, print_text};
+use test_support::output::{print_count, print_end, print_number, print_text};
 
 fn print_refused(out: &impl Print, kind: Refusal) -> io::Result<()> {
     print_text(out, b" refused")?;
@@ -53,7 +53,7 @@ fn print_reading(out: &impl Print, p: u32, v: u32) -> io::Result<()>
     print_number(out, p)?;
     print_number(out, v)?;
     match signed::signed(p, signed::balanced_low(p), v) {
-        Ok(z) => print_signed(out, z)?,
+        Ok(z) => print_number(out, z)?,
         Err(kind) => print_refused(out, kind)?,
     }
     print_end(out)
@@ -64,7 +64,7 @@ fn print_residue(out: &impl Print, p: u32, z: i32) -> io::Result<()>
 {
     print_text(out, b"residue")?;
     print_number(out, p)?;
-    print_signed(out, z)?;
+    print_number(out, z)?;
     match signed::residue(p, signed::balanced_low(p), z) {
         Ok(v) => print_number(out, v)?,
         Err(kind) => print_refused(out, kind)?,

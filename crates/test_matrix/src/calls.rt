@@ -60,9 +60,9 @@ fn solve_side(stored: &mut Stored, p: u32, m: u32, n: u32, a: &[u32], w: &[u32],
     let mut nines: [u32; WORDS] = filled(9);
     let z = lent::front(&mut sevens, n as usize);
     let u = lent::front(&mut nines, m as usize);
-    let number = Told::from(matrix_calls::solve(p, m, n, a, w, z, u)).number;
-    let is_answer = number == stored.word();
-    tally.count_if(report::solve_place(number), is_answer);
+    let answer = matrix_calls::solve(p, m, n, a, w, z, u);
+    let is_answer = Told::from(answer).number == stored.word();
+    tally.count_if(report::solve_place(answer), is_answer);
     tally.expect_words(stored, z);
     tally.expect_words(stored, u);
 }

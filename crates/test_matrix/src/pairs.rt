@@ -16,9 +16,9 @@ fn compare_next(stored: &mut Stored, p: u32, m: u32, n: u32, a: &[u32], tally: &
     let mut table: [u32; memory::TABLE] = filled(0);
     let d = lent::front(&mut table, size);
     stored.read(d);
-    let number = Told::from(matrix_calls::check(p, m, n, a, d)).number;
-    let is_answer = number == stored.word();
-    tally.count_if(report::check_place(number), is_answer);
+    let answer = matrix_calls::check(p, m, n, a, d);
+    let is_answer = Told::from(answer).number == stored.word();
+    tally.count_if(report::check_place(answer), is_answer);
 }
 
 // All D of the table, of which there are so many as the input says, at most 1,000.

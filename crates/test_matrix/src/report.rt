@@ -1,4 +1,5 @@
 // What the run counts, the answers as numbers, and the lines of the stored cases.
+use checks::Refusal;
 use std::io;
 use test_support::counts::Tally;
 use test_support::output;
@@ -24,16 +25,19 @@ pub const NOT_INNER: usize = 8;
 
 pub const NOT_OUTER: usize = 9;
 
-// The place of a system by the number of its answer.
-pub fn solve_place(number: u32) -> usize {
-    if number == 5 { INSOLUBLE } else { SOLVED }
+// The place of a system by its answer.
+pub fn solve_place(answer: Result<u32, Refusal>) -> usize {
+    match answer {
+        Err(Refusal::Insoluble) => INSOLUBLE,
+        _ => SOLVED,
+    }
 }
 
-// The place of a check by the number of its answer.
-pub fn check_place(number: u32) -> usize {
-    match number {
-        17 => NOT_INNER,
-        18 => NOT_OUTER,
+// The place of a check by its answer.
+pub fn check_place(answer: Result<u32, Refusal>) -> usize {
+    match answer {
+        Err(Refusal::NotInner) => NOT_INNER,
+        Err(Refusal::NotOuter) => NOT_OUTER,
         _ => ACCEPTED,
     }
 }

@@ -38,10 +38,11 @@ fn compare_bytes(
     let mut space: [u8; BYTES] = filled(0);
     let bytes = lent::front(&mut space, room);
     memory::fill(bytes, first);
-    let number = Told::from(relay_calls::relay(board, wanted, mix, bytes)).number;
+    let answer = relay_calls::relay(board, wanted, mix, bytes);
     let expected = stored.word();
     let k = report::length_of(expected);
-    tally.count_if(report::place_of(expected), number == expected);
+    let is_answer = Told::from(answer).number == expected;
+    tally.count_if(report::place_of(answer), is_answer);
     tally.expect_words(stored, mix);
     expect_bytes(stored, bytes, first, k, tally);
     if !told::is_refused(expected) {

@@ -37,13 +37,13 @@ pub fn is_repeat(answer: Result<Taken, Refusal>, count: u32) -> bool {
     answer == Ok(Taken::Repeat(count))
 }
 
-// The place of a call by the number of its answer.
-pub fn place_of(number: u32) -> usize {
-    match number {
-        11 => REFUSED_11,
-        3 => REFUSED_3,
-        4 => REFUSED_4,
-        15 => REFUSED_15,
+// The place of a call by its answer.
+pub fn place_of(answer: Result<u32, Refusal>) -> usize {
+    match answer {
+        Err(Refusal::NotBoard) => REFUSED_11,
+        Err(Refusal::Length) => REFUSED_3,
+        Err(Refusal::Number) => REFUSED_4,
+        Err(Refusal::NotInSpan) => REFUSED_15,
         _ => DONE,
     }
 }

@@ -9,11 +9,6 @@ use test_support::output::{print_end, print_number, print_text};
 // 2^64 - 1, a place that no table has.
 const FARTHEST: usize = 18446744073709551615;
 
-// A space and n in decimal.
-fn print_size(out: &impl Print, n: usize) -> io::Result<()> {
-    print!(out; " {n}")
-}
-
 // The sum of the products of the first k numbers of `row` and those of the table at start, start + step, ..
 fn sum_of(p: u32, row: &[u32], k: usize, table: &[u32], start: usize, step: usize) -> u32
     requires { (0 < p) × (k ≤ length row.now) × Reaches k start step (length table.now) }
@@ -35,9 +30,9 @@ pub fn print_sum(
 {
     print_text(out, name)?;
     print_number(out, p)?;
-    print_size(out, k)?;
-    print_size(out, start)?;
-    print_size(out, step)?;
+    print_number(out, k)?;
+    print_number(out, start)?;
+    print_number(out, step)?;
     print_number(out, sum_of(p, numbers, k, numbers, start, step))?;
     print_end(out)
 }

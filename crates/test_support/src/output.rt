@@ -3,20 +3,16 @@ ghost use Rattle.std.specs.Prelude.{◌<◌};
 
 use super::counts::Tally;
 use super::{lent, told};
+use std::fmt::Display;
 use std::io;
 
 pub fn print_text(out: &impl Print, text: &[u8]) -> io::Result<()> {
     out.write_all(text)
 }
 
-// A space and n in decimal.
-pub fn print_number(out: &impl Print, n: u32) -> io::Result<()> {
-    print!(out; " {n}")
-}
-
-// A space and z in decimal, with a leading minus where it is below 0.
-pub fn print_signed(out: &impl Print, z: i32) -> io::Result<()> {
-    print!(out; " {z}")
+// A space and the number in decimal, with a leading minus where it is below 0.
+pub fn print_number<T: Display + Drop>(out: &impl Print, number: T) -> io::Result<()> {
+    print!(out; " {number}")
 }
 
 // The name and the words behind it.
