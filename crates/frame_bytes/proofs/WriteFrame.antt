@@ -50,13 +50,13 @@ module _
     numbers_short : w * length xs ≤ 256
     numbers_short = few_bytes w (length xs) few (omega arith)
 
-    pub filled : map_length n + w * length xs ≤ length with_map
+    pub numbers_room : map_length n + w * length xs ≤ length with_map
     unfolding longest
-    filled = omega (arith, map_long, map_short n size, numbers_short)
+    numbers_room = omega (arith, map_long, map_short n size, numbers_short)
 
     numbers_long : length with_numbers ≡ longest (length vs)
     numbers_long =
-        placed_length (map_length n) (packed w xs) with_map (omega (arith, packed_short w xs, filled)) ∙ map_long
+        placed_length (map_length n) (packed w xs) with_map (omega (arith, packed_short w xs, numbers_room)) ∙ map_long
 
     -- the steps put the frame at once
     front : with_numbers ≡ placed 0 (map_bytes n (stands xs) ++ packed w xs) old

@@ -8,7 +8,7 @@ use Rattle.frame.specs.Format.{map_length, longest, stands, map_bytes, packed, f
 use Rattle.frame.specs.Bitmap.{standing, map_of, map_bits}
 use Rattle.frame.proofs.Widths.{width_small, few_bytes}
 use Rattle.frame.proofs.BitMaps.{standing_small}
-use Rattle.frame_bytes.proofs.WriteFrame.{map_front, filled, values_room, frame_written, frame_end}
+use Rattle.frame_bytes.proofs.WriteFrame.{map_front, numbers_room, values_room, frame_written, frame_end}
 use Rattle.frame_bytes.proofs.writer.write_frame.Goals as goal
 use Rattle.frame_bytes.proofs.writer.write_frame.Goals.{After-put, After-put_multipliers, After-standing}
 
@@ -55,7 +55,7 @@ put_multipliers-requires c =
     let a = c.args in (
       omega arith,
       c.of-map.ensures,
-      rw (mapped (goal.at.put_multipliers-requires c).After-put) (filled _ a.n a.multipliers.now a.values.now (narrow (goal.at.put_multipliers-requires c).After-standing) c.requires.1 c.requires.2 a.bytes.now c.requires.4),
+      rw (mapped (goal.at.put_multipliers-requires c).After-put) (numbers_room _ a.n a.multipliers.now a.values.now (narrow (goal.at.put_multipliers-requires c).After-standing) c.requires.1 c.requires.2 a.bytes.now c.requires.4),
     )
 
 pub put_values-requires : goal.put_values-requires
