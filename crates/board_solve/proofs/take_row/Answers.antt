@@ -27,19 +27,16 @@ none c = subst (Combination _ _ _) (not-true _ c.if-not-find.true-raw) c.find.en
 
 pub append-requires : goal.append-requires
 append-requires c =
-    let b = board (goal.at.append-requires c).Start in
+    let at = goal.at.append-requires c in
+    let row = c.requires.findable.row in
     let e = c.of-header.ensures in
-    rw (e.records, e.words, e.rows) (
-      c.requires.findable.row.long,
-      c.requires.values_long,
-      row_fits _ _ b c.requires.findable.row _ (none (goal.at.append-requires c).Then-not-find),
-    )
+    rw (e.records, e.words, e.rows) (row.long, c.requires.values_long, row_fits _ _ (board at.Start) row _ (none at.Then-not-find))
 
 pub returns-then-not-find : goal.returns-then-not-find
 returns-then-not-find c =
+    let at = goal.at.returns-then-not-find c in
     let e = c.of-header.ensures in
-    new_outcome _ _ (board (goal.at.returns-then-not-find c).Start) c.requires.findable.row _
-    (none (goal.at.returns-then-not-find c).Then-not-find) c.args.v.now c.args.mix.now _ c.requires.values_long
+    new_outcome _ _ (board at.Start) c.requires.findable.row _ (none at.Then-not-find) c.args.v.now c.args.mix.now _ c.requires.values_long
     (rw (e.records, e.words, e.rows) at c.append.ensures)
 
 -- ---- a combination: the mix is written, and the values decide
@@ -62,10 +59,12 @@ mix_written c fits =
 
 pub returns-then-not-values_agree : goal.returns-then-not-values_agree
 returns-then-not-values_agree c =
-    conflict_outcome _ _ (board (goal.at.returns-then-not-values_agree c).Start) c.requires.findable.row _ (some (goal.at.returns-then-not-values_agree c).Else-not-find) c.args.v.now c.args.mix.now _ (mix_written (goal.at.returns-then-not-values_agree c).After-put (fits (goal.at.returns-then-not-values_agree c).Else-not-find))
-    c.requires.values_long c.requires.values_below (guard_taken c.values_agree.ensures c.if-not-values_agree.true-raw)
+    let at = goal.at.returns-then-not-values_agree c in
+    conflict_outcome _ _ (board at.Start) c.requires.findable.row _ (some at.Else-not-find) c.args.v.now c.args.mix.now _
+    (mix_written at.After-put (fits at.Else-not-find)) c.requires.values_long c.requires.values_below (guard_taken c.values_agree.ensures c.if-not-values_agree.true-raw)
 
 pub returns : goal.returns
 returns c =
-    repeat_outcome _ _ (board (goal.at.returns c).Start) c.requires.findable.row _ (some (goal.at.returns c).Else-not-find) c.args.v.now c.args.mix.now _ (mix_written (goal.at.returns c).After-put (fits (goal.at.returns c).Else-not-find))
-    (guard_left c.values_agree.ensures c.if-not-values_agree.false-raw)
+    let at = goal.at.returns c in
+    repeat_outcome _ _ (board at.Start) c.requires.findable.row _ (some at.Else-not-find) c.args.v.now c.args.mix.now _
+    (mix_written at.After-put (fits at.Else-not-find)) (guard_left c.values_agree.ensures c.if-not-values_agree.false-raw)

@@ -11,5 +11,6 @@ solution-requires c =
 pub returns : goal.returns
 returns c =
     let e = c.of-header.ensures in
-    rw e.rows
-    (candidate_told _ _ _ c.requires _ _ (rw (c.turned-grid.ensures, e.modulus, e.records, e.words, e.rows) at c.solution.ensures))
+    let found = rw (c.turned-grid.ensures, e.modulus, e.records, e.words, e.rows) at c.solution.ensures in
+    let told = candidate_told _ _ _ c.requires _ _ found in
+    rw (← e.rows) at told

@@ -38,6 +38,6 @@ reduced-requires c =
 pub returns : goal.returns
 returns c =
     let e = c.of-header.ensures in
-    rw e.rows
-    (reduced_told _ _ _ c.requires _ _ _
-    (rw (c.rows-grid.ensures, c.value_start.ensures, c.row_length-step.ensures, e.modulus, e.records, e.words, e.rows) at c.reduced.ensures))
+    let form = rw (c.rows-grid.ensures, c.value_start.ensures, c.row_length-step.ensures, e.modulus, e.records, e.words, e.rows) at c.reduced.ensures in
+    let told = reduced_told _ _ _ c.requires _ _ _ form in
+    rw (← e.rows) at told

@@ -21,6 +21,6 @@ rank-requires c =
 pub returns : goal.returns
 returns c =
     let e = c.of-header.ensures in
-    rw e.rows
-    (rank_tells (laid (goal.at.returns c).Else-not-is_laid_out)
-    (rows_rank_lem _ _ (rw (c.rows.ensures, e.modulus, e.records, e.words, e.rows) at c.rank.ensures)))
+    let rank = rw (c.rows.ensures, e.modulus, e.records, e.words, e.rows) at c.rank.ensures in
+    let told = rank_tells (laid (goal.at.returns c).Else-not-is_laid_out) (rows_rank_lem _ _ rank) in
+    rw (← e.rows) at told
