@@ -1,6 +1,6 @@
 -- `board_calls::show` meets its contract: off a board it is refusal 11, with memory of another length refusal 3, with a low end of p or
 -- more refusal 4, and else `show_records` writes what the ledger shows.
-use mathlib.Core.Path.{◌≡◌, sym}
+use mathlib.Core.Path.{◌≡◌, sym, ap₂, ◌∙◌}
 use Prim.Native.Nat.{◌*◌}
 use native.Mathlib.Omega.{arith}
 use lib.ListN.{length}
@@ -19,10 +19,10 @@ board c = (c.reduce_board.ensures.reduced (not-false _ c.if-not-reduce_board.fal
 
 -- what the tests of the lengths leave
 marks_long : (c : Else-marks-header) → length c.args.marks.now ≡ size_word c.args.board.now
-marks_long c = rw c.of-header.ensures.records at c.if-marks-header.false
+marks_long c = c.if-marks-header.false ∙ c.of-header.ensures.records
 
 numbers_long : (c : Else-numbers-header) → let ws = c.args.board.now in length c.args.numbers.now ≡ size_word ws * values_word ws
-numbers_long c = let e = c.of-header.ensures in rw (e.records, e.words) at c.if-numbers-header.false
+numbers_long c = let e = c.of-header.ensures in c.if-numbers-header.false ∙ ap₂ (λ n s. n * s) e.records e.words
 
 pub returns-then-not-is_laid_out : goal.returns-then-not-is_laid_out
 returns-then-not-is_laid_out c = sym (show_off_board _ (λ b. guard_taken c.is_laid_out.ensures c.if-not-is_laid_out.true-raw (board_laid b)) _ _ _)
@@ -49,9 +49,9 @@ returns-then-header-low c =
 
 pub returns : goal.returns
 returns c =
+    let at = goal.at.returns c in
     let e = c.of-header.ensures in
-    let b = board (goal.at.returns c).Else-not-reduce_board in
+    let b = board at.Else-not-reduce_board in
     let written = c.show_records.ensures b.prime in
-    rw (e.records, e.rows)
-    (show_done _ b _ _ _ (marks_long (goal.at.returns c).Else-marks-header) (numbers_long (goal.at.returns c).Else-numbers-header)
-    (omega arith) _ _ written.0 written.1)
+    let done = show_done _ b _ _ _ (marks_long at.Else-marks-header) (numbers_long at.Else-numbers-header) (omega arith) _ _ written.0 written.1 in
+    rw (← e.records, ← e.rows) at done

@@ -1,7 +1,7 @@
 -- `board_calls::withdraw` meets its contract: off a board it is refusal 11, with more to drop than stand it is refusal 10, and else the
 -- words that stay are the layout of the entries that stay.
 use mathlib.Core.Path.{sym}
-use native.Mathlib.Nat.{sub-le}
+use native.Mathlib.Omega.{arith}
 use Rattle.algebra.proofs.Answers.{guard_left, guard_taken}
 use Rattle.ledger.specs.Board.{IsBoard}
 use Rattle.ledger.proofs.WordsCalls.{withdraw_off_board}
@@ -24,7 +24,8 @@ returns-then-k-t c = withdraw_too_many _ (board (goal.at.returns-then-k-t c).Els
 pub drop_rows-requires : goal.drop_rows-requires
 drop_rows-requires c =
     let e = c.of-header.ensures in
-    rw (e.records, e.words, e.rows) (sub-le _ _, rows_inside _ (board_header (board (goal.at.drop_rows-requires c).Else-not-is_board)))
+    let inside = rows_inside _ (board_header (board (goal.at.drop_rows-requires c).Else-not-is_board)) in
+    (omega arith, rw (← e.records, ← e.words, ← e.rows) at inside)
 
 pub returns : goal.returns
 returns c =

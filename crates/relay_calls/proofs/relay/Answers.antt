@@ -61,9 +61,9 @@ returns-then-bytes-longest c =
 pub returns-then-not-all_below : goal.returns-then-not-all_below
 returns-then-not-all_below c =
     let at = goal.at.returns-then-not-all_below c in
-    let tells = rw c.of-header.ensures.modulus at c.all_below.ensures in
     other_number _ (board at.Else-not-candidate) _ _ _ (wide at.Else-not-candidate) (long at.Else-mix-header)
-    (room at.Else-bytes-longest (most at.After-longest)) (guard_taken tells c.if-not-all_below.true-raw)
+    (room at.Else-bytes-longest (most at.After-longest))
+    (λ below. guard_taken c.all_below.ensures c.if-not-all_below.true-raw (rw (← c.of-header.ensures.modulus) at below))
 
 pub returns : goal.returns
 returns c =
