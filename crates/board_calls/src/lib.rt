@@ -9,6 +9,7 @@ ghost use Rattle.ledger.specs.Calls.{open_call, take_call, withdraw_call, show_c
 
 pub use board_solve::Taken;
 use board_solve::{combination, records, take_row};
+use board_words::layout::{COUNT, Header};
 use board_words::{change, layout, test};
 use checks::Refusal;
 use words::{ROW, WIDE_TABLE, filled};
@@ -36,12 +37,12 @@ pub fn take(board: &mut [u32], frame: &[u8], mix: &mut [u32]) -> Result<Taken, R
     if !test::is_laid_out(board) {
         return Err(Refusal::NotBoard);
     }
-    let p = board[layout::MODULUS];
-    let n = board[layout::SIZE] as usize;
-    let s = board[layout::VALUES] as usize;
+    let header = Header::of(board);
+    let n = header.n;
+    let s = header.s;
     let mut f: [u32; ROW] = filled(0);
     let mut v: [u32; ROW] = filled(0);
-    let read = frame_bytes::reading::read_frame(p, n, frame, &mut f[..n], &mut v[..s]);
+    let read = frame_bytes::reading::read_frame(header.p, n, frame, &mut f[..n], &mut v[..s]);
     let mut c: [u32; ROW] = filled(0);
     if !combination::candidate(board, &f[..n], &mut c) {
         return Err(Refusal::NotBoard);
@@ -60,14 +61,13 @@ pub fn withdraw(board: &mut [u32], t: u32) -> Result<u32, Refusal>
     if !test::is_board(board) {
         return Err(Refusal::NotBoard);
     }
-    let k = board[layout::COUNT];
+    let k = board[COUNT];
     if k < t {
         return Err(Refusal::Withdrawal);
     }
-    let n = board[layout::SIZE] as usize;
-    let s = board[layout::VALUES] as usize;
+    let header = Header::of(board);
     let left = k - t;
-    change::drop_rows(board, n, s, k, left);
+    change::drop_rows(board, header, left);
     Ok(left)
 }
 
@@ -84,19 +84,17 @@ pub fn show(board: &[u32], low: u32, marks: &mut [u32], numbers: &mut [i32]) -> 
     if !records::reduce_board(board, &mut e, &mut pivots) {
         return Err(Refusal::NotBoard);
     }
-    let n = board[layout::SIZE] as usize;
-    if marks.len() != n {
+    let header = Header::of(board);
+    if marks.len() != header.n {
         return Err(Refusal::Length);
     }
-    let s = board[layout::VALUES] as usize;
-    if numbers.len() != n * s {
+    if numbers.len() != header.n * header.s {
         return Err(Refusal::Length);
     }
-    if board[layout::MODULUS] <= low {
+    if header.p <= low {
         return Err(Refusal::Number);
     }
     records::show_records(board, low, &e, &pivots, marks, numbers);
-    let count = board[layout::COUNT];
-    let missing = board[layout::SIZE] - count;
-    Ok(missing)
+    let missing = header.n - header.k;
+    Ok(missing as u32)
 }

@@ -6,7 +6,7 @@ use mathlib.Core.List.{List, ◌++◌}
 use Prim.Native.Nat.{ℕ, ◌+◌, ◌*◌, ◌-◌, ◌≤◌, ◌<◌}
 use native.Mathlib.Decide.{dec_lt}
 use native.Mathlib.Omega.{arith}
-use lib.ListN.{length, get_or, take, drop, length-take, length-append}
+use lib.ListN.{length, get_or, take, drop, length-take}
 use lib.Seq.{length-take-le, get_or-take, take_at, ext_get_or}
 use Rattle.algebra.specs.Answers.{Tells}
 use Rattle.algebra.specs.Matrix.{Vector, sum, mixed}
@@ -163,13 +163,6 @@ module _ (ws f c zs g : List ℕ) (H : Findable ws f c) (z : Zeros largest zs) (
   entry_mixed u j l =
       ap (λ m. mixed (residues p) m u (multiplier_rows p (entries_of ws)) j) (words_count ws)
       ∙ mixed_alike (residues p) k n (multiplier_rows p (entries_of ws)) (multiplier_table ws) (rows_table ws p) u j l
-
-  -- it stands in front of what is left of the zeros
-  pub front_long : length (take n (g ++ drop n zs)) ≡ n
-  front_long = ap length (take_at g (drop n zs) n g_long) ∙ g_long
-
-  pub front_inside : n ≤ length (g ++ drop n zs)
-  front_inside = omega (arith, length-append g (drop n zs), g_long)
 
   -- so the test whether that is f tells whether f is a combination of them
   pub found : {t : Bool} → Tells t (f ≡ take n (g ++ drop n zs)) → Combination ws f c t

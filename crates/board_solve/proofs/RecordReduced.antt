@@ -123,10 +123,8 @@ module _ (ws e pivots at : List ℕ) (H : BoardReduced ws e pivots) (A : RowsByP
   proper = H.inverse.board.prime.prime.two_or_more
 
   -- its worked row lies in e
-  pub worked : WorkedRow (size_word ws) (values_word ws) (get_or at j 0) e
-  worked =
-      let (positive, small, few) = board_sizes ws H.inverse.board in
-      record { small = small; words = H.inverse.board.words.1; few = omega (arith, A.few j); long = H.long }
+  pub worked : WorkedRow (get_or at j 0) e
+  worked = let sizes = board_sizes ws H.inverse.board in record { few = omega (arith, A.few j); long = H.long }
 
   -- there is one: its numbers are those of row j of D R, and behind them stand those of D v
   module _ (some : 0 < get_or at j 0) where
@@ -137,7 +135,7 @@ module _ (ws e pivots at : List ℕ) (H : BoardReduced ws e pivots) (A : RowsByP
     pivot_row = A.row j row (omega arith)
 
     below : (c : ℕ) → c < size_word ws + values_word ws → get_or e (worked_place (size_word ws) (values_word ws) (get_or at j 0) c) 0 < modulus_word ws
-    below c l = H.below (worked_place (size_word ws) (values_word ws) (get_or at j 0) c) (omega (arith, row_inside_lem worked some))
+    below c l = H.below (worked_place (size_word ws) (values_word ws) (get_or at j 0) c) (omega (arith, row_inside_lem H.inverse.board.size.1 H.inverse.board.words.1 worked some))
 
     number : (c : ℕ) → c < size_word ws
         → get_or e (worked_place (size_word ws) (values_word ws) (get_or at j 0) c) 0

@@ -8,6 +8,7 @@ use native.Mathlib.Omega.{arith}
 use lib.ListN.{length, get_or, take, drop}
 use Rattle.algebra.specs.Answers.{Tells}
 use Rattle.algebra.proofs.Answers.{tells_same}
+use Rattle.checks.specs.Largest.{largest, most_words}
 use Rattle.words.specs.Lengths.{widest_table}
 use Rattle.words.proofs.Parts.{part_length, part_at}
 use Rattle.matrix_echelon.proofs.WorkedClear.{row_inside}
@@ -17,10 +18,10 @@ use Rattle.board_solve.specs.Records.{IsUnitRow, WorkedRow, worked_place, UnitAt
 abbrev worked_part : (n s row : ℕ) → List ℕ → List ℕ
 worked_part n s row e = take ((row - 1) * (n + s) + n - (row - 1) * (n + s)) (drop ((row - 1) * (n + s)) e)
 
-module _ {n s row : ℕ} {e : List ℕ} (w : WorkedRow n s row e) (some : 0 < row) where
+module _ {n s row : ℕ} {e : List ℕ} (small : n ≤ largest) (words : s ≤ most_words) (w : WorkedRow row e) (some : 0 < row) where
   -- the row and its values lie in the room
   pub row_in_room : worked_place n s row (n + s) ≤ widest_table
-  row_in_room = omega (arith, row_inside (row - 1) (n + s) (omega (arith, w.few, some)) (omega (arith, w.small, w.words)))
+  row_in_room = omega (arith, row_inside (row - 1) (n + s) (omega (arith, w.few, some)) (omega arith))
 
   pub row_inside_lem : worked_place n s row (n + s) ≤ length e
   row_inside_lem = omega (arith, row_in_room, w.long)

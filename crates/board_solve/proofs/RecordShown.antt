@@ -69,7 +69,7 @@ module _ (p n s low : ℕ) (es : List Entry) where
 
 -- ---- a turn of the loop
 
-abbrev ShownIn : (ws : List ℕ) (low j : ℕ) (marks : List ℕ) (numbers : List ℤ) → Type 0
+abbrev pub ShownIn : (ws : List ℕ) (low j : ℕ) (marks : List ℕ) (numbers : List ℤ) → Type 0
 ShownIn ws low = ShownBelow (modulus_word ws) (size_word ws) (values_word ws) low (entries_of ws)
 
 module _

@@ -80,11 +80,11 @@ module _ (ws f : List ℕ) (b : IsBoard ws) (row : RowFor ws f) where
         }) free in
         omega (arith, more.fits, length_more (entries_of ws) (entry f (replicate (values_word ws) 0)), words_count ws)
 
-    pub row_fits : (v : List ℕ) → length v ≡ values_word ws → row_start (length f) (length v) (suc (count_word ws)) ≤ length ws
-    row_fits v long = rw (row.long, long, b.long) (row_inside (size_word ws) (values_word ws) (suc (count_word ws)) new_room)
+    pub row_fits : row_start (size_word ws) (values_word ws) (suc (count_word ws)) ≤ length ws
+    row_fits = rw b.long (row_inside (size_word ws) (values_word ws) (suc (count_word ws)) new_room)
 
     -- and the board with the row appended is what the ledger's step leaves
-    pub new_outcome : (v mix after : List ℕ) → length v ≡ values_word ws → Appended (length f) (length v) (count_word ws) f v ws after
+    pub new_outcome : (v mix after : List ℕ) → length v ≡ values_word ws → Appended (size_word ws) (values_word ws) (count_word ws) f v ws after
         → TakesRow ws f v mix (outcome (new_told (count_word ws + 1)) (after, mix))
     new_outcome v mix after long a ok =
         ap₂ (λ m xs. outcome (new_told m) (xs, mix)) (add-one (count_word ws) ∙ ap suc (sym (words_count ws))) appended
@@ -94,7 +94,7 @@ module _ (ws f : List ℕ) (b : IsBoard ws) (row : RowFor ws f) where
         appended =
             appended_layout (modulus_word ws) (size_word ws) (values_word ws) (entries_of ws) f v after (board_wide ws b)
             (rw (words_count ws) new_room) (row.long, long)
-            (rw (words_count ws, board_layout ws b) (rw (row.long, long) at a))
+            (rw (words_count ws, board_layout ws b) a)
 
   -- ---- f is a combination of the rows
 

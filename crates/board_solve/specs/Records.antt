@@ -4,7 +4,7 @@ use Rattle.std.specs.Prelude.{◌≡◌, Bool, true, List, ℕ, ◌+◌, ◌*◌
 use Rattle.algebra.specs.Answers.{Tells}
 use Rattle.algebra.specs.Choice.{choose}
 use Rattle.algebra.specs.Matrix.{Vector, Matrix, product, apply}
-use Rattle.checks.specs.Largest.{largest, most_words}
+use Rattle.checks.specs.Largest.{largest}
 use Rattle.checks.specs.Prime.{IsModulus}
 use Rattle.words.specs.Lengths.{widest_table}
 use Rattle.words.specs.Words.{Below, Zeros}
@@ -63,9 +63,7 @@ abbrev pub IsUnitRow : List ℕ → ℕ → Type 0
 IsUnitRow e j = (t : ℕ) → t < length e → get_or e t 0 ≡ unit_number j t
 
 -- the worked row of a record, counted from 1, or 0 for none, lies in e
-pub record WorkedRow (n s row : ℕ) (e : List ℕ) : Type 0 where
-  pub small : n ≤ largest
-  pub words : s ≤ most_words
+pub record WorkedRow (row : ℕ) (e : List ℕ) : Type 0 where
   pub few : row ≤ largest
   pub long : length e ≡ widest_table
 

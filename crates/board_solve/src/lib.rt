@@ -7,7 +7,8 @@ ghost use Rattle.checks.specs.Outcome.{outcome};
 ghost use Rattle.board_solve.specs.Told.{take_told};
 ghost use Rattle.board_solve.specs.Taking.{Comparable, CombinationGives, Takeable, TakesRow};
 
-use board_words::{change, layout};
+use board_words::change;
+use board_words::layout::{COUNT, Header};
 use checks::Refusal;
 
 pub mod combination;
@@ -25,13 +26,11 @@ fn values_agree(board: &[u32], c: &[u32], v: &[u32]) -> bool
     requires { Comparable board.now c.now v.now }
     ensures { Tells result (CombinationGives board.now c.now v.now) }
 {
-    let p = board[layout::MODULUS];
-    let n = board[layout::SIZE] as usize;
-    let k = board[layout::COUNT] as usize;
-    let first = layout::value_start(n, v.len(), 0);
-    let step = layout::row_length(n, v.len());
+    let header = Header::of(board);
+    let first = header.value_start(0);
+    let step = header.row_length();
     for (u, x) in v.iter().enumerate() {
-        if field::sums::dot(p, &c[..k], board, first + u, step) != *x {
+        if field::sums::dot(header.p, &c[..header.k], board, first + u, step) != *x {
             return false;
         }
     }
@@ -50,9 +49,10 @@ pub fn take_row(
     requires { Takeable board.old f.now v.now c.now mix.old }
     ensures { TakesRow board.old f.now v.now mix.old (outcome (take_told result) (board.new, mix.new)) }
 {
-    let count = board[layout::COUNT];
+    let count = board[COUNT];
     if !combination::find(board, f, c) {
-        change::append(board, count, f, v);
+        let header = Header::of(board);
+        change::append(board, header, f, v);
         return Ok(Taken::New(count + 1));
     }
     words::put(&c[..f.len()], mix, 0);

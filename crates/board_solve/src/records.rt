@@ -8,22 +8,19 @@ ghost use Rattle.words.specs.Words.{Below};
 ghost use Rattle.signed.specs.Reading.{reading};
 ghost use Rattle.board_solve.specs.Records.{ReducedRoom, ReducedTold, IsUnitRow, WorkedRow, worked_place, UnitAt, NumbersPut, Showable, ShowsRecords};
 
-use board_words::layout;
-use board_words::layout::{COUNT, MODULUS, SIZE, VALUES};
+use board_words::layout::Header;
 
 // Whether the k multiplier rows are independent; then e becomes the reduced form of the rows with the values carried along.
 pub fn reduce_board(board: &[u32], e: &mut [u32], pivots: &mut [u32]) -> bool
     requires { ReducedRoom board.now e.old pivots.old }
     ensures { ReducedTold board.now e.new pivots.new result }
 {
-    let n = board[SIZE] as usize;
-    let s = board[VALUES] as usize;
-    let k = board[COUNT] as usize;
-    let grid = layout::rows_grid(n, s, k);
-    let first = layout::value_start(n, s, 0);
-    let step = layout::row_length(n, s);
-    let p = board[MODULUS];
-    matrix_echelon::reduced::reduced(p, grid, board, &board[first..], step, s, e, pivots) == k
+    let header = Header::of(board);
+    let grid = header.rows();
+    let values = &board[header.value_start(0)..];
+    let step = header.row_length();
+    matrix_echelon::reduced::reduced(header.p, grid, board, values, step, header.s, e, pivots)
+        == header.k
 }
 
 // Whether e is the unit row of j.
@@ -34,35 +31,28 @@ fn is_unit(e: &[u32], j: usize) -> bool
 }
 
 // Whether the worked row of record j is the unit row of j. The row is counted from 1; 0 says that there is none.
-fn settled(n: usize, s: usize, row: usize, e: &[u32], j: usize) -> bool
-    requires { WorkedRow n s row e.now }
-    ensures { Tells result (UnitAt n s row j e.now) }
+fn settled(header: Header, row: usize, e: &[u32], j: usize) -> bool
+    requires { WorkedRow row e.now }
+    ensures { Tells result (UnitAt header.n header.s row j e.now) }
 {
     if row == 0 {
         return false;
     }
-    let at = (row - 1) * (n + s);
-    let end = at + n;
+    let at = (row - 1) * (header.n + header.s);
+    let end = at + header.n;
     is_unit(&e[at..end], j)
 }
 
-// Writes the signed readings of the s values behind a worked row, with the low end, to the numbers from the place on.
-fn put_words(
-    p: u32,
-    low: u32,
-    n: usize,
-    s: usize,
-    row: usize,
-    e: &[u32],
-    numbers: &mut [i32],
-    at: usize,
-)
-    requires { WorkedRow n s row e.now × (0 < row) × (low < p) × (p ≤ largest_modulus) × Below p e.now × (at + s ≤ length numbers.old) }
-    ensures { NumbersPut at s (λ u. reading p low (get_or e.now (worked_place n s row (n + u)) 0)) numbers.old numbers.new }
+// Writes the signed readings of the values behind a worked row, with the low end, to the numbers from the place on.
+fn put_words(header: Header, low: u32, row: usize, e: &[u32], numbers: &mut [i32], at: usize)
+    requires { WorkedRow row e.now × (0 < row) × (low < header.p) × (header.p ≤ largest_modulus) × Below header.p e.now
+        × (at + header.s ≤ length numbers.old) }
+    ensures { NumbersPut at header.s (λ u. reading header.p low (get_or e.now (worked_place header.n header.s row (header.n + u)) 0))
+        numbers.old numbers.new }
 {
-    let from = (row - 1) * (n + s) + n;
-    for u in 0..s {
-        numbers[at + u] = signed::read_from(p, low, e[from + u]);
+    let from = (row - 1) * (header.n + header.s) + header.n;
+    for u in 0..header.s {
+        numbers[at + u] = signed::read_from(header.p, low, e[from + u]);
     }
 }
 
@@ -86,16 +76,14 @@ pub fn show_records(
     requires { Showable board.now low e.now pivots.now marks.old numbers.old }
     ensures { ShowsRecords board.now low marks.new numbers.new }
 {
-    let p = board[MODULUS];
-    let n = board[SIZE] as usize;
-    let s = board[VALUES] as usize;
-    let k = board[COUNT] as usize;
-    let rows = matrix_echelon::reduced::rows_by_pivot(k, pivots);
-    for j in 0..n {
+    let header = Header::of(board);
+    let s = header.s;
+    let rows = matrix_echelon::reduced::rows_by_pivot(header.k, pivots);
+    for j in 0..header.n {
         let row = rows[j] as usize;
-        if settled(n, s, row, e, j) {
+        if settled(header, row, e, j) {
             marks[j] = 1;
-            put_words(p, low, n, s, row, e, numbers, j * s);
+            put_words(header, low, row, e, numbers, j * s);
         } else {
             marks[j] = 0;
             clear_words(s, numbers, j * s);

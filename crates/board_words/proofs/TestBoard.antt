@@ -12,11 +12,11 @@ use Rattle.algebra.proofs.Independent.{all_marked, all_counted, independent_chos
 use Rattle.field.specs.Residue.{residues}
 use Rattle.field.proofs.Field.{residues_field}
 use Rattle.ledger.specs.Board.{IsBoard, modulus_word, count_word}
-use Rattle.board_words.specs.Tested.{Header, LaidOut}
+use Rattle.board_words.specs.Tested.{HasHeader, LaidOut}
 use Rattle.board_words.specs.Inverse.{BoardInverse}
 use Rattle.board_words.proofs.TestRows.{RowsRank}
 
-pub board_header : {ws : List ℕ} → IsBoard ws → Header ws
+pub board_header : {ws : List ℕ} → IsBoard ws → HasHeader ws
 board_header b = record { four = b.four; prime = b.prime; size = b.size; words = b.words; long = b.long; count = b.count }
 
 pub board_laid : {ws : List ℕ} → IsBoard ws → LaidOut ws

@@ -10,7 +10,7 @@ use Rattle.words.specs.Words.{Below, Blank}
 use Rattle.words.proofs.Parts.{part_length, part_at}
 use Rattle.ledger.specs.Board.{header_length, modulus_word, size_word, count_word, values_word, rows_end}
 use Rattle.ledger.proofs.LayoutPlaces.{row_behind}
-use Rattle.board_words.specs.Tested.{Header, Filled}
+use Rattle.board_words.specs.Tested.{HasHeader, Filled}
 use Rattle.board_words.proofs.TestSizes.{rows_inside}
 
 -- the parts, split where the rows end
@@ -20,7 +20,7 @@ entry_part ws = take (rows_end ws - header_length) (drop header_length ws)
 abbrev pub rest_part : List ℕ → List ℕ
 rest_part ws = take (length ws - rows_end ws) (drop (rows_end ws) ws)
 
-module _ (ws : List ℕ) (h : Header ws) where
+module _ (ws : List ℕ) (h : HasHeader ws) where
   entry_long : length (entry_part ws) ≡ rows_end ws - header_length
   entry_long =
       part_length ws header_length (rows_end ws - header_length)

@@ -16,7 +16,7 @@ use Rattle.matrix_echelon.proofs.Grids.{grid_table, grid_turned}
 use Rattle.ledger.specs.Board.{header_length, row_length, modulus_word, size_word, count_word, values_word, multiplier_table}
 use Rattle.ledger.proofs.LayoutPlaces.{row_first, row_step, row_ends, row_words_lem}
 use Rattle.board_words.specs.Rows.{rows_grid, turned_grid}
-use Rattle.board_words.specs.Tested.{Header}
+use Rattle.board_words.specs.Tested.{HasHeader}
 use Rattle.board_words.proofs.TestSizes.{count_most, rows_inside}
 
 -- D is a pivot inverse of the multiplier rows, with r of them in J
@@ -56,7 +56,7 @@ module _ (ws : List ℕ) where
         rank = R.rank ∙ R.inverse.equally_many;
       }
 
-  module _ (h : Header ws) where
+  module _ (h : HasHeader ws) where
     -- the rows lie in the words
     entry_inside : (i j : ℕ) → i < count_word ws → j < size_word ws → header_length + i * row_length (size_word ws) (values_word ws) + j < length ws
     entry_inside i j l b =

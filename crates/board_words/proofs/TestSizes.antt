@@ -11,9 +11,9 @@ use Rattle.checks.specs.Sizes.{frame_sizes}
 use Rattle.checks.proofs.InOrder.{none_left, ◌and_then◌, not_both}
 use Rattle.ledger.specs.Board.{size_word, count_word, values_word, rows_end}
 use Rattle.ledger.proofs.LayoutPlaces.{row_inside}
-use Rattle.board_words.specs.Tested.{Header}
+use Rattle.board_words.specs.Tested.{HasHeader}
 
-module _ (ws : List ℕ) (h : Header ws) where
+module _ (ws : List ℕ) (h : HasHeader ws) where
   -- the rows of a board are at most 64, and lie in its words
   pub count_most : count_word ws ≤ largest
   count_most = omega (arith, h.count, h.size.1)

@@ -6,7 +6,7 @@ use Rattle.checks.specs.Largest.{FrameSize, WordCount}
 use Rattle.ledger.specs.Board.{header_length, board_length, modulus_word, size_word, count_word, values_word, rows_end}
 
 -- the clauses up to k ≤ n
-pub record Header (ws : List ℕ) : Type 0 where
+pub record HasHeader (ws : List ℕ) : Type 0 where
   pub four : header_length ≤ length ws
   pub prime : IsModulus (modulus_word ws)
   pub size : FrameSize (size_word ws)
@@ -21,5 +21,5 @@ pub record Filled (ws : List ℕ) : Type 0 where
 
 -- all clauses but that the rows are independent
 pub record LaidOut (ws : List ℕ) : Type 0 where
-  pub header : Header ws
+  pub header : HasHeader ws
   pub filled : Filled ws

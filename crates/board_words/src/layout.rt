@@ -20,28 +20,86 @@ pub const COUNT: usize = 2;
 
 pub const VALUES: usize = 3;
 
-// The words of a row: n multipliers and s values.
-pub fn row_length(n: usize, s: usize) -> usize
-    requires { (n ≤ largest) × (s ≤ most_words) }
-    ensures { result ≡ row_length n s }
-{
-    n + s
+// What a board's header says: the modulus p, n records of s words, and k standing rows, each of n multipliers and s values.
+#[derive(Clone, Copy)]
+pub struct Header {
+    pub p: u32,
+    pub n: usize,
+    pub s: usize,
+    pub k: usize,
+    pub ghost few_records: { n ≤ largest },
+    pub ghost few_words: { s ≤ most_words },
+    pub ghost few_rows: { k ≤ n },
 }
 
-// Where row i begins.
-pub fn row_start(n: usize, s: usize, i: usize) -> usize
-    requires { (n ≤ largest) × (s ≤ most_words) × (i ≤ largest) }
-    ensures { result ≡ row_start n s i }
-{
-    HEADER + i * row_length(n, s)
-}
+impl Header {
+    ghost use Rattle.ledger.specs.Board.{modulus_word, size_word, count_word, values_word};
+    ghost use Rattle.board_words.specs.Tested.{HasHeader};
 
-// Where the values of row i begin.
-pub fn value_start(n: usize, s: usize, i: usize) -> usize
-    requires { (n ≤ largest) × (s ≤ most_words) × (i ≤ largest) }
-    ensures { result ≡ value_start n s i }
-{
-    row_start(n, s, i) + n
+    // The header of the words, which have one.
+    pub fn of(board: &[u32]) -> Header
+        requires { HasHeader board.now }
+        ensures modulus { result.p ≡ modulus_word board.now }
+        ensures records { result.n ≡ size_word board.now }
+        ensures words { result.s ≡ values_word board.now }
+        ensures rows { result.k ≡ count_word board.now }
+    {
+        Header {
+            p: board[MODULUS],
+            n: board[SIZE] as usize,
+            s: board[VALUES] as usize,
+            k: board[COUNT] as usize,
+        }
+    }
+
+    // The words of a row: n multipliers and s values.
+    pub fn row_length(self) -> usize
+        ensures { result ≡ row_length self.n self.s }
+    {
+        self.n + self.s
+    }
+
+    // Where row i begins.
+    pub fn row_start(self, i: usize) -> usize
+        requires { i ≤ largest }
+        ensures { result ≡ row_start self.n self.s i }
+    {
+        HEADER + i * self.row_length()
+    }
+
+    // Where the values of row i begin.
+    pub fn value_start(self, i: usize) -> usize
+        requires { i ≤ largest }
+        ensures { result ≡ value_start self.n self.s i }
+    {
+        self.row_start(i) + self.n
+    }
+
+    // The multipliers of the standing rows, as a table that is read in place.
+    pub fn rows(self) -> Grid
+        ensures { result ≡ rows_grid self.n self.s self.k }
+    {
+        Grid {
+            start: self.row_start(0),
+            down: self.row_length(),
+            along: 1,
+            rows: self.k,
+            columns: self.n,
+        }
+    }
+
+    // The same turned: each row is a column.
+    pub fn turned(self) -> Grid
+        ensures { result ≡ turned_grid self.n self.s self.k }
+    {
+        Grid {
+            start: self.row_start(0),
+            down: 1,
+            along: self.row_length(),
+            rows: self.n,
+            columns: self.k,
+        }
+    }
 }
 
 // The words of a board for n records of s words: n rows are all.
@@ -49,33 +107,5 @@ pub fn board_length(n: usize, s: usize) -> usize
     requires { (n ≤ largest) × (s ≤ most_words) }
     ensures { result ≡ board_length n s }
 {
-    row_start(n, s, n)
-}
-
-// The multipliers of k rows, as a table that is read in place.
-pub fn rows_grid(n: usize, s: usize, k: usize) -> Grid
-    requires { (n ≤ largest) × (s ≤ most_words) }
-    ensures { result ≡ rows_grid n s k }
-{
-    Grid {
-        start: row_start(n, s, 0),
-        down: row_length(n, s),
-        along: 1,
-        rows: k,
-        columns: n,
-    }
-}
-
-// The same turned: each row is a column.
-pub fn turned_grid(n: usize, s: usize, k: usize) -> Grid
-    requires { (n ≤ largest) × (s ≤ most_words) }
-    ensures { result ≡ turned_grid n s k }
-{
-    Grid {
-        start: row_start(n, s, 0),
-        down: 1,
-        along: row_length(n, s),
-        rows: n,
-        columns: k,
-    }
+    HEADER + n * (n + s)
 }

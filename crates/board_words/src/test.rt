@@ -2,14 +2,14 @@
 // rank is their number.
 ghost use Rattle.algebra.specs.Answers.{Tells};
 ghost use Rattle.ledger.specs.Board.{IsBoard};
-ghost use Rattle.board_words.specs.Tested.{Header, Filled, LaidOut};
+ghost use Rattle.board_words.specs.Tested.{HasHeader, Filled, LaidOut};
 
 use super::layout;
-use super::layout::{COUNT, HEADER, MODULUS, SIZE, VALUES};
+use super::layout::{COUNT, HEADER, Header, MODULUS, SIZE, VALUES};
 
 // Whether the words begin as a board does: the clauses up to k ≤ n.
 fn has_header(board: &[u32]) -> bool
-    ensures { Tells result (Header board.now) }
+    ensures { Tells result (HasHeader board.now) }
 {
     if board.len() < HEADER {
         return false;
@@ -27,14 +27,12 @@ fn has_header(board: &[u32]) -> bool
 
 // Whether the entries of the k rows are below p and all later words are 0.
 fn is_filled(board: &[u32]) -> bool
-    requires { Header board.now }
+    requires { HasHeader board.now }
     ensures { Tells result (Filled board.now) }
 {
-    let n = board[SIZE] as usize;
-    let s = board[VALUES] as usize;
-    let k = board[COUNT] as usize;
-    let end = layout::row_start(n, s, k);
-    if !words::all_below(board[MODULUS], &board[HEADER..end]) {
+    let header = Header::of(board);
+    let end = header.row_start(header.k);
+    if !words::all_below(header.p, &board[HEADER..end]) {
         return false;
     }
     words::all_zero(&board[end..])
@@ -57,9 +55,6 @@ pub fn is_board(board: &[u32]) -> bool
     if !is_laid_out(board) {
         return false;
     }
-    let n = board[SIZE] as usize;
-    let s = board[VALUES] as usize;
-    let k = board[COUNT] as usize;
-    let grid = layout::rows_grid(n, s, k);
-    matrix_echelon::forward::rank(board[MODULUS], grid, board) == k
+    let header = Header::of(board);
+    matrix_echelon::forward::rank(header.p, header.rows(), board) == header.k
 }

@@ -10,7 +10,8 @@ ghost use Rattle.relay.specs.Calls.{relay_call};
 ghost use Rattle.relay_calls.specs.Parts.{Relayable, RelaysRow};
 
 use board_solve::combination;
-use board_words::{layout, test};
+use board_words::layout::Header;
+use board_words::test;
 use checks::Refusal;
 use frame_bytes::writer::{longest, write_frame};
 use words::{ROW, all_below, filled};
@@ -21,14 +22,11 @@ fn combine_values(board: &[u32], c: &[u32], v: &mut [u32])
     ensures { (length v.new ≡ values_word board.now)
         × ((w : ℕ) → w < values_word board.now → get_or v.new w 0 ≡ (combined_value board.now c.now w).value) }
 {
-    let p = board[layout::MODULUS];
-    let n = board[layout::SIZE] as usize;
-    let k = board[layout::COUNT] as usize;
-    let s = v.len();
-    let first = layout::value_start(n, s, 0);
-    let step = layout::row_length(n, s);
+    let header = Header::of(board);
+    let first = header.value_start(0);
+    let step = header.row_length();
     for (u, x) in v.iter_mut().enumerate() {
-        *x = field::sums::dot(p, &c[..k], board, first + u, step);
+        *x = field::sums::dot(header.p, &c[..header.k], board, first + u, step);
     }
 }
 
@@ -48,12 +46,12 @@ fn relay_row(
     if !combination::find(board, wanted, c) {
         return Err(Refusal::NotInSpan);
     }
-    let s = board[layout::VALUES] as usize;
+    let header = Header::of(board);
+    let s = header.s;
     let mut v: [u32; ROW] = filled(0);
     combine_values(board, c, &mut v[..s]);
     words::put(&c[..wanted.len()], mix, 0);
-    let p = board[layout::MODULUS];
-    let length = write_frame(p, wanted.len(), wanted, &v[..s], bytes) as u32;
+    let length = write_frame(header.p, wanted.len(), wanted, &v[..s], bytes) as u32;
     Ok(length)
 }
 
@@ -73,8 +71,8 @@ pub fn relay(
     if !test::is_laid_out(board) {
         return Err(Refusal::NotBoard);
     }
-    let n = board[layout::SIZE] as usize;
-    if wanted.len() != n {
+    let header = Header::of(board);
+    if wanted.len() != header.n {
         if !test::is_board(board) {
             return Err(Refusal::NotBoard);
         }
@@ -84,14 +82,13 @@ pub fn relay(
     if !combination::candidate(board, wanted, &mut c) {
         return Err(Refusal::NotBoard);
     }
-    if mix.len() != n {
+    if mix.len() != header.n {
         return Err(Refusal::Length);
     }
-    let s = board[layout::VALUES] as usize;
-    if bytes.len() != longest(s) {
+    if bytes.len() != longest(header.s) {
         return Err(Refusal::Length);
     }
-    if !all_below(board[layout::MODULUS], wanted) {
+    if !all_below(header.p, wanted) {
         return Err(Refusal::Number);
     }
     relay_row(board, wanted, &c, mix, bytes)

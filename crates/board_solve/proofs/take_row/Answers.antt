@@ -27,16 +27,17 @@ none c = subst (Combination _ _ _) (not-true _ c.if-not-find.true-raw) c.find.en
 
 pub append-requires : goal.append-requires
 append-requires c =
-    let b = board (goal.at.append-requires c).Start in
-    let (positive, small, few) = board_sizes _ b in (
-      omega (arith, c.requires.findable.row.long),
-      omega (arith, c.requires.values_long, b.words.1),
-      few,
-      row_fits _ _ b c.requires.findable.row _ (none (goal.at.append-requires c).Then-not-find) c.args.v.now c.requires.values_long,
-    )
+    let at = goal.at.append-requires c in
+    let row = c.requires.findable.row in
+    let e = c.of-header.ensures in
+    rw (e.records, e.words, e.rows) (row.long, c.requires.values_long, row_fits _ _ (board at.Start) row _ (none at.Then-not-find))
 
 pub returns-then-not-find : goal.returns-then-not-find
-returns-then-not-find c = new_outcome _ _ (board (goal.at.returns-then-not-find c).Start) c.requires.findable.row _ (none (goal.at.returns-then-not-find c).Then-not-find) c.args.v.now c.args.mix.now _ c.requires.values_long c.append.ensures
+returns-then-not-find c =
+    let at = goal.at.returns-then-not-find c in
+    let e = c.of-header.ensures in
+    new_outcome _ _ (board at.Start) c.requires.findable.row _ (none at.Then-not-find) c.args.v.now c.args.mix.now _ c.requires.values_long
+    (rw (e.records, e.words, e.rows) at c.append.ensures)
 
 -- ---- a combination: the mix is written, and the values decide
 
@@ -44,14 +45,9 @@ some : (c : Else-not-find) → let a = c.args in
     Combination a.board.now a.f.now a.c.now true
 some c = subst (Combination _ _ _) (not-false _ c.if-not-find.false-raw) c.find.ensures
 
-pub slice_bounds-put-end : goal.slice_bounds-put-end
-slice_bounds-put-end c = sym (length-take-le _ _ (omega (arith, (some (goal.at.slice_bounds-put-end c).Else-not-find).long, c.requires.findable.row.long, (board_sizes _ (board (goal.at.slice_bounds-put-end c).Start)).1)))
-
-pub put-requires : goal.put-requires
-put-requires c = omega (arith, slice_bounds-put-end (goal.at.put-requires c).Else-not-find, c.requires.mix_long, c.requires.findable.row.long)
-
-pub values_agree-requires : goal.values_agree-requires
-values_agree-requires c = record { board = board (goal.at.values_agree-requires c).Start; long = (some (goal.at.values_agree-requires c).Else-not-find).long; values_long = c.requires.values_long }
+-- the front of c is as long as f
+fits : (c : Else-not-find) → let a = c.args in length a.f.now ≡ length (take (length a.f.now) a.c.now)
+fits c = sym (length-take-le _ _ (omega (arith, (some c).long, c.requires.findable.row.long, (board_sizes _ c.requires.findable.candidate.inverse.board).1)))
 
 -- `put` has filled the mix with c's numbers
 mix_written : (c : After-put) → length c.args.f.now ≡ length (take (length c.args.f.now) c.args.c.now) → let a = c.args in
@@ -63,10 +59,12 @@ mix_written c fits =
 
 pub returns-then-not-values_agree : goal.returns-then-not-values_agree
 returns-then-not-values_agree c =
-    conflict_outcome _ _ (board (goal.at.returns-then-not-values_agree c).Start) c.requires.findable.row _ (some (goal.at.returns-then-not-values_agree c).Else-not-find) c.args.v.now c.args.mix.now _ (mix_written (goal.at.returns-then-not-values_agree c).After-put (slice_bounds-put-end (goal.at.returns-then-not-values_agree c).Else-not-find))
-    c.requires.values_long c.requires.values_below (guard_taken c.values_agree.ensures c.if-not-values_agree.true-raw)
+    let at = goal.at.returns-then-not-values_agree c in
+    conflict_outcome _ _ (board at.Start) c.requires.findable.row _ (some at.Else-not-find) c.args.v.now c.args.mix.now _
+    (mix_written at.After-put (fits at.Else-not-find)) c.requires.values_long c.requires.values_below (guard_taken c.values_agree.ensures c.if-not-values_agree.true-raw)
 
 pub returns : goal.returns
 returns c =
-    repeat_outcome _ _ (board (goal.at.returns c).Start) c.requires.findable.row _ (some (goal.at.returns c).Else-not-find) c.args.v.now c.args.mix.now _ (mix_written (goal.at.returns c).After-put (slice_bounds-put-end (goal.at.returns c).Else-not-find))
-    (guard_left c.values_agree.ensures c.if-not-values_agree.false-raw)
+    let at = goal.at.returns c in
+    repeat_outcome _ _ (board at.Start) c.requires.findable.row _ (some at.Else-not-find) c.args.v.now c.args.mix.now _
+    (mix_written at.After-put (fits at.Else-not-find)) (guard_left c.values_agree.ensures c.if-not-values_agree.false-raw)

@@ -1,9 +1,10 @@
 -- `relay_calls::relay_row` meets its contract: what `find` tells decides between refusal 15 and the frame of the candidate.
-use mathlib.Core.Path.{◌≡◌, refl, sym, ap, ◌∙◌, subst}
+use mathlib.Core.Path.{◌≡◌, sym, ap, ◌∙◌, subst}
 use mathlib.Core.Bool.{true}
-use mathlib.Core.List.{◌++◌}
+use mathlib.Core.List.{List, ◌++◌}
+use Prim.Native.Nat.{ℕ}
 use native.Mathlib.Omega.{arith}
-use lib.ListN.{length, get_or, take, drop, length-append}
+use lib.ListN.{length, get_or, take, drop}
 use lib.Seq.{length-take-le, take_at}
 use borrow.Author.Tests.{not-true, not-false}
 use Rattle.words.proofs.Writes.{put_whole}
@@ -13,7 +14,7 @@ use Rattle.board_solve.specs.Combination.{Combination}
 use Rattle.board_solve.proofs.Standing.{board_sizes}
 use Rattle.relay_calls.proofs.RelayRow.{none_outcome, some_outcome, frame_most}
 use Rattle.relay_calls.proofs.relay_row.Goals as goal
-use Rattle.relay_calls.proofs.relay_row.Goals.{After-combine_values, After-put, After-v-1, After-v-2-1, Else-not-find, Start}
+use Rattle.relay_calls.proofs.relay_row.Goals.{After-combine_values, After-put, Else-not-find, Start}
 
 -- the words of a call are a board
 board : (s : Start) → IsBoard s.args.board.now
@@ -30,24 +31,21 @@ some : (c : Else-not-find) → let a = c.args in
     Combination a.board.now a.wanted.now a.c.now true
 some c = subst (Combination _ _ _) (not-false c.find.result c.if-not-find.false-raw) c.find.ensures
 
--- the room for the values
-pub slice_bounds-combine_values-end : goal.slice_bounds-combine_values-end
-slice_bounds-combine_values-end c = sym (length-take-le _ _ (omega (arith, c.filled-v.ensures.0, (board (goal.at.slice_bounds-combine_values-end c).Start).words.1)))
+-- the values, as they are lent to be written
+abbrev values : After-combine_values → List ℕ
+values c = let s = c.of-header.result.s in take s (c.combine_values.new.v ++ drop s c.filled-v.result)
 
-pub combine_values-requires : goal.combine_values-requires
-combine_values-requires c = record { board = board (goal.at.combine_values-requires c).Start; long = (some (goal.at.combine_values-requires c).Else-not-find).long; values_long = sym (slice_bounds-combine_values-end (goal.at.combine_values-requires c).After-v-1) }
+values_are : (c : After-combine_values) → values c ≡ c.combine_values.new.v
+values_are c = take_at c.combine_values.new.v _ _ (c.combine_values.ensures.0 ∙ sym c.of-header.ensures.words)
 
-front-is : (c : After-combine_values) → (let s = values_word c.args.board.now in take s (c.combine_values.new.v ++ drop s c.filled-v.result)) ≡ c.combine_values.new.v
-front-is c = take_at c.combine_values.new.v _ _ c.combine_values.ensures.0
+values_long : (c : After-combine_values) → length (values c) ≡ values_word c.args.board.now
+values_long c = ap length (values_are c) ∙ c.combine_values.ensures.0
 
-front_long : (c : After-combine_values) → length (let s = values_word c.args.board.now in take s (c.combine_values.new.v ++ drop s c.filled-v.result)) ≡ values_word c.args.board.now
-front_long c = ap length (front-is c) ∙ c.combine_values.ensures.0
-
-pub slice_bounds-put-end : goal.slice_bounds-put-end
-slice_bounds-put-end c = sym (length-take-le _ _ (omega (arith, (some (goal.at.slice_bounds-put-end c).Else-not-find).long, c.requires.findable.row.long, (board_sizes _ (board (goal.at.slice_bounds-put-end c).Start)).1)))
-
-pub put-requires : goal.put-requires
-put-requires c = omega (arith, slice_bounds-put-end (goal.at.put-requires c).After-v-2-1, c.requires.mix_long, c.requires.findable.row.long)
+-- the front of c is as long as the wanted row
+fits : (c : Else-not-find) → let a = c.args in length a.wanted.now ≡ length (take (length a.wanted.now) a.c.now)
+fits c =
+    let b = c.requires.findable.candidate.inverse.board in
+    sym (length-take-le _ _ (omega (arith, (some c).long, c.requires.findable.row.long, (board_sizes _ b).1)))
 
 -- `put` has filled the mix with c's numbers
 mix_written : (c : After-put) → length c.args.wanted.now ≡ length (take (length c.args.wanted.now) c.args.c.now) → let a = c.args in
@@ -57,30 +55,17 @@ mix_written c fits =
     put_whole _ c.args.mix.now _ e.0 (c.requires.mix_long ∙ sym c.requires.findable.row.long ∙ fits) e.1
     ∙ ap (λ n. take n c.args.c.now) c.requires.findable.row.long
 
-pub slice_bounds-v-end-2 : goal.slice_bounds-v-end-2
-slice_bounds-v-end-2 c =
-    let s = values_word c.args.board.now in
-    omega (arith, length-append c.combine_values.new.v (drop s c.filled-v.result), c.combine_values.ensures.0)
-
-pub slice_bounds-write_frame-end : goal.slice_bounds-write_frame-end
-slice_bounds-write_frame-end c = sym (front_long (goal.at.slice_bounds-write_frame-end c).After-combine_values)
-
-pub write_frame-length-requires : goal.write_frame-length-requires
-write_frame-length-requires c =
-    let row = c.requires.findable.row.long in
-    let b = board (goal.at.write_frame-length-requires c).Start in (
-      omega (arith, row, b.size.0),
-      omega (arith, row, b.size.1),
-      refl,
-      omega (arith, front_long (goal.at.write_frame-length-requires c).After-combine_values, b.words.1),
-      c.requires.bytes_long ∙ ap longest (sym (front_long (goal.at.write_frame-length-requires c).After-combine_values)),
-    )
-
 pub overflow_cast-length : goal.overflow_cast-length
 unfolding longest
-overflow_cast-length c = omega (arith, c.write_frame-length.ensures.end, frame_most _ _ _ _ _ c.requires (let s = values_word c.args.board.now in take s (c.combine_values.new.v ++ drop s c.filled-v.result)) (front_long (goal.at.overflow_cast-length c).After-combine_values), (board (goal.at.overflow_cast-length c).Start).words.1)
+overflow_cast-length c =
+    let at = (goal.at.overflow_cast-length c).After-combine_values in
+    let written = rw c.of-header.ensures.modulus at c.write_frame-length.ensures.end in
+    omega (arith, frame_most _ _ _ _ _ c.requires (values at) (values_long at), (board (goal.at.overflow_cast-length c).Start).words.1)
 
 pub returns : goal.returns
 returns c =
-    some_outcome _ _ _ _ _ c.requires (some (goal.at.returns c).Else-not-find) (let s = values_word c.args.board.now in take s (c.combine_values.new.v ++ drop s c.filled-v.result)) (front_long (goal.at.returns c).After-combine_values)
-    (λ i h. ap (λ xs. get_or xs i 0) (front-is (goal.at.returns c).After-combine_values) ∙ c.combine_values.ensures.1 i h) _ _ _ (mix_written (goal.at.returns c).After-put (slice_bounds-put-end (goal.at.returns c).After-v-2-1)) c.write_frame-length.ensures
+    let at = (goal.at.returns c).After-combine_values in
+    let past = (goal.at.returns c).Else-not-find in
+    some_outcome _ _ _ _ _ c.requires (some past) (values at) (values_long at)
+    (λ i h. ap (λ xs. get_or xs i 0) (values_are at) ∙ c.combine_values.ensures.1 i h) _ _ _
+    (mix_written (goal.at.returns c).After-put (fits past)) (rw c.of-header.ensures.modulus at c.write_frame-length.ensures)

@@ -7,4 +7,4 @@ use Rattle.board_solve.specs.Records.{NumbersPut, worked_place}
 use Rattle.board_solve.proofs.records.put_words.Given as goal
 
 abbrev pub invariant-loop-u : goal.invariant-loop-u
-invariant-loop-u l = NumbersPut l.at l.u (λ w. reading l.p l.low (get_or l.e (worked_place l.n l.s l.row (l.n + w)) 0)) l.initial.numbers l.numbers
+invariant-loop-u l = NumbersPut l.at l.u (λ w. reading l.header.p l.low (get_or l.e (worked_place l.header.n l.header.s l.row (l.header.n + w)) 0)) l.initial.numbers l.numbers

@@ -10,14 +10,17 @@ pub loop-j-preserved : goal.loop-j-preserved
 loop-j-preserved c =
     let l = c.loop-j in
     let a = c.args in
-    let inside = c.loop-j-test.true in
+    let e = c.of-header.ensures in
+    let inside = rw e.records at c.loop-j-test.true in
+    let by_pivot = rw e.rows at c.rows_by_pivot-rows.ensures in
+    let unit = rw (e.records, e.words) at c.settled.ensures in
     elim c.if-settled.branch [
       | then-settled w ↦ rw (w.marks-is, w.numbers-is)
-          (turn_shown a.board.now a.e.now a.pivots.now _ c.requires.reduced c.rows_by_pivot-rows.ensures a.low l.j l.marks l.numbers _
-          inside l.invariant (c.settled.ensures.0 w.if-settled.true) w.put_words.ensures)
+          (turn_shown a.board.now a.e.now a.pivots.now _ c.requires.reduced by_pivot a.low l.j l.marks l.numbers _
+          inside l.invariant (unit.0 w.if-settled.true) (rw (e.modulus, e.records, e.words) at w.put_words.ensures))
       | else-settled w ↦ rw (w.marks-is, w.numbers-is)
-          (turn_hidden a.board.now a.e.now a.pivots.now _ c.requires.reduced c.rows_by_pivot-rows.ensures a.low l.j l.marks l.numbers _
-          inside l.invariant (c.settled.ensures.1 w.if-settled.false) w.clear_words.ensures)
+          (turn_hidden a.board.now a.e.now a.pivots.now _ c.requires.reduced by_pivot a.low l.j l.marks l.numbers _
+          inside l.invariant (unit.1 w.if-settled.false) (rw e.words at w.clear_words.ensures))
     ]
 
 pub returns : goal.returns

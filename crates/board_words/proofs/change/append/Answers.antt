@@ -12,22 +12,20 @@ use Rattle.board_words.proofs.ChangeRows.{put_appended}
 use Rattle.board_words.proofs.change.append.Goals as goal
 use Rattle.board_words.proofs.change.append.Goals.{Start}
 
--- the values lie in the words, behind the header
-place : (s : Start) → let n = length s.args.f.now in
-    let w = length s.args.v.now in
-    let v = value_start n w s.args.k in
-    (v + w ≤ length s.args.board.now) × (header_length ≤ v)
+-- the values lie in the words, behind the row and the header
+place : (s : Start) → let h = s.args.header in
+    let v = value_start h.n h.s h.k in
+    (v + h.s ≤ length s.args.board.now) × (header_length + h.n ≤ v)
 place s =
-    let n = length s.args.f.now in
-    let w = length s.args.v.now in
-    let k = s.args.k in
-    let e = value_behind n w k in (omega (arith, value_last n w k, s.requires.3), omega (arith, row_behind n w k))
+    let h = s.args.header in
+    (omega (arith, value_last h.n h.s h.k, s.requires.2), omega (arith, value_behind h.n h.s h.k, row_behind h.n h.s h.k))
 
 pub put-requires : goal.put-requires
-put-requires c = omega (arith, c.row_start-at.ensures, (place (goal.at.put-requires c).Start).0, value_behind (length c.args.f.now) (length c.args.v.now) c.args.k)
+put-requires c =
+    let h = c.args.header in omega (arith, (place (goal.at.put-requires c).Start).0, value_behind h.n h.s h.k)
 
 pub put-requires-2 : goal.put-requires-2
-put-requires-2 c = omega (arith, c.value_start-end.ensures, (place (goal.at.put-requires-2 c).Start).0, c.put.ensures.0)
+put-requires-2 c = omega (arith, (place (goal.at.put-requires-2 c).Start).0, c.put.ensures.0)
 
 pub bounds-board-2 : goal.bounds-board-2
 bounds-board-2 c =
@@ -40,6 +38,7 @@ shape_of-board c = simp length-set (c.put-2.ensures.0 ∙ c.put.ensures.0)
 pub returns : goal.returns
 returns c =
     let a = c.args in
+    let h = a.header in
     let e = c.put.ensures in
     let g = c.put-2.ensures in
     let mid = c.put.new.out in
@@ -48,5 +47,6 @@ returns c =
     record { long = e.0; passed = e.1; front = e.2; behind = e.3 } in
     let values : Put a.v.now c.value_start-end.result (length a.v.now) mid late =
     record { long = g.0; passed = g.1; front = g.2; behind = g.3 } in
-    rw (add-one a.k)
-    (put_appended _ _ a.k a.f.now a.v.now _ mid late (rw c.row_start-at.ensures at row) (rw c.value_start-end.ensures at values) c.requires.3)
+    rw (add-one h.k)
+    (put_appended _ _ h.k a.f.now a.v.now _ mid late (rw (c.row_start-at.ensures, c.requires.0) at row)
+    (rw (c.value_start-end.ensures, c.requires.1) at values) c.requires.2)

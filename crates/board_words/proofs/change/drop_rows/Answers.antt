@@ -10,11 +10,11 @@ use Rattle.board_words.proofs.change.drop_rows.Goals.{After-row_start-end}
 -- the part is one, and lies behind the header
 part : (c : After-row_start-end) → (c.row_start-from.result ≤ c.row_start-end.result) × (header_length ≤ c.row_start-from.result) × (c.row_start-from.result ≤ largest_board)
 part c =
-    let a = c.args in
-    let from = c.row_start-from.ensures in (
-      omega (arith, c.row_start-end.ensures, row_later a.n a.s a.m a.k c.requires.3),
-      omega (arith, row_behind a.n a.s a.m),
-      omega (arith, row_most a.n a.s c.requires.0 c.requires.1 a.m (omega arith)),
+    let h = c.args.header in
+    let m = c.args.m in (
+      omega (arith, row_later h.n h.s m h.k c.requires.0),
+      omega (arith, row_behind h.n h.s m),
+      omega (arith, row_most h.n h.s h.few_records h.few_words m (omega arith)),
     )
 
 pub offset_bounds-board-from : goal.offset_bounds-board-from
@@ -27,13 +27,13 @@ pub slice_bounds-clear-start : goal.slice_bounds-clear-start
 slice_bounds-clear-start c = (part (goal.at.slice_bounds-clear-start c).After-row_start-end).0
 
 pub bounds-board-2 : goal.bounds-board-2
-bounds-board-2 c = omega (arith, row_behind c.args.n c.args.s c.args.k, c.requires.4)
+bounds-board-2 c = let h = c.args.header in omega (arith, row_behind h.n h.s h.k)
 
 pub returns : goal.returns
 returns c =
-    let a = c.args in
+    let h = c.args.header in
     let from = c.row_start-from.ensures in
     let end = c.row_start-end.ensures in
     rw (from, end)
-    (rows_dropped a.n a.s a.k a.m a.board.now c.clear.new.xs c.requires.3 c.requires.4
+    (rows_dropped h.n h.s h.k c.args.m c.args.board.now c.clear.new.xs c.requires.0 c.requires.1
     (rw (from, end) at c.clear.ensures.0) c.clear.ensures.1)

@@ -1,11 +1,11 @@
 -- `board_words::test::is_laid_out` meets its contract: the header's clauses, and past them how the words are filled.
-use Rattle.board_words.specs.Tested.{Header}
+use Rattle.board_words.specs.Tested.{HasHeader}
 use Rattle.algebra.proofs.Answers.{tells_no, tells_same, guard_left, guard_taken}
 use Rattle.board_words.proofs.test.is_laid_out.Goals as goal
 use Rattle.board_words.proofs.test.is_laid_out.Goals.{Else-not-has_header}
 
 -- past the first part of the test
-header : (c : Else-not-has_header) → Header c.args.board.now
+header : (c : Else-not-has_header) → HasHeader c.args.board.now
 header c = guard_left c.has_header.ensures c.if-not-has_header.false-raw
 
 pub returns-then-not-has_header : goal.returns-then-not-has_header
