@@ -6,9 +6,6 @@ pub pivot_row-a-requires : goal.pivot_row-a-requires
 pivot_row-a-requires c =
     let s = c.requires in
     record {
-      positive = s.positive;
-      in_range = s.in_range;
-      powers = s.powers;
       pivots_in = s.pivots_in;
       near = omega (arith, s.near);
       ready = s.ready;
@@ -21,9 +18,6 @@ pub pivot_row-b-requires : goal.pivot_row-b-requires
 pivot_row-b-requires c =
     let s = c.requires in
     record {
-      positive = s.positive;
-      in_range = s.in_range;
-      powers = s.powers;
       pivots_in = s.pivots_in;
       near = omega (arith, s.near);
       ready = s.ready;
@@ -36,9 +30,6 @@ pub pivot_row-c-requires : goal.pivot_row-c-requires
 pivot_row-c-requires c =
     let s = c.requires in
     record {
-      positive = s.positive;
-      in_range = s.in_range;
-      powers = s.powers;
       pivots_in = s.pivots_in;
       near = omega (arith, s.near);
       ready = s.ready;
@@ -51,9 +42,6 @@ pub pivot_row-d-requires : goal.pivot_row-d-requires
 pivot_row-d-requires c =
     let s = c.requires in
     record {
-      positive = s.positive;
-      in_range = s.in_range;
-      powers = s.powers;
       pivots_in = s.pivots_in;
       near = omega (arith, s.near);
       ready = s.ready;

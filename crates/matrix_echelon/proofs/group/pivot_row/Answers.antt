@@ -3,18 +3,16 @@ use mathlib.Core.Path.{refl}
 use mathlib.Core.List.{List}
 use Prim.Native.Nat.{ℕ, ◌<◌}
 use native.Mathlib.Omega.{arith}
+use Rattle.matrix_mul.specs.declared.limbs.Limbs.{Limbs}
 use Rattle.matrix_echelon.specs.Group.{PivotReadable, PivotRoom}
 use Rattle.matrix_echelon.proofs.WorkedClear.{row_inside}
 use Rattle.matrix_echelon.proofs.group.pivot_row.Goals as goal
 
 -- the pivot of every worked row can be read
-readable : {p once twice width r t : ℕ} {pivots lo hi : List ℕ} → PivotRoom p once twice width r t pivots lo hi → (k : ℕ) → k < r
-    → PivotReadable p once twice k pivots hi
+readable : {width r t : ℕ} {pivots : List ℕ} {limbs : Limbs} → PivotRoom width r t pivots limbs → (k : ℕ) → k < r
+    → PivotReadable k pivots limbs
 readable s k h =
     record {
-      positive = s.positive;
-      in_range = s.in_range;
-      powers = s.powers;
       one_of = omega (arith, s.pivots_in.long, s.pivots_in.few);
       inside = omega (arith, s.pivots_in.inside k h, s.pivots_in.narrow);
       fits = s.ready.fits_hi _ (s.pivots_in.inside k h);
@@ -45,7 +43,7 @@ overflow_add-result-2 c = omega (arith, c.requires.near)
 pub returns : goal.returns
 returns c =
     record {
-      below = c.requires.positive;
+      below = c.args.powers.positive;
       place = λ h. absurd (omega (arith, c.if-t-rank.false));
       multiplier = λ h. absurd (omega (arith, c.if-t-rank.false));
       first = λ h. refl;
