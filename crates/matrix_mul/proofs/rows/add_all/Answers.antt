@@ -47,9 +47,6 @@ fold_into-requires c =
     let pre = c.requires.0 in
     held_ready (omega (arith, l.invariant.0, pre.few)) pre.narrow l.invariant.1
 
-pub shape_of-out : goal.shape_of-out
-shape_of-out c = c.fold_into.ensures.long
-
 pub returns : goal.returns
 returns c =
     let l = c.loop-t in

@@ -13,9 +13,6 @@ overflow_add-self c =
     let j = c.loop-j.j in
     word_fits _ _ (c.requires.fits_lo j (omega arith)) (search rules)
 
-pub folded-requires : goal.folded-requires
-folded-requires c = c.requires.fits_hi c.loop-j.j (omega arith)
-
 pub loop-j-preserved : goal.loop-j-preserved
 unfolding summed_number whole_at
 loop-j-preserved c =

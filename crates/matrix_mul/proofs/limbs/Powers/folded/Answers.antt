@@ -1,8 +1,7 @@
 -- `matrix_mul::limbs::Powers::folded` meets its contract: the parts of the number are put together with 2^32 and 2^64 modulo p.
-use native.Mathlib.Omega.{arith}
 use Rattle.field.specs.Residue.{reduce}
 use Rattle.field.specs.Limbs.{low, high}
-use Rattle.field.proofs.Limbs.{high_fits, mod_fits}
+use Rattle.field.proofs.Limbs.{high_fits}
 use Rattle.matrix_mul.proofs.Powers.{high_fits_times, low_fits_times, two_fit_times, three_fit_times, folded_mod}
 use Rattle.matrix_mul.proofs.limbs.Powers.folded.Goals as goal
 use Rattle.matrix_mul.proofs.limbs.Powers.folded.Goals.{Start}
@@ -26,9 +25,6 @@ overflow_add-x c = two_fit_times c.args.self _ c.args.lo (overflow_add-top (goal
 pub overflow_add-x-2 : goal.overflow_add-x-2
 unfolding low high
 overflow_add-x-2 c = three_fit_times c.args.self _ c.args.lo (overflow_add-top (goal.at.overflow_add-x-2 c).Start)
-
-pub overflow_cast-result-2 : goal.overflow_cast-result-2
-overflow_cast-result-2 c = mod_fits c.args.self.p _ c.args.self.positive (omega (arith, c.args.self.in_range))
 
 pub returns : goal.returns
 unfolding low high reduce
