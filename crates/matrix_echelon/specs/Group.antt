@@ -2,16 +2,18 @@
 use Rattle.std.specs.Prelude.{◌≡◌, List, ℕ, ◌+◌, ◌*◌, ◌/◌, ◌≤◌, ◌<◌, length, get_or}
 use Rattle.algebra.specs.Matrix.{Vector, Matrix, unit}
 use Rattle.algebra.specs.Echelon.{Cleared, Leading}
-use Rattle.words.specs.Lengths.{longest_row, most_carried, widest_row, widest_table}
+use Rattle.words.specs.Lengths.{longest_row, most_carried, widest_table}
 use Rattle.words.specs.Words.{Below}
 use Rattle.field.specs.Residue.{reduce, residues, negated}
-use Rattle.field.specs.Limbs.{limb_base, LimbFits}
+use Rattle.field.specs.Limbs.{limb_base}
 use Rattle.matrix_mul.specs.declared.limbs.Limbs.{Limbs}
 use Rattle.matrix_mul.specs.declared.rows.Row.{Row}
 use Rattle.matrix_mul.specs.declared.rows.Four.{Four}
 use Rattle.matrix_mul.specs.Rows.{Ready, whole_at}
 use Rattle.matrix_echelon.specs.declared.Grid.{Grid}
+use Rattle.matrix_echelon.specs.declared.pivots.Pivots.{Pivots}
 use Rattle.matrix_echelon.specs.Grid.{grid_place}
+use Rattle.matrix_echelon.specs.Pivots.{PivotsInside}
 
 -- row i of a table that has columns can be read
 pub record NumbersReadable (g : Grid) (i : ℕ) (a : List ℕ) : Type 0 where
@@ -62,54 +64,30 @@ worked_rows p e width t j = reduce p (get_or e (t * width + j) 0)
 abbrev pub pivots_of : List ℕ → ℕ → ℕ
 pivots_of pivots t = get_or pivots t 0
 
--- the pivots of r worked rows lie in rows of `width` numbers
-pub record Pivots (width r : ℕ) (pivots : List ℕ) : Type 0 where
-  pub narrow : width ≤ widest_row
-  pub few : r ≤ longest_row
-  pub long : length pivots ≡ longest_row
-  pub inside : (t : ℕ) → t < r → get_or pivots t 0 < width
-
--- the pivot of row t is a place of the limbs
-pub record PivotReadable (t : ℕ) (pivots : List ℕ) (s : Limbs) : Type 0 where
-  pub one_of : t < length pivots
-  pub inside : get_or pivots t 0 < widest_row
-  pub fits : LimbFits (get_or s.hi (get_or pivots t 0) 0)
-
 -- the negative of the number at the pivot of row t
-pub record IsMultiplier (p t : ℕ) (pivots : List ℕ) (s : Limbs) (c : ℕ) : Type 0 where
+pub record IsMultiplier (p : ℕ) (v : Pivots) (t : ℕ) (s : Limbs) (c : ℕ) : Type 0 where
   pub below : c < p
-  pub negative : reduce p c ≡ negated (row_in p s (pivots_of pivots t))
-
--- what taking row t with its multiplier asks
-pub record PivotRoom (width r t : ℕ) (pivots : List ℕ) (s : Limbs) : Type 0 where
-  pub pivots_in : Pivots width r pivots
-  pub near : t ≤ longest_row + 3
-  pub ready : Ready width s
+  pub negative : reduce p c ≡ negated (row_in p s (pivots_of v.places.now t))
 
 -- the worked row t with its multiplier, or times 0
-pub record IsPivotRow (p width r t : ℕ) (pivots : List ℕ) (s : Limbs) (row : Row) : Type 0 where
+pub record IsPivotRow (p : ℕ) (v : Pivots) (t : ℕ) (s : Limbs) (row : Row) : Type 0 where
   pub below : row.times < p
-  pub place : t < r → row.at ≡ t * width
-  pub multiplier : t < r → reduce p row.times ≡ negated (row_in p s (pivots_of pivots t))
-  pub first : r ≤ t → row.at ≡ 0
-  pub no_multiplier : r ≤ t → row.times ≡ 0
+  pub place : t < v.rank → row.at ≡ t * v.width
+  pub multiplier : t < v.rank → reduce p row.times ≡ negated (row_in p s (pivots_of v.places.now t))
+  pub first : v.rank ≤ t → row.at ≡ 0
+  pub no_multiplier : v.rank ≤ t → row.times ≡ 0
 
 -- the same of the four rows from g on
-pub record GroupRoom (width r g : ℕ) (pivots : List ℕ) (s : Limbs) : Type 0 where
-  pub pivots_in : Pivots width r pivots
-  pub near : g ≤ longest_row
-  pub ready : Ready width s
+pub record GroupTaken (p : ℕ) (v : Pivots) (g : ℕ) (s : Limbs) (four : Four) : Type 0 where
+  pub row_a : IsPivotRow p v g s four.a
+  pub row_b : IsPivotRow p v (g + 1) s four.b
+  pub row_c : IsPivotRow p v (g + 2) s four.c
+  pub row_d : IsPivotRow p v (g + 3) s four.d
 
-pub record GroupTaken (p width r g : ℕ) (pivots : List ℕ) (s : Limbs) (four : Four) : Type 0 where
-  pub row_a : IsPivotRow p width r g pivots s four.a
-  pub row_b : IsPivotRow p width r (g + 1) pivots s four.b
-  pub row_c : IsPivotRow p width r (g + 2) pivots s four.c
-  pub row_d : IsPivotRow p width r (g + 3) pivots s four.d
-
--- no row of the group from g on has its pivot in front of v
-pub record NoPivotBefore (width r g : ℕ) (pivots : List ℕ) (v : ℕ) : Type 0 where
-  pub within : v ≤ width
-  pub least : (t : ℕ) → g ≤ t → t < g + 4 → t < r → v ≤ get_or pivots t 0
+-- no row of the group from g on has its pivot in front of `least`
+pub record NoPivotBefore (v : Pivots) (g least : ℕ) : Type 0 where
+  pub within : least ≤ v.width
+  pub none : (t : ℕ) → g ≤ t → t < g + 4 → t < v.rank → least ≤ get_or v.places.now t 0
 
 -- worked rows with room for all, below p
 pub record WorkedRoom (p : ℕ) (e : List ℕ) : Type 0 where
@@ -126,7 +104,7 @@ GroupsCleared p width r e pivots =
 pub record Clearable (p width r : ℕ) (e pivots : List ℕ) (s : Limbs) : Type 0 where
   pub proper : 1 < p
   pub room : WorkedRoom p e
-  pub pivots_in : Pivots width r pivots
+  pub pivots_in : PivotsInside width r pivots
   pub cleared : GroupsCleared p width r e pivots
   pub leading : Leading (residues p) r (worked_rows p e width) (pivots_of pivots)
   pub small : (j : ℕ) → j < width → get_or s.lo j 0 < limb_base

@@ -12,7 +12,8 @@ use Rattle.field.specs.Written.{numbers}
 use Rattle.matrix_mul.specs.Rows.{Each}
 use Rattle.matrix_echelon.specs.declared.Grid.{Grid}
 use Rattle.matrix_echelon.specs.Grid.{grid_of}
-use Rattle.matrix_echelon.specs.Group.{worked_rows, pivots_of, Pivots, WorkedRoom}
+use Rattle.matrix_echelon.specs.Pivots.{PivotsInside}
+use Rattle.matrix_echelon.specs.Group.{worked_rows, pivots_of, WorkedRoom}
 use Rattle.matrix_echelon.specs.Forward.{IsRank}
 
 -- r worked rows of `width` numbers and their pivots, of which row t is looked at
@@ -20,7 +21,7 @@ pub record Lookable (p width r t : ℕ) (e pivots : List ℕ) : Type 0 where
   pub positive : 0 < p
   pub in_range : p ≤ largest_modulus
   pub rows_in : WorkedRoom p e
-  pub pivots_in : Pivots width r pivots
+  pub pivots_in : PivotsInside width r pivots
   pub one_of : t < r
 
 -- the multipliers that make row t 0 at the pivots of the other rows

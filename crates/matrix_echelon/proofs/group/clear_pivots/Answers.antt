@@ -25,24 +25,19 @@ loop-g-init c = (
       (one_not_zero c.args.powers.p c.requires.proper) (λ j h. refl),
 )
 
-pub group_rows-four-requires : goal.group_rows-four-requires
-group_rows-four-requires c =
-    record {
-      pivots_in = c.requires.pivots_in;
-      near = omega (arith, c.loop-g-test.true, c.requires.pivots_in.few);
-      ready =
-          limbs_ready (omega (arith, c.loop-g-test.true, c.requires.pivots_in.few)) c.requires.pivots_in.narrow c.loop-g.invariant.2;
-    }
+pub group-four-requires : goal.group-four-requires
+group-four-requires c = (
+  omega (arith, c.loop-g-test.true, c.requires.pivots_in.few),
+  limbs_ready (omega (arith, c.loop-g-test.true, c.requires.pivots_in.few)) c.requires.pivots_in.narrow c.loop-g.invariant.2,
+)
 
 pub add_rows-requires : goal.add_rows-requires
-add_rows-requires c =
-    let positive = c.args.powers.positive in (
-      limbs_ready (omega (arith, c.loop-g-test.true, c.requires.pivots_in.few)) c.requires.pivots_in.narrow c.loop-g.invariant.2,
-      four_inside c.args.powers.p c.args.width c.args.rank c.args.e.now c.args.pivots.now positive c.args.powers.in_range c.requires.room
-          c.requires.pivots_in c.group_rows-four.ensures,
-      nothing_before c.args.powers.p c.args.width c.args.rank c.args.e.now c.args.pivots.now positive c.args.powers.in_range c.requires.room
-          c.requires.pivots_in c.group_rows-four.ensures c.least_pivot-from.ensures c.requires.leading,
-    )
+add_rows-requires c = (
+  limbs_ready (omega (arith, c.loop-g-test.true, c.requires.pivots_in.few)) c.requires.pivots_in.narrow c.loop-g.invariant.2,
+  four_inside c.args.powers.p c.args.e.now _ c.args.powers.positive c.args.powers.in_range c.requires.room c.group-four.ensures,
+  nothing_before c.args.powers.p c.args.e.now _ c.args.powers.positive c.args.powers.in_range c.requires.room c.group-four.ensures
+      c.least-from.ensures.within c.least-from.ensures.none c.requires.leading,
+)
 
 -- one group more
 turn : (c : After-add_rows) →
@@ -53,12 +48,11 @@ turn : (c : After-add_rows) →
     (worked_rows a.powers.p a.e.now a.width) (pivots_of a.pivots.now) (row_in a.powers.p c.add_rows.new.self)
 turn c =
     let a = c.args in
-    let l = c.loop-g in
-    let positive = a.powers.positive in (
-      limbs_more a.powers.p a.width a.rank a.e.now a.pivots.now positive c.args.powers.in_range c.requires.room c.requires.pivots_in
-          c.group_rows-four.ensures l.invariant.2 c.add_rows.ensures,
-      group_cleared a.powers.p a.width a.rank a.e.now a.pivots.now positive c.args.powers.in_range c.requires.room c.requires.pivots_in
-          c.group_rows-four.ensures c.requires.proper (l.g / 4) l.invariant.0 c.requires.cleared l.invariant.3 c.add_rows.ensures,
+    let l = c.loop-g in (
+      limbs_more a.powers.p a.e.now _ a.powers.positive a.powers.in_range c.requires.room c.group-four.ensures l.invariant.2
+          c.add_rows.ensures,
+      group_cleared a.powers.p a.e.now _ a.powers.positive a.powers.in_range c.requires.room c.group-four.ensures c.requires.proper
+          (l.g / 4) l.invariant.0 c.requires.cleared l.invariant.3 c.add_rows.ensures,
     )
 
 pub loop-g-preserved : goal.loop-g-preserved
