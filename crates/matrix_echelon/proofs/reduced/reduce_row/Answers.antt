@@ -3,7 +3,7 @@
 use mathlib.Core.Path.{◌≡◌, sym}
 use Prim.Native.Nat.{ℕ, ◌+◌, ◌-◌}
 use native.Mathlib.Omega.{arith}
-use Rattle.matrix_echelon.proofs.ReduceRow.{looked_inside, by_long, copy_long, combinable, passes, back_long, back_short, back_inside}
+use Rattle.matrix_echelon.proofs.ReduceRow.{by_long, copy_long, combinable, passes, back_long, back_short, back_inside}
 use Rattle.matrix_echelon.proofs.ReduceRow.{row_lessened}
 use Rattle.matrix_echelon.proofs.reduced.reduce_row.Goals as goal
 use Rattle.matrix_echelon.proofs.reduced.reduce_row.Goals.{Start}
@@ -13,25 +13,10 @@ abbrev from : (s : Start) → ℕ
 from s = s.args.from
 
 abbrev len : (s : Start) → ℕ
-len s = s.args.width - s.args.from
+len s = s.args.rows.width - s.args.from
 
-parts : (s : Start) → s.args.from + (s.args.width - s.args.from) ≡ s.args.width
+parts : (s : Start) → s.args.from + (s.args.rows.width - s.args.from) ≡ s.args.rows.width
 parts s = omega (arith, s.requires.within)
-
-pub overflow_mul-at : goal.overflow_mul-at
-overflow_mul-at c = omega (arith, looked_inside c.requires.lookable c.args.t c.requires.lookable.one_of)
-
-pub overflow_add-start : goal.overflow_add-start
-overflow_add-start c = omega (arith, looked_inside c.requires.lookable c.args.t c.requires.lookable.one_of, c.requires.within)
-
-pub overflow_sub-len : goal.overflow_sub-len
-overflow_sub-len c = c.requires.within
-
-pub copy-requires : goal.copy-requires
-copy-requires c = (
-  omega (arith, looked_inside c.requires.lookable c.args.t c.requires.lookable.one_of, parts (goal.at.copy-requires c).Start),
-  omega (arith, c.filled-x.ensures.0, c.requires.lookable.pivots_in.narrow),
-)
 
 pub slice_bounds-combine_listed-end : goal.slice_bounds-combine_listed-end
 slice_bounds-combine_listed-end c = sym (by_long (from (goal.at.slice_bounds-combine_listed-end c).Start) (len (goal.at.slice_bounds-combine_listed-end c).Start) c.requires.lookable (parts (goal.at.slice_bounds-combine_listed-end c).Start) c.multipliers-by.ensures c.filled-x.ensures c.copy.ensures)
@@ -61,15 +46,6 @@ pub put-requires : goal.put-requires
 put-requires c =
     back_inside (from (goal.at.put-requires c).Start) (len (goal.at.put-requires c).Start) c.requires.lookable (parts (goal.at.put-requires c).Start) c.multipliers-by.ensures c.filled-x.ensures c.copy.ensures
     c.combine_listed.new.out c.combine_listed.ensures
-
-pub bounds-pivots-t : goal.bounds-pivots-t
-bounds-pivots-t c = omega (arith, c.requires.lookable.pivots_in.long, c.requires.lookable.pivots_in.few, c.requires.lookable.one_of)
-
-pub overflow_cast-pivots : goal.overflow_cast-pivots
-overflow_cast-pivots c = omega (arith, c.requires.lookable.pivots_in.inside c.args.t c.requires.lookable.one_of, c.requires.lookable.pivots_in.narrow)
-
-pub write_unit-requires : goal.write_unit-requires
-write_unit-requires c = omega (arith, c.put.ensures.0, looked_inside c.requires.lookable c.args.t c.requires.lookable.one_of, c.requires.within)
 
 pub returns : goal.returns
 returns c =
