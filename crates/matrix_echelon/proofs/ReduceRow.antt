@@ -21,11 +21,11 @@ use Rattle.field.specs.Residue.{Residue, reduce, residues, ◌⊕◌, ◌⊗◌}
 use Rattle.field.specs.View.{line}
 use Rattle.field.specs.Products.{sum_of_products}
 use Rattle.field.proofs.Residues.{reduce_of_value, below_of_value}
-use Rattle.matrix_mul.specs.Rows.{Each, Combinable, CombinedInto, Passes}
+use Rattle.matrix_mul.specs.Rows.{Combinable, CombinedInto, Passes}
 use Rattle.matrix_mul.proofs.RowsTaken.{each_passes}
 use Rattle.matrix_echelon.specs.declared.pivots.Pivots.{Pivots}
 use Rattle.matrix_echelon.specs.Group.{worked_rows, pivots_of}
-use Rattle.matrix_echelon.specs.Reduced.{Lookable, Multipliers, UnitWritten, RowLessened}
+use Rattle.matrix_echelon.specs.Reduced.{Lookable, Reducible, Multipliers, UnitWritten, RowLessened}
 use Rattle.matrix_echelon.proofs.WorkedClear.{row_inside, row_before, put_below}
 
 -- the worked rows lie in the room
@@ -35,8 +35,14 @@ looked_inside {v = v} can s h =
     omega (arith, row_inside s v.width (omega (arith, v.placed.few)) v.placed.narrow, can.rows_in.long)
 
 -- the copy x of row t from `from` on, `len` numbers, in front of a longer list
-module _ (from len : ℕ) {p : ℕ} {v : Pivots} {t : ℕ} {e by room x : List ℕ} (can : Lookable p v t e) (parts : from + len ≡ v.width)
-    (found : Multipliers p v t e by) (empty : Zeros widest_row room) (copied : Copied e (t * v.width + from) len room x) where
+module _ {p : ℕ} {v : Pivots} {from t : ℕ} {next e by room x : List ℕ} (can : Reducible p v from t next e) (found : Multipliers p v t e by)
+    (empty : Zeros widest_row room) (copied : Copied e (t * v.width + from) (v.width - from) room x) where
+  abbrev len : ℕ
+  len = v.width - from
+
+  parts : from + len ≡ v.width
+  parts = omega (arith, can.within)
+
   pub by_long : length (take v.rank by) ≡ v.rank
   by_long = length-take-le v.rank by (omega (arith, found.long, v.placed.few))
 
@@ -47,18 +53,17 @@ module _ (from len : ℕ) {p : ℕ} {v : Pivots} {t : ℕ} {e by room x : List �
   pub combinable : Combinable p (take v.rank by) e (record { start = from; stride = v.width }) (take len x)
   combinable =
       record {
-        positive = can.positive;
-        in_range = can.in_range;
+        positive = can.lookable.positive;
+        in_range = can.lookable.in_range;
         few = omega (arith, by_long, v.placed.few);
         narrow = omega (arith, copy_long, v.placed.narrow, parts);
         by_below = taken_below p by v.rank found.below;
-        table_below = can.rows_in.below;
-        inside = λ s h. omega (arith, looked_inside can s (omega (arith, by_long)), copy_long, parts);
+        table_below = can.lookable.rows_in.below;
+        inside = λ s h. omega (arith, looked_inside can.lookable s (omega (arith, by_long)), copy_long, parts);
       }
 
-  pub passes : {next : List ℕ} → Each next
-      → Passes (length (take v.rank by)) next (record { start = from; stride = v.width }) (length (take len x)) e
-  passes each = each_passes (omega (arith, by_long, v.placed.few)) each
+  pub passes : Passes (length (take v.rank by)) next (record { start = from; stride = v.width }) (length (take len x)) e
+  passes = each_passes (omega (arith, by_long, v.placed.few)) can.through
 
   -- y is the row with the combination added
   module _ (y : List ℕ) (combined : CombinedInto p (take v.rank by) e from v.width (take len x) y) where
@@ -66,7 +71,7 @@ module _ (from len : ℕ) {p : ℕ} {v : Pivots} {t : ℕ} {e by room x : List �
     y_long = combined.0 ∙ copy_long
 
     y_below : Below p y
-    y_below j h = below_of_value can.positive (sum_at_lem j) (combined.1 j (omega (arith, combined.0)))
+    y_below j h = below_of_value can.lookable.positive (sum_at_lem j) (combined.1 j (omega (arith, combined.0)))
       where
         sum_at_lem : ℕ → Residue p
         sum_at_lem j = reduce p (get_or (take len x) j 0) ⊕ sum_of_products p (take v.rank by) e (from + j) v.width
@@ -82,7 +87,7 @@ module _ (from len : ℕ) {p : ℕ} {v : Pivots} {t : ℕ} {e by room x : List �
     back_short = omega (arith, length-append y (drop len x), y_long)
 
     pub back_inside : t * v.width + from + length (take len (y ++ drop len x)) ≤ length e
-    back_inside = omega (arith, back_long, looked_inside can t can.one_of, parts)
+    back_inside = omega (arith, back_long, looked_inside can.lookable t can.lookable.one_of, parts)
 
     copy_at : (j : ℕ) → j < len → reduce p (get_or (take len x) j 0) ≡ worked_rows p e v.width t (from + j)
     copy_at j h =
@@ -144,23 +149,23 @@ module _ (from len : ℕ) {p : ℕ} {v : Pivots} {t : ℕ} {e by room x : List �
       one_below true h = h
       one_below false h = omega arith
 
-      below : 1 < p → Below p e'
-      below proper q h = by_place (dec_lt q (t * v.width)) (dec_lt q (t * v.width + from))
+      below : Below p e'
+      below q h = by_place (dec_lt q (t * v.width)) (dec_lt q (t * v.width + from))
         where
           old : Below p e₁
-          old = put_below p y (t * v.width + from) e e₁ y_below can.rows_in.below put_row
+          old = put_below p y (t * v.width + from) e e₁ y_below can.lookable.rows_in.below put_row
 
           by_place : Dec (q < t * v.width) → Dec (q < t * v.width + from) → get_or e' q 0 < p
           by_place (yes l) b = rw (unit.before q l) (old q (omega (arith, unit.same_length)))
           by_place (no l) (yes b) =
               let place : t * v.width + (q - t * v.width) ≡ q = omega arith in
-              rw (sym place) (rw (unit.each (q - t * v.width) (omega arith)) (one_below (eqb (q - t * v.width) (get_or v.places.now t 0)) proper))
+              rw (sym place) (rw (unit.each (q - t * v.width) (omega arith)) (one_below (eqb (q - t * v.width) (get_or v.places.now t 0)) can.proper))
           by_place (no l) (no b) = rw (unit.behind q (omega arith)) (old q (omega (arith, unit.same_length)))
 
-      pub row_lessened : 1 < p → RowLessened p v from t e e'
-      row_lessened proper =
+      pub row_lessened : RowLessened p v from t e e'
+      row_lessened =
           record {
-            room = record { long = unit.same_length ∙ put_row.0 ∙ can.rows_in.long; below = below proper };
+            room = record { long = unit.same_length ∙ put_row.0 ∙ can.lookable.rows_in.long; below = below };
             row = λ j a h.
                 let place : from + (j - from) ≡ j = omega arith in
                 rw (sym place) (row (j - from) (omega (arith, parts)));
