@@ -87,7 +87,8 @@ module _ (p : ℕ) (e : List ℕ) (v : Pivots) (positive : 0 < p) (in_range : p 
 
     -- in front of the least pivot of the group its rows are 0
     pub nothing_before : {least : ℕ} → least ≤ v.width
-        → ((t : ℕ) → g ≤ t → t < g + 4 → t < v.rank → least ≤ pivots_of v.places.now t) → Leading (residues p) v.rank (worked_rows p e v.width) (pivots_of v.places.now)
+        → ((t : ℕ) → g ≤ t → t < g + 4 → t < v.rank → least ≤ pivots_of v.places.now t)
+        → Leading (residues p) v.rank (worked_rows p e v.width) (pivots_of v.places.now)
         → NothingBefore v.width least e four
     unfolding four_at product_at
     nothing_before {least} in_width none leading =

@@ -38,7 +38,7 @@ cleared_same {pivot = pivot} e b c =
       zeros_at = λ s h l. sym (e (pivot s) (b s h)) ∙ c.zeros_at s h l;
     }
 
-module _ (p n r : ℕ) (limbs : Limbs) (x e pivots x' : List ℕ) (s : Settleable p n r limbs x e pivots) (f : Summed p (whole_at limbs) x x') where
+module _ {p n r : ℕ} {limbs : Limbs} {x e pivots x' : List ℕ} (s : Settleable p n r limbs x e pivots) (f : Summed p (whole_at limbs) x x') where
   proper : 1 < p
   proper = modulus_proper s.is_modulus
 
@@ -66,7 +66,7 @@ module _ (p n r : ℕ) (limbs : Limbs) (x e pivots x' : List ℕ) (s : Settleabl
       }
 
   -- a pivot
-  module _ (v : ℕ) (l : LeastNonzero (take n x') v) where
+  module _ {v : ℕ} (l : LeastNonzero (take n x') v) where
     in_front : v < n
     in_front = omega (arith, l.within, length-take-le n x' (omega (arith, f.long, s.narrow)))
 

@@ -22,7 +22,7 @@ use Rattle.matrix_mul.specs.Rows.{NoLimbs, whole_at}
 use Rattle.matrix_mul.specs.declared.limbs.Limbs.{Limbs}
 use Rattle.matrix_echelon.specs.declared.Grid.{Grid}
 use Rattle.matrix_echelon.specs.Grid.{wide, Readable}
-use Rattle.matrix_echelon.specs.Group.{row_in, worked_rows, pivots_of, RowReadable, RowRead, Clearable, PivotsCleared}
+use Rattle.matrix_echelon.specs.Group.{row_in, worked_rows, pivots_of, RowRead, Clearable, PivotsCleared}
 use Rattle.matrix_echelon.specs.Forward.{Room, Settleable, RowSettled, Held, Workable}
 use Rattle.matrix_echelon.proofs.Groups.{one_not_zero}
 use Rattle.matrix_echelon.proofs.Settle.{modulus_proper}
@@ -63,7 +63,7 @@ held_follows {p} {g} {i} {a} {w} {step} {carried} {r} {e} {pivots} s full h =
     is_n : r ≡ g.columns
     is_n = omega (arith, rank_columns (residues p) L (one_not_zero p proper) h.worked)
 
-module _ (p : ℕ) (g : Grid) (i : ℕ) (a w : List ℕ) (step carried r : ℕ) (e pivots : List ℕ)
+module _ {p : ℕ} {g : Grid} {i : ℕ} {a w : List ℕ} {step carried r : ℕ} {e pivots : List ℕ}
     (s : Workable p g i a w step carried r e pivots) where
   proper : 1 < p
   proper = modulus_proper s.readable.table.is_modulus
@@ -74,20 +74,7 @@ module _ (p : ℕ) (g : Grid) (i : ℕ) (a w : List ℕ) (step carried r : ℕ) 
   worked : Worked (residues p) i g.columns (g.columns + carried) (wide p g a w step) r (worked_rows p e (g.columns + carried)) (pivots_of pivots)
   worked = s.held.worked
 
-  pub row_readable : RowReadable g i a w step carried
-  row_readable =
-      record {
-        numbers =
-            record {
-              some = omega (arith, s.free);
-              narrow = s.readable.table.columns_most;
-              inside = λ j h. s.readable.table.inside i j s.in_table h;
-            };
-        carried_most = s.readable.carried_most;
-        carried_inside = λ u h. omega (arith, s.readable.reaches u h i s.in_table);
-      }
-
-  module _ (none limbs : Limbs) (z : NoLimbs none) (l : RowRead g i a w step carried none limbs) where
+  module _ {none limbs : Limbs} (z : NoLimbs none) (l : RowRead g i a w step carried none limbs) where
     no_high : (j : ℕ) → get_or limbs.hi j 0 ≡ 0
     no_high j = ap (λ xs. get_or xs j 0) l.high ∙ z.high_zeros.1 j
 
@@ -128,7 +115,7 @@ module _ (p : ℕ) (g : Grid) (i : ℕ) (a w : List ℕ) (step carried r : ℕ) 
     room_long x y =
         length-take-le (g.columns + carried) x (omega (arith, y.0, s.readable.table.columns_most, s.readable.carried_most))
 
-    module _ (limbs' : Limbs) (c : PivotsCleared p (g.columns + carried) r e pivots limbs limbs') where
+    module _ {limbs' : Limbs} (c : PivotsCleared p (g.columns + carried) r e pivots limbs limbs') where
       pub settleable : (x : List ℕ) → Zeros widest_row x → Settleable p g.columns r limbs' (take (g.columns + carried) x) e pivots
       settleable x y =
           record {
