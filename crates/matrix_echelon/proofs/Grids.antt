@@ -25,7 +25,7 @@ use Rattle.field.proofs.Field.{residues_ring}
 use Rattle.field.proofs.Views.{blank_below}
 use Rattle.matrix_echelon.specs.declared.Grid.{Grid}
 use Rattle.matrix_echelon.specs.Grid.{grid_place, entry_of, grid_of, wide, TableReadable, Readable}
-use Rattle.matrix_echelon.specs.Group.{Pivots}
+use Rattle.matrix_echelon.specs.Pivots.{PivotsInside}
 use Rattle.matrix_echelon.specs.Forward.{Room, Held, IsRank}
 use Rattle.matrix_echelon.proofs.Groups.{one_not_zero}
 use Rattle.matrix_echelon.proofs.Settle.{modulus_proper}
@@ -121,7 +121,7 @@ module _ {p : ℕ} {g : Grid} {i : ℕ} {a w : List ℕ} {step carried r : ℕ} 
   pub pivot_in_columns : (t : ℕ) → t < r → get_or pivots t 0 < g.columns
   pivot_in_columns = pivot_below (residues p) L (one_not_zero p proper) h.worked
 
-  pub pivots_held : Pivots (g.columns + carried) r pivots
+  pub pivots_held : PivotsInside (g.columns + carried) r pivots
   pivots_held =
       record {
         narrow = omega (arith, s.table.columns_most, s.carried_most);

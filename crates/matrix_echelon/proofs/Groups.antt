@@ -21,58 +21,53 @@ use Rattle.field.specs.Limbs.{limb_base}
 use Rattle.field.proofs.Residues.{reduce_plus, reduce_times, reduce_zero, nonzero_of_positive}
 use Rattle.field.proofs.Field.{residues_ring}
 use Rattle.field.proofs.Limbs.{Within, within_zero, within_one, within_more, within_low, within_high, within_fits, whole_add, number_fits}
+use Rattle.matrix_mul.specs.declared.limbs.Limbs.{Limbs}
 use Rattle.matrix_mul.specs.declared.rows.Row.{Row}
 use Rattle.matrix_mul.specs.declared.rows.Four.{Four}
 use Rattle.matrix_mul.specs.Rows.{Short, Inside, FourInside, NothingBefore, Ready, Added, product_at, four_at, whole_at}
 use Rattle.matrix_mul.proofs.RowsTaken.{below_shorts, quarter_product, four_fit}
-use Rattle.matrix_echelon.specs.Group.{Pivots, WorkedRoom, IsPivotRow, GroupTaken, GroupsCleared, Clearable, row_in, worked_rows}
-use Rattle.matrix_echelon.specs.Group.{pivots_of, NoPivotBefore}
+use Rattle.matrix_echelon.specs.declared.pivots.Pivots.{Pivots}
+use Rattle.matrix_echelon.specs.Group.{WorkedRoom, IsPivotRow, GroupTaken, GroupsCleared, Clearable, row_in, worked_rows}
+use Rattle.matrix_echelon.specs.Group.{pivots_of}
 use Rattle.matrix_echelon.proofs.WorkedClear.{row_inside}
 
 -- 1 is not 0 modulo p
 pub one_not_zero : (p : ℕ) → 1 < p → reduce p 1 ≡ reduce p 0 → ⊥
 one_not_zero p h = nonzero_of_positive p 1 (omega arith) h
 
--- at their first `width` places the limbs are sums of at most k limbs
-pub record Limbs (k width : ℕ) (lo hi : List ℕ) : Type 0 where
-  pub long_lo : length lo ≡ widest_row
-  pub long_hi : length hi ≡ widest_row
-  pub low_within : (j : ℕ) → j < width → Within k (get_or lo j 0)
-  pub high_within : (j : ℕ) → j < width → Within k (get_or hi j 0)
+-- at their first `width` places s has sums of at most k limbs
+pub record LimbsWithin (k width : ℕ) (s : Limbs) : Type 0 where
+  pub low_within : (j : ℕ) → j < width → Within k (get_or s.lo j 0)
+  pub high_within : (j : ℕ) → j < width → Within k (get_or s.hi j 0)
 
-pub limbs_fresh : {p width r : ℕ} {e pivots lo hi : List ℕ} → Clearable p width r e pivots lo hi → Limbs 1 width lo hi
+pub limbs_fresh : {p width r : ℕ} {e pivots : List ℕ} {s : Limbs} → Clearable p width r e pivots s → LimbsWithin 1 width s
 limbs_fresh c =
     record {
-      long_lo = c.long_lo;
-      long_hi = c.long_hi;
       low_within = λ j h. within_one _ (c.small j (omega arith));
       high_within = λ j h. rw (c.fresh j) (within_more 0 1 0 (omega arith) within_zero);
     }
 
-pub limbs_ready : {k width : ℕ} {lo hi : List ℕ} → k ≤ limb_base → width ≤ widest_row → Limbs k width lo hi → Ready width lo hi
+pub limbs_ready : {k width : ℕ} {s : Limbs} → k ≤ limb_base → width ≤ widest_row → LimbsWithin k width s → Ready width s
 limbs_ready {k} b w l =
     record {
       small = w;
-      long_lo = l.long_lo;
-      long_hi = l.long_hi;
       fits_lo = λ j h. within_fits k _ b (l.low_within j h);
       fits_hi = λ j h. within_fits k _ b (l.high_within j h);
     }
 
-module _ (p width r : ℕ) (e pivots : List ℕ) (positive : 0 < p) (in_range : p ≤ largest_modulus) (room : WorkedRoom p e)
-    (ps : Pivots width r pivots) {g : ℕ} {lo hi : List ℕ} {four : Four}
-    (taken : GroupTaken p width r g pivots lo hi four)
+module _ (p : ℕ) (e : List ℕ) (v : Pivots) (positive : 0 < p) (in_range : p ≤ largest_modulus) (room : WorkedRoom p e)
+    {g : ℕ} {s : Limbs} {four : Four} (taken : GroupTaken p v g s four)
   where
     -- a row with its multiplier lies in the memory of the worked rows
-    row_inside_lem : {t : ℕ} {row : Row} → IsPivotRow p width r t pivots lo hi row → Inside width e row
+    row_inside_lem : {t : ℕ} {row : Row} → IsPivotRow p v t s row → Inside v.width e row
     unfolding Short
-    row_inside_lem {t} {row} i = record { short = omega (arith, i.below); in_table = place (dec_lt t r) }
+    row_inside_lem {t} {row} i = record { short = omega (arith, i.below); in_table = place (dec_lt t v.rank) }
       where
-        place : Dec (t < r) → row.at + width ≤ length e
-        place (yes h) = omega (arith, i.place h, room.long, row_inside t width (omega (arith, ps.few)) ps.narrow)
-        place (no h) = omega (arith, i.first (omega arith), room.long, ps.narrow)
+        place : Dec (t < v.rank) → row.at + v.width ≤ length e
+        place (yes h) = omega (arith, i.place h, room.long, row_inside t v.width (omega (arith, v.placed.few)) v.placed.narrow)
+        place (no h) = omega (arith, i.first (omega arith), room.long, v.placed.narrow)
 
-    pub four_inside : FourInside width e four
+    pub four_inside : FourInside v.width e four
     four_inside =
         record {
           table_short = below_shorts p e in_range room.below;
@@ -91,12 +86,14 @@ module _ (p width r : ℕ) (e pivots : List ℕ) (positive : 0 < p) (in_range : 
         (quarter_product _ _ i.third.short (i.table_short _)) (quarter_product _ _ i.fourth.short (i.table_short _)))
 
     -- in front of the least pivot of the group its rows are 0
-    pub nothing_before : {v : ℕ} → NoPivotBefore width r g pivots v → Leading (residues p) r (worked_rows p e width) (pivots_of pivots)
-        → NothingBefore width v e four
+    pub nothing_before : {least : ℕ} → least ≤ v.width
+        → ((t : ℕ) → g ≤ t → t < g + 4 → t < v.rank → least ≤ pivots_of v.places.now t)
+        → Leading (residues p) v.rank (worked_rows p e v.width) (pivots_of v.places.now)
+        → NothingBefore v.width least e four
     unfolding four_at product_at
-    nothing_before {v} l leading =
+    nothing_before {least} in_width none leading =
         record {
-          within = l.within;
+          within = in_width;
           nothing = λ j h.
               omega (
                 arith,
@@ -107,53 +104,51 @@ module _ (p width r : ℕ) (e pivots : List ℕ) (positive : 0 < p) (in_range : 
               );
         }
       where
-        product_none : {t : ℕ} {row : Row} → IsPivotRow p width r t pivots lo hi row → g ≤ t → t < g + 4 → (j : ℕ) → j < v
+        product_none : {t : ℕ} {row : Row} → IsPivotRow p v t s row → g ≤ t → t < g + 4 → (j : ℕ) → j < least
             → product_at e row j ≡ 0
-        product_none {t} {row} i a b j h = at (dec_lt t r)
+        product_none {t} {row} i a b j h = at (dec_lt t v.rank)
           where
-            at : Dec (t < r) → row.times * get_or e (row.at + j) 0 ≡ 0
+            at : Dec (t < v.rank) → row.times * get_or e (row.at + j) 0 ≡ 0
             at (yes k) =
-                let room_for = row_inside t width (omega (arith, ps.few)) ps.narrow in
-                let in_row : j < pivots_of pivots t = omega (arith, l.least t a b k) in
-                let none : get_or e (t * width + j) 0 ≡ 0 =
-                reduce_zero p _ (room.below _ (omega (arith, room.long, room_for, ps.inside t k))) (leading t j k in_row)
+                let room_for = row_inside t v.width (omega (arith, v.placed.few)) v.placed.narrow in
+                let in_row : j < pivots_of v.places.now t = omega (arith, none t a b k) in
+                let blank : get_or e (t * v.width + j) 0 ≡ 0 =
+                reduce_zero p _ (room.below _ (omega (arith, room.long, room_for, v.placed.inside t k))) (leading t j k in_row)
                 in
-                ap (λ q. row.times * get_or e (q + j) 0) (i.place k) ∙ ap (λ m. row.times * m) none ∙ mul-zero row.times
+                ap (λ q. row.times * get_or e (q + j) 0) (i.place k) ∙ ap (λ m. row.times * m) blank ∙ mul-zero row.times
             at (no k) = ap (λ m. m * get_or e (row.at + j) 0) (i.no_multiplier (omega arith)) ∙ zero-mul (get_or e (row.at + j) 0)
 
     -- the limbs with the group added
-    pub limbs_more : {k : ℕ} {los his : List ℕ} → Limbs k width lo hi → Added width (four_at e four) lo hi los his → Limbs (k + 1) width los his
+    pub limbs_more : {k : ℕ} {s' : Limbs} → LimbsWithin k v.width s → Added v.width (four_at e four) s s' → LimbsWithin (k + 1) v.width s'
     limbs_more {k} l a =
         record {
-          long_lo = a.long_lo ∙ l.long_lo;
-          long_hi = a.long_hi ∙ l.long_hi;
           low_within = λ j h. rw (a.low_at j h) (within_low k _ _ (l.low_within j h));
           high_within = λ j h. rw (a.high_at j h) (within_high k _ _ (l.high_within j h) (four_fits j));
         }
 
     -- what a row adds is its multiplier times the worked row
-    term : {t : ℕ} {row : Row} → IsPivotRow p width r t pivots lo hi row → (j : ℕ)
-        → reduce p (product_at e row j) ≡ reduce p row.times ⊗ worked_rows p e width t j
+    term : {t : ℕ} {row : Row} → IsPivotRow p v t s row → (j : ℕ)
+        → reduce p (product_at e row j) ≡ reduce p row.times ⊗ worked_rows p e v.width t j
     unfolding product_at
-    term {t} {row} i j = reduce_times p row.times _ ∙ at_row (dec_lt t r)
+    term {t} {row} i j = reduce_times p row.times _ ∙ at_row (dec_lt t v.rank)
       where
         L : IsCommutativeRing (residues p)
         L = residues_ring p positive
 
-        at_row : Dec (t < r)
-            → reduce p row.times ⊗ reduce p (get_or e (row.at + j) 0) ≡ reduce p row.times ⊗ worked_rows p e width t j
+        at_row : Dec (t < v.rank)
+            → reduce p row.times ⊗ reduce p (get_or e (row.at + j) 0) ≡ reduce p row.times ⊗ worked_rows p e v.width t j
         at_row (yes h) = ap (λ q. reduce p row.times ⊗ reduce p (get_or e (q + j) 0)) (i.place h)
         at_row (no h) =
             let none = i.no_multiplier (omega arith) in
             ap (λ c. reduce p c ⊗ reduce p (get_or e (row.at + j) 0)) none
             ∙ rings.zero_times (residues p) L (reduce p (get_or e (row.at + j) 0))
-            ∙ sym (rings.zero_times (residues p) L (worked_rows p e width t j))
-            ∙ ap (λ c. reduce p c ⊗ worked_rows p e width t j) (sym none)
+            ∙ sym (rings.zero_times (residues p) L (worked_rows p e v.width t j))
+            ∙ ap (λ c. reduce p c ⊗ worked_rows p e v.width t j) (sym none)
 
-    first_row_lem : IsPivotRow p width r (g + 0) pivots lo hi four.a
+    first_row_lem : IsPivotRow p v (g + 0) s four.a
     first_row_lem =
         let here : g ≡ g + 0 = omega arith in
-        subst (λ t. IsPivotRow p width r t pivots lo hi four.a) here taken.row_a
+        subst (λ t. IsPivotRow p v t s four.a) here taken.row_a
 
     -- the four multipliers
     multipliers : ℕ → Residue p
@@ -163,7 +158,7 @@ module _ (p width r : ℕ) (e pivots : List ℕ) (positive : 0 < p) (in_range : 
     multipliers (suc (suc (suc k))) = reduce p four.d.times
 
     -- the group adds the combination of its rows
-    combination : (j : ℕ) → reduce p (four_at e four j) ≡ mixed (residues p) 4 multipliers (λ k. worked_rows p e width (g + k)) j
+    combination : (j : ℕ) → reduce p (four_at e four j) ≡ mixed (residues p) 4 multipliers (λ k. worked_rows p e v.width (g + k)) j
     unfolding four_at mixed sum multipliers
     combination j =
         reduce_plus p (product_at e four.a j + product_at e four.b j + product_at e four.c j) (product_at e four.d j)
@@ -175,8 +170,8 @@ module _ (p width r : ℕ) (e pivots : List ℕ) (positive : 0 < p) (in_range : 
         (term taken.row_c j))
         (term taken.row_d j)
 
-    group_added : {los his : List ℕ} → Added width (four_at e four) lo hi los his
-        → GroupAdded (residues p) g width r (worked_rows p e width) (pivots_of pivots) (row_in p lo hi) (row_in p los his)
+    group_added : {s' : Limbs} → Added v.width (four_at e four) s s'
+        → GroupAdded (residues p) g v.width v.rank (worked_rows p e v.width) (pivots_of v.places.now) (row_in p s) (row_in p s')
     unfolding whole_at multipliers
     group_added a =
         record {
@@ -184,19 +179,19 @@ module _ (p width r : ℕ) (e pivots : List ℕ) (positive : 0 < p) (in_range : 
           at_pivot = at_pivot;
           beyond = beyond;
           sums = λ j h.
-              ap (reduce p) (rw (a.low_at j (omega arith), a.high_at j (omega arith)) (whole_add (get_or lo j 0) (get_or hi j 0) (four_at e four j)))
+              ap (reduce p) (rw (a.low_at j (omega arith), a.high_at j (omega arith)) (whole_add (get_or s.lo j 0) (get_or s.hi j 0) (four_at e four j)))
               ∙ reduce_plus p _ (four_at e four j)
-              ∙ ap (λ x. row_in p lo hi j ⊕ x) (combination j);
+              ∙ ap (λ x. row_in p s j ⊕ x) (combination j);
         }
       where
-        at_pivot : (k : ℕ) → k < 4 → g + k < r → multipliers k ≡ (residues p).minus (row_in p lo hi (pivots_of pivots (g + k)))
+        at_pivot : (k : ℕ) → k < 4 → g + k < v.rank → multipliers k ≡ (residues p).minus (row_in p s (pivots_of v.places.now (g + k)))
         at_pivot zero h l = first_row_lem.multiplier l
         at_pivot (suc zero) h l = taken.row_b.multiplier l
         at_pivot (suc (suc zero)) h l = taken.row_c.multiplier l
         at_pivot (suc (suc (suc zero))) h l = taken.row_d.multiplier l
         at_pivot (suc (suc (suc (suc k)))) h l = absurd (omega arith)
 
-        beyond : (k : ℕ) → k < 4 → r ≤ g + k → multipliers k ≡ reduce p 0
+        beyond : (k : ℕ) → k < 4 → v.rank ≤ g + k → multipliers k ≡ reduce p 0
         beyond zero h l = ap (reduce p) (first_row_lem.no_multiplier l)
         beyond (suc zero) h l = ap (reduce p) (taken.row_b.no_multiplier l)
         beyond (suc (suc zero)) h l = ap (reduce p) (taken.row_c.no_multiplier l)
@@ -204,13 +199,13 @@ module _ (p width r : ℕ) (e pivots : List ℕ) (positive : 0 < p) (in_range : 
         beyond (suc (suc (suc (suc k)))) h l = absurd (omega arith)
 
     -- the row is cleared at the pivots of one group more
-    pub group_cleared : (1 < p) → (q : ℕ) → g ≡ 4 * q → GroupsCleared p width r e pivots → {x : Vector (residues p)} {los his : List ℕ}
-        → ClearedTo (residues p) (4 * q) 0 width (λ i. x) r (worked_rows p e width) (pivots_of pivots) (row_in p lo hi)
-        → Added width (four_at e four) lo hi los his
-        → ClearedTo (residues p) (4 * (q + 1)) 0 width (λ i. x) r (worked_rows p e width) (pivots_of pivots) (row_in p los his)
-    group_cleared proper q at-q groups {x} {los} {his} c a =
+    pub group_cleared : (1 < p) → (q : ℕ) → g ≡ 4 * q → GroupsCleared p v.width v.rank e v.places.now → {x : Vector (residues p)} {s' : Limbs}
+        → ClearedTo (residues p) (4 * q) 0 v.width (λ i. x) v.rank (worked_rows p e v.width) (pivots_of v.places.now) (row_in p s)
+        → Added v.width (four_at e four) s s'
+        → ClearedTo (residues p) (4 * (q + 1)) 0 v.width (λ i. x) v.rank (worked_rows p e v.width) (pivots_of v.places.now) (row_in p s')
+    group_cleared proper q at-q groups {x} {s'} c a =
         let more : 4 * q + 4 ≡ 4 * (q + 1) = omega arith in
-        subst (λ k. ClearedTo (residues p) k 0 width (λ i. x) r (worked_rows p e width) (pivots_of pivots) (row_in p los his)) more
+        subst (λ k. ClearedTo (residues p) k 0 v.width (λ i. x) v.rank (worked_rows p e v.width) (pivots_of v.places.now) (row_in p s')) more
         (cleared.cleared_group (residues p) (residues_ring p positive) (one_not_zero p proper) q groups
-        (λ t h. omega (arith, ps.inside t h)) c
-        (subst (λ k. GroupAdded (residues p) k width r (worked_rows p e width) (pivots_of pivots) (row_in p lo hi) (row_in p los his)) at-q (group_added a)))
+        (λ t h. omega (arith, v.placed.inside t h)) c
+        (subst (λ k. GroupAdded (residues p) k v.width v.rank (worked_rows p e v.width) (pivots_of v.places.now) (row_in p s) (row_in p s')) at-q (group_added a)))

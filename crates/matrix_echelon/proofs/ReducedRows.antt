@@ -23,6 +23,7 @@ use Rattle.words.specs.Lengths.{longest_row}
 use Rattle.field.specs.Residue.{reduce, residues, ◌⊕◌}
 use Rattle.field.proofs.Field.{residues_ring}
 use Rattle.matrix_echelon.specs.declared.Grid.{Grid}
+use Rattle.matrix_echelon.specs.declared.pivots.Pivots.{Pivots}
 use Rattle.matrix_echelon.specs.Grid.{wide}
 use Rattle.matrix_echelon.specs.Group.{worked_rows, pivots_of, WorkedRoom}
 use Rattle.matrix_echelon.specs.Forward.{Held}
@@ -42,51 +43,51 @@ abbrev pub TakenBefore : (from r : ℕ) (pivots : List ℕ) → Type 0
 TakenBefore from r pivots = (j : ℕ) → j < from → (s : ℕ) × ((s < r) × (get_or pivots s 0 ≡ j))
 
 -- what is written in front of `from` is what the other rows make of the row there
-module _ {p width from r t m n : ℕ} {pivots e e' : List ℕ} {M : Matrix (residues p)} (proper : 1 < p)
-    (taken : TakenBefore from r pivots) (w : Worked (residues p) m n width M r (worked_rows p e width) (pivots_of pivots)) (l : t < r)
-    (after : ReducedFrom (residues p) (suc t) r (worked_rows p e width) (pivots_of pivots)) (h : RowLessened p width from r t pivots e e') where
+module _ {p : ℕ} {v : Pivots} {from t m n : ℕ} {e e' : List ℕ} {M : Matrix (residues p)} (proper : 1 < p)
+    (taken : TakenBefore from v.rank v.places.now) (w : Worked (residues p) m n v.width M v.rank (worked_rows p e v.width) (pivots_of v.places.now)) (l : t < v.rank)
+    (after : ReducedFrom (residues p) (suc t) v.rank (worked_rows p e v.width) (pivots_of v.places.now)) (h : RowLessened p v from t e e') where
   ring : IsCommutativeRing (residues p)
   ring = residues_ring p (omega (arith, proper))
 
-  unit_front : (j s : ℕ) → j < from → s < r → get_or pivots s 0 ≡ j → worked_rows p e' width t j ≡ unit (residues p) s t
+  unit_front : (j s : ℕ) → j < from → s < v.rank → get_or v.places.now s 0 ≡ j → worked_rows p e' v.width t j ≡ unit (residues p) s t
   unit_front j s b k at = ap (reduce p) (h.front j b) ∙ go (ℕ_discrete s t)
     where
-      go : Dec (s ≡ t) → reduce p (choose (eqb j (get_or pivots t 0)) 1 0) ≡ unit (residues p) s t
+      go : Dec (s ≡ t) → reduce p (choose (eqb j (get_or v.places.now t 0)) 1 0) ≡ unit (residues p) s t
       go (yes same) =
-          ap (λ c. reduce p (choose c 1 0)) (eq-eqb j (get_or pivots t 0) (sym at ∙ ap (λ q. get_or pivots q 0) same))
+          ap (λ c. reduce p (choose c 1 0)) (eq-eqb j (get_or v.places.now t 0) (sym at ∙ ap (λ q. get_or v.places.now q 0) same))
           ∙ sym (unit_same (residues p) t)
           ∙ ap (λ q. unit (residues p) q t) (sym same)
       go (no differs) =
           ap (λ c. reduce p (choose c 1 0))
-          (ne_eqb j (get_or pivots t 0) (λ same. differs (pivots_differ (residues p) ring (one_not_zero p proper) w s t k l (at ∙ same))))
+          (ne_eqb j (get_or v.places.now t 0) (λ same. differs (pivots_differ (residues p) ring (one_not_zero p proper) w s t k l (at ∙ same))))
           ∙ sym (unit_other (residues p) s t differs)
 
-  pub lessened_reduced : RowReduced (residues p) width r t (worked_rows p e width) (pivots_of pivots) (worked_rows p e' width)
+  pub lessened_reduced : RowReduced (residues p) v.width v.rank t (worked_rows p e v.width) (pivots_of v.places.now) (worked_rows p e' v.width)
   lessened_reduced = record { row = λ j b. row j b (dec_lt j from); rest = λ s j k d b. h.rest s j d b }
     where
-      row : (j : ℕ) → j < width → Dec (j < from)
-          → worked_rows p e' width t j
-          ≡ worked_rows p e width t j
-          ⊕ mixed (residues p) r (others (residues p) t (worked_rows p e width) (pivots_of pivots)) (worked_rows p e width) j
+      row : (j : ℕ) → j < v.width → Dec (j < from)
+          → worked_rows p e' v.width t j
+          ≡ worked_rows p e v.width t j
+          ⊕ mixed (residues p) v.rank (others (residues p) t (worked_rows p e v.width) (pivots_of v.places.now)) (worked_rows p e v.width) j
       row j b (no k) = h.row j (omega arith) b
       row j b (yes k) =
           let (s, (c, at)) = taken j k in
           unit_front j s k c at
           ∙ sym (others_at_pivot (residues p) ring (one_not_zero p proper) w l after s c)
           ∙ ap (λ q.
-          worked_rows p e width t q
-          ⊕ mixed (residues p) r (others (residues p) t (worked_rows p e width) (pivots_of pivots)) (worked_rows p e width) q) at
+          worked_rows p e v.width t q
+          ⊕ mixed (residues p) v.rank (others (residues p) t (worked_rows p e v.width) (pivots_of v.places.now)) (worked_rows p e v.width) q) at
 
 -- one row more
-pub reduced_more : {p width from r t : ℕ} {pivots e e' e'' : List ℕ} → 1 < p → 0 < t → t ≤ r → TakenBefore from r pivots
-    → RowsReduced p width r t pivots e e'
-    → RowLessened p width from r (t - 1) pivots e' e'' → RowsReduced p width r (t - 1) pivots e e''
-reduced_more {p} {width} {from} {r} {t} {pivots} {e} {e'} {e''} proper some most taken k h =
+pub reduced_more : {p : ℕ} {v : Pivots} {from t : ℕ} {e e' e'' : List ℕ} → 1 < p → 0 < t → t ≤ v.rank → TakenBefore from v.rank v.places.now
+    → RowsReduced p v.width v.rank t v.places.now e e'
+    → RowLessened p v from (t - 1) e' e'' → RowsReduced p v.width v.rank (t - 1) v.places.now e e''
+reduced_more {p} {v} {from} {t} {e} {e'} {e''} proper some most taken k h =
     record {
       room = h.room;
       rows = λ m n M w.
           let (w', after) = k.rows m n M w in
-          let later : ReducedFrom (residues p) (suc (t - 1)) r (worked_rows p e' width) (pivots_of pivots) = λ s q l b c. after s q l (omega arith) c in
+          let later : ReducedFrom (residues p) (suc (t - 1)) v.rank (worked_rows p e' v.width) (pivots_of v.places.now) = λ s q l b c. after s q l (omega arith) c in
           row_reduced (residues p) (residues_ring p (omega arith)) (one_not_zero p proper) w' (omega arith) later
           (lessened_reduced proper taken w' (omega arith) later h);
     }

@@ -17,6 +17,7 @@ use Rattle.field.specs.Residue.{reduce, residues}
 use Rattle.field.proofs.Residues.{reduce_of_value, below_of_value}
 use Rattle.field.proofs.Field.{residues_ring}
 use Rattle.matrix_mul.specs.Rows.{Summed, whole_at, summed_number}
+use Rattle.matrix_mul.specs.declared.limbs.Limbs.{Limbs}
 use Rattle.matrix_echelon.specs.Group.{row_in}
 use Rattle.matrix_echelon.specs.Worked.{Growable, RowGrown}
 use Rattle.matrix_echelon.specs.Forward.{Settleable, RowSettled}
@@ -37,24 +38,24 @@ cleared_same {pivot = pivot} e b c =
       zeros_at = λ s h l. sym (e (pivot s) (b s h)) ∙ c.zeros_at s h l;
     }
 
-module _ (p n r : ℕ) (lo hi x e pivots x' : List ℕ) (s : Settleable p n r lo hi x e pivots) (f : Summed p (whole_at lo hi) x x') where
+module _ {p n r : ℕ} {limbs : Limbs} {x e pivots x' : List ℕ} (s : Settleable p n r limbs x e pivots) (f : Summed p (whole_at limbs) x x') where
   proper : 1 < p
   proper = modulus_proper s.is_modulus
 
-  number_at : (j : ℕ) → j < length x → get_or x' j 0 ≡ (row_in p lo hi j).value
+  number_at : (j : ℕ) → j < length x → get_or x' j 0 ≡ (row_in p limbs j).value
   unfolding summed_number
   number_at j h =
-      f.summed_at j h ∙ ap (λ m. (reduce p (m + whole_at lo hi j)).value) (s.x_blank j)
+      f.summed_at j h ∙ ap (λ m. (reduce p (m + whole_at limbs j)).value) (s.x_blank j)
       ∙ ap (λ m. (reduce p m).value) (omega arith)
 
-  residue_at : (j : ℕ) → j < length x → reduce p (get_or x' j 0) ≡ row_in p lo hi j
-  residue_at j h = reduce_of_value (row_in p lo hi j) (number_at j h)
+  residue_at : (j : ℕ) → j < length x → reduce p (get_or x' j 0) ≡ row_in p limbs j
+  residue_at j h = reduce_of_value (row_in p limbs j) (number_at j h)
 
   row_below : Below p x'
-  row_below j h = below_of_value (omega (arith, proper)) (row_in p lo hi j) (number_at j (omega (arith, f.long)))
+  row_below j h = below_of_value (omega (arith, proper)) (row_in p limbs j) (number_at j (omega (arith, f.long)))
 
   -- no pivot: the row follows from those before it
-  pub settled_none : Blank (take n x') → RowSettled p n r lo hi x e pivots r e pivots
+  pub settled_none : Blank (take n x') → RowSettled p n r limbs x e pivots r e pivots
   settled_none blank =
       record {
         room = s.room;
@@ -65,7 +66,7 @@ module _ (p n r : ℕ) (lo hi x e pivots x' : List ℕ) (s : Settleable p n r lo
       }
 
   -- a pivot
-  module _ (v : ℕ) (l : LeastNonzero (take n x') v) where
+  module _ {v : ℕ} (l : LeastNonzero (take n x') v) where
     in_front : v < n
     in_front = omega (arith, l.within, length-take-le n x' (omega (arith, f.long, s.narrow)))
 
@@ -96,7 +97,7 @@ module _ (p n r : ℕ) (lo hi x e pivots x' : List ℕ) (s : Settleable p n r lo
         }
 
     pub settled_row : {e' pivots' : List ℕ} → RowGrown p x' v r e pivots e' pivots'
-        → RowSettled p n r lo hi x e pivots (r + 1) e' pivots'
+        → RowSettled p n r limbs x e pivots (r + 1) e' pivots'
     settled_row {e'} {pivots'} g =
         record {
           room = record { rows_in = g.room; pivots_long = g.pivots_long };

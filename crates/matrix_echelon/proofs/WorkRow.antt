@@ -18,10 +18,11 @@ use Rattle.field.specs.Residue.{reduce, residues}
 use Rattle.field.specs.Limbs.{whole}
 use Rattle.field.specs.View.{line}
 use Rattle.field.proofs.Field.{residues_ring}
-use Rattle.matrix_mul.specs.Rows.{whole_at}
+use Rattle.matrix_mul.specs.Rows.{NoLimbs, whole_at}
+use Rattle.matrix_mul.specs.declared.limbs.Limbs.{Limbs}
 use Rattle.matrix_echelon.specs.declared.Grid.{Grid}
 use Rattle.matrix_echelon.specs.Grid.{wide, Readable}
-use Rattle.matrix_echelon.specs.Group.{row_in, worked_rows, pivots_of, RowReadable, RowRead, Clearable, PivotsCleared}
+use Rattle.matrix_echelon.specs.Group.{row_in, worked_rows, pivots_of, RowRead, Clearable, PivotsCleared}
 use Rattle.matrix_echelon.specs.Forward.{Room, Settleable, RowSettled, Held, Workable}
 use Rattle.matrix_echelon.proofs.Groups.{one_not_zero}
 use Rattle.matrix_echelon.proofs.Settle.{modulus_proper}
@@ -62,7 +63,7 @@ held_follows {p} {g} {i} {a} {w} {step} {carried} {r} {e} {pivots} s full h =
     is_n : r ≡ g.columns
     is_n = omega (arith, rank_columns (residues p) L (one_not_zero p proper) h.worked)
 
-module _ (p : ℕ) (g : Grid) (i : ℕ) (a w : List ℕ) (step carried r : ℕ) (e pivots : List ℕ)
+module _ {p : ℕ} {g : Grid} {i : ℕ} {a w : List ℕ} {step carried r : ℕ} {e pivots : List ℕ}
     (s : Workable p g i a w step carried r e pivots) where
   proper : 1 < p
   proper = modulus_proper s.readable.table.is_modulus
@@ -73,51 +74,38 @@ module _ (p : ℕ) (g : Grid) (i : ℕ) (a w : List ℕ) (step carried r : ℕ) 
   worked : Worked (residues p) i g.columns (g.columns + carried) (wide p g a w step) r (worked_rows p e (g.columns + carried)) (pivots_of pivots)
   worked = s.held.worked
 
-  pub row_readable : RowReadable g i a w step carried
-  row_readable =
-      record {
-        numbers =
-            record {
-              some = omega (arith, s.free);
-              narrow = s.readable.table.columns_most;
-              inside = λ j h. s.readable.table.inside i j s.in_table h;
-            };
-        carried_most = s.readable.carried_most;
-        carried_inside = λ u h. omega (arith, s.readable.reaches u h i s.in_table);
-      }
+  module _ {none limbs : Limbs} (z : NoLimbs none) (l : RowRead g i a w step carried none limbs) where
+    no_high : (j : ℕ) → get_or limbs.hi j 0 ≡ 0
+    no_high j = ap (λ xs. get_or xs j 0) l.high ∙ z.high_zeros.1 j
 
-  module _ (lo hi : List ℕ) (l : RowRead g i a w step carried lo) (z : Zeros widest_row hi) where
-    pub clearable : Clearable p (g.columns + carried) r e pivots lo hi
+    pub clearable : Clearable p (g.columns + carried) r e pivots limbs
     clearable =
         record {
           proper = proper;
-          in_range = s.readable.table.is_modulus.in_range;
           room = s.held.room.rows_in;
           pivots_in = pivots_held s.readable s.held;
           cleared = worked.cleared;
           leading = s.held.leading;
-          long_lo = l.long;
-          long_hi = z.0;
           small = l.small;
-          fresh = z.1;
+          fresh = no_high;
         }
 
     -- the limbs stand for row i
-    row_there : (j : ℕ) → j < g.columns + carried → row_in p lo hi j ≡ wide p g a w step i j
+    row_there : (j : ℕ) → j < g.columns + carried → row_in p limbs j ≡ wide p g a w step i j
     unfolding whole_at whole line
     row_there j h = at (dec_lt j g.columns)
       where
-        only_low : whole (get_or lo j 0) (get_or hi j 0) ≡ get_or lo j 0
-        only_low = omega (arith, z.1 j)
+        only_low : whole (get_or limbs.lo j 0) (get_or limbs.hi j 0) ≡ get_or limbs.lo j 0
+        only_low = omega (arith, no_high j)
 
-        at : Dec (j < g.columns) → reduce p (whole (get_or lo j 0) (get_or hi j 0)) ≡ wide p g a w step i j
+        at : Dec (j < g.columns) → reduce p (whole (get_or limbs.lo j 0) (get_or limbs.hi j 0)) ≡ wide p g a w step i j
         at (yes b) = ap (reduce p) (only_low ∙ l.each j b) ∙ sym (wide_front p g a w step i j b)
         at (no b) =
             let u = j - g.columns in
             let e : j ≡ g.columns + u = omega arith in
             let place : i * step + u ≡ u + i * step = omega arith in
             ap (reduce p) only_low
-            ∙ ap (λ k. reduce p (get_or lo k 0)) e
+            ∙ ap (λ k. reduce p (get_or limbs.lo k 0)) e
             ∙ ap (reduce p) (l.behind u (omega arith) ∙ ap (λ q. get_or w q 0) place)
             ∙ sym (wide_carried p g a w step i u)
             ∙ ap (wide p g a w step i) (sym e)
@@ -127,8 +115,8 @@ module _ (p : ℕ) (g : Grid) (i : ℕ) (a w : List ℕ) (step carried r : ℕ) 
     room_long x y =
         length-take-le (g.columns + carried) x (omega (arith, y.0, s.readable.table.columns_most, s.readable.carried_most))
 
-    module _ (los his : List ℕ) (c : PivotsCleared p (g.columns + carried) r e pivots lo hi los his) where
-      pub settleable : (x : List ℕ) → Zeros widest_row x → Settleable p g.columns r los his (take (g.columns + carried) x) e pivots
+    module _ {limbs' : Limbs} (c : PivotsCleared p (g.columns + carried) r e pivots limbs limbs') where
+      pub settleable : (x : List ℕ) → Zeros widest_row x → Settleable p g.columns r limbs' (take (g.columns + carried) x) e pivots
       settleable x y =
           record {
             is_modulus = s.readable.table.is_modulus;
@@ -145,7 +133,7 @@ module _ (p : ℕ) (g : Grid) (i : ℕ) (a w : List ℕ) (step carried r : ℕ) 
           blank : Blank (take (g.columns + carried) x)
           blank = blank_inside (take (g.columns + carried) x) (λ j b. get_or-take (g.columns + carried) x j 0 (omega (arith, wide_long)) ∙ y.1 j)
 
-      row_cleared : Cleared (residues p) i (g.columns + carried) (wide p g a w step) r (worked_rows p e (g.columns + carried)) (pivots_of pivots) (row_in p los his)
+      row_cleared : Cleared (residues p) i (g.columns + carried) (wide p g a w step) r (worked_rows p e (g.columns + carried)) (pivots_of pivots) (row_in p limbs')
       row_cleared =
           record {
             by = c.cleared.by;
@@ -155,7 +143,7 @@ module _ (p : ℕ) (g : Grid) (i : ℕ) (a w : List ℕ) (step carried r : ℕ) 
           }
 
       pub row_worked : (x : List ℕ) → Zeros widest_row x → {r' : ℕ} {e' pivots' : List ℕ}
-          → RowSettled p g.columns r los his (take (g.columns + carried) x) e pivots r' e' pivots' → Held p g (suc i) a w step carried r' e' pivots'
+          → RowSettled p g.columns r limbs' (take (g.columns + carried) x) e pivots r' e' pivots' → Held p g (suc i) a w step carried r' e' pivots'
       row_worked x y t =
           record {
             room = t.room;

@@ -8,6 +8,7 @@ use Rattle.words.specs.Lengths.{longest_row}
 use Rattle.words.specs.Words.{Blank}
 use Rattle.field.specs.Residue.{residues}
 use Rattle.matrix_mul.specs.Rows.{Ready}
+use Rattle.matrix_mul.specs.declared.limbs.Limbs.{Limbs}
 use Rattle.matrix_echelon.specs.declared.Grid.{Grid}
 use Rattle.matrix_echelon.specs.Grid.{grid_of, wide, Readable}
 use Rattle.matrix_echelon.specs.Group.{row_in, worked_rows, pivots_of, WorkedRoom}
@@ -18,21 +19,21 @@ pub record Room (p : ℕ) (e pivots : List ℕ) : Type 0 where
   pub pivots_long : length pivots ≡ longest_row
 
 -- limbs of a row of n numbers and the carried ones, and the room x for it beside that for the worked rows
-pub record Settleable (p n r : ℕ) (lo hi x e pivots : List ℕ) : Type 0 where
+pub record Settleable (p n r : ℕ) (s : Limbs) (x e pivots : List ℕ) : Type 0 where
   pub is_modulus : IsModulus p
   pub narrow : n ≤ length x
   pub few : r < longest_row
-  pub ready : Ready (length x) lo hi
+  pub ready : Ready (length x) s
   pub x_blank : Blank x
   pub room : Room p e pivots
 
 -- what becomes of the worked rows, of `width` numbers as x, of any table when the row is its next one, cleared at all pivots
-pub record RowSettled (p n r : ℕ) (lo hi x e pivots : List ℕ) (r' : ℕ) (e' pivots' : List ℕ) : Type 0 where
+pub record RowSettled (p n r : ℕ) (s : Limbs) (x e pivots : List ℕ) (r' : ℕ) (e' pivots' : List ℕ) : Type 0 where
   pub room : Room p e' pivots'
   pub worked :
       (width : ℕ) → length x ≡ width → (i : ℕ) (M : Matrix (residues p))
       → Worked (residues p) i n width M r (worked_rows p e width) (pivots_of pivots)
-      → Cleared (residues p) i width M r (worked_rows p e width) (pivots_of pivots) (row_in p lo hi)
+      → Cleared (residues p) i width M r (worked_rows p e width) (pivots_of pivots) (row_in p s)
       → Worked (residues p) (suc i) n width M r' (worked_rows p e' width) (pivots_of pivots')
   pub leading :
       (width : ℕ) → length x ≡ width → ((t : ℕ) → t < r → pivots_of pivots t < width)

@@ -2,16 +2,18 @@
 use Rattle.std.specs.Prelude.{◌≡◌, List, ℕ, ◌+◌, ◌*◌, ◌/◌, ◌≤◌, ◌<◌, length, get_or}
 use Rattle.algebra.specs.Matrix.{Vector, Matrix, unit}
 use Rattle.algebra.specs.Echelon.{Cleared, Leading}
-use Rattle.checks.specs.Prime.{largest_modulus}
-use Rattle.words.specs.Lengths.{longest_row, most_carried, widest_row, widest_table}
+use Rattle.words.specs.Lengths.{longest_row, most_carried, widest_table}
 use Rattle.words.specs.Words.{Below}
 use Rattle.field.specs.Residue.{reduce, residues, negated}
-use Rattle.field.specs.Limbs.{limb_base, LimbFits}
+use Rattle.field.specs.Limbs.{limb_base}
+use Rattle.matrix_mul.specs.declared.limbs.Limbs.{Limbs}
 use Rattle.matrix_mul.specs.declared.rows.Row.{Row}
 use Rattle.matrix_mul.specs.declared.rows.Four.{Four}
-use Rattle.matrix_mul.specs.Rows.{Powers, Ready, whole_at}
+use Rattle.matrix_mul.specs.Rows.{Ready, whole_at}
 use Rattle.matrix_echelon.specs.declared.Grid.{Grid}
+use Rattle.matrix_echelon.specs.declared.pivots.Pivots.{Pivots}
 use Rattle.matrix_echelon.specs.Grid.{grid_place}
+use Rattle.matrix_echelon.specs.Pivots.{PivotsInside}
 
 -- row i of a table that has columns can be read
 pub record NumbersReadable (g : Grid) (i : ℕ) (a : List ℕ) : Type 0 where
@@ -19,25 +21,24 @@ pub record NumbersReadable (g : Grid) (i : ℕ) (a : List ℕ) : Type 0 where
   pub narrow : g.columns ≤ longest_row
   pub inside : (j : ℕ) → j < g.columns → grid_place g i j < length a
 
--- its numbers
-pub record NumbersRead (g : Grid) (i : ℕ) (a lo : List ℕ) : Type 0 where
-  pub long : length lo ≡ widest_row
-  pub each : (j : ℕ) → j < g.columns → get_or lo j 0 ≡ get_or a (grid_place g i j) 0
-  pub small : (j : ℕ) → j < g.columns → get_or lo j 0 < limb_base
+-- s has become s': its low sums are the numbers, and the high sums stay
+pub record NumbersRead (g : Grid) (i : ℕ) (a : List ℕ) (s s' : Limbs) : Type 0 where
+  pub each : (j : ℕ) → j < g.columns → get_or s'.lo j 0 ≡ get_or a (grid_place g i j) 0
+  pub small : (j : ℕ) → j < g.columns → get_or s'.lo j 0 < limb_base
+  pub high : s'.hi ≡ s.hi
 
--- the numbers carried behind the n numbers of row i can be read, and there is room for them
-pub record CarriedReadable (n i : ℕ) (w : List ℕ) (step carried : ℕ) (lo : List ℕ) : Type 0 where
+-- the numbers carried behind the n numbers of row i can be read
+pub record CarriedReadable (n i : ℕ) (w : List ℕ) (step carried : ℕ) : Type 0 where
   pub narrow : n ≤ longest_row
   pub carried_most : carried ≤ most_carried
   pub inside : (u : ℕ) → u < carried → i * step + u < length w
-  pub long : length lo ≡ widest_row
 
--- lo has become lo': they are behind the n numbers, which stay
-pub record CarriedRead (n i : ℕ) (w : List ℕ) (step carried : ℕ) (lo lo' : List ℕ) : Type 0 where
-  pub long : length lo' ≡ widest_row
-  pub front : (j : ℕ) → j < n → get_or lo' j 0 ≡ get_or lo j 0
-  pub each : (u : ℕ) → u < carried → get_or lo' (n + u) 0 ≡ get_or w (i * step + u) 0
-  pub small : (u : ℕ) → u < carried → get_or lo' (n + u) 0 < limb_base
+-- s has become s': they are behind the n numbers, which stay, and so do the high sums
+pub record CarriedRead (n i : ℕ) (w : List ℕ) (step carried : ℕ) (s s' : Limbs) : Type 0 where
+  pub front : (j : ℕ) → j < n → get_or s'.lo j 0 ≡ get_or s.lo j 0
+  pub each : (u : ℕ) → u < carried → get_or s'.lo (n + u) 0 ≡ get_or w (i * step + u) 0
+  pub small : (u : ℕ) → u < carried → get_or s'.lo (n + u) 0 < limb_base
+  pub high : s'.hi ≡ s.hi
 
 -- row i and its carried numbers can be read
 pub record RowReadable (g : Grid) (i : ℕ) (a w : List ℕ) (step carried : ℕ) : Type 0 where
@@ -45,16 +46,16 @@ pub record RowReadable (g : Grid) (i : ℕ) (a w : List ℕ) (step carried : ℕ
   pub carried_most : carried ≤ most_carried
   pub carried_inside : (u : ℕ) → u < carried → i * step + u < length w
 
--- the numbers of the row, and behind them the carried ones
-pub record RowRead (g : Grid) (i : ℕ) (a w : List ℕ) (step carried : ℕ) (lo : List ℕ) : Type 0 where
-  pub long : length lo ≡ widest_row
-  pub each : (j : ℕ) → j < g.columns → get_or lo j 0 ≡ get_or a (grid_place g i j) 0
-  pub behind : (u : ℕ) → u < carried → get_or lo (g.columns + u) 0 ≡ get_or w (i * step + u) 0
-  pub small : (j : ℕ) → j < g.columns + carried → get_or lo j 0 < limb_base
+-- s has become s': its low sums are the numbers of the row, and behind them the carried ones; the high sums stay
+pub record RowRead (g : Grid) (i : ℕ) (a w : List ℕ) (step carried : ℕ) (s s' : Limbs) : Type 0 where
+  pub each : (j : ℕ) → j < g.columns → get_or s'.lo j 0 ≡ get_or a (grid_place g i j) 0
+  pub behind : (u : ℕ) → u < carried → get_or s'.lo (g.columns + u) 0 ≡ get_or w (i * step + u) 0
+  pub small : (j : ℕ) → j < g.columns + carried → get_or s'.lo j 0 < limb_base
+  pub high : s'.hi ≡ s.hi
 
 -- the row that sums of limbs stand for
-abbrev pub row_in : (p : ℕ) (lo hi : List ℕ) → Vector (residues p)
-row_in p lo hi j = reduce p (whole_at lo hi j)
+abbrev pub row_in : (p : ℕ) → Limbs → Vector (residues p)
+row_in p s j = reduce p (whole_at s j)
 
 -- the worked rows, each `width` numbers long, one behind the other; and their pivots
 abbrev pub worked_rows : (p : ℕ) (e : List ℕ) (width : ℕ) → Matrix (residues p)
@@ -63,63 +64,30 @@ worked_rows p e width t j = reduce p (get_or e (t * width + j) 0)
 abbrev pub pivots_of : List ℕ → ℕ → ℕ
 pivots_of pivots t = get_or pivots t 0
 
--- the pivots of r worked rows lie in rows of `width` numbers
-pub record Pivots (width r : ℕ) (pivots : List ℕ) : Type 0 where
-  pub narrow : width ≤ widest_row
-  pub few : r ≤ longest_row
-  pub long : length pivots ≡ longest_row
-  pub inside : (t : ℕ) → t < r → get_or pivots t 0 < width
-
--- the pivot of row t is a place of the limbs
-pub record PivotReadable (p once twice t : ℕ) (pivots hi : List ℕ) : Type 0 where
-  pub positive : 0 < p
-  pub in_range : p ≤ largest_modulus
-  pub powers : Powers p once twice
-  pub one_of : t < length pivots
-  pub inside : get_or pivots t 0 < widest_row
-  pub fits : LimbFits (get_or hi (get_or pivots t 0) 0)
-
 -- the negative of the number at the pivot of row t
-pub record IsMultiplier (p t : ℕ) (pivots lo hi : List ℕ) (c : ℕ) : Type 0 where
+pub record IsMultiplier (p : ℕ) (v : Pivots) (t : ℕ) (s : Limbs) (c : ℕ) : Type 0 where
   pub below : c < p
-  pub negative : reduce p c ≡ negated (row_in p lo hi (pivots_of pivots t))
-
--- what taking row t with its multiplier asks
-pub record PivotRoom (p once twice width r t : ℕ) (pivots lo hi : List ℕ) : Type 0 where
-  pub positive : 0 < p
-  pub in_range : p ≤ largest_modulus
-  pub powers : Powers p once twice
-  pub pivots_in : Pivots width r pivots
-  pub near : t ≤ longest_row + 3
-  pub ready : Ready width lo hi
+  pub negative : reduce p c ≡ negated (row_in p s (pivots_of v.places.now t))
 
 -- the worked row t with its multiplier, or times 0
-pub record IsPivotRow (p width r t : ℕ) (pivots lo hi : List ℕ) (row : Row) : Type 0 where
+pub record IsPivotRow (p : ℕ) (v : Pivots) (t : ℕ) (s : Limbs) (row : Row) : Type 0 where
   pub below : row.times < p
-  pub place : t < r → row.at ≡ t * width
-  pub multiplier : t < r → reduce p row.times ≡ negated (row_in p lo hi (pivots_of pivots t))
-  pub first : r ≤ t → row.at ≡ 0
-  pub no_multiplier : r ≤ t → row.times ≡ 0
+  pub place : t < v.rank → row.at ≡ t * v.width
+  pub multiplier : t < v.rank → reduce p row.times ≡ negated (row_in p s (pivots_of v.places.now t))
+  pub first : v.rank ≤ t → row.at ≡ 0
+  pub no_multiplier : v.rank ≤ t → row.times ≡ 0
 
 -- the same of the four rows from g on
-pub record GroupRoom (p once twice width r g : ℕ) (pivots lo hi : List ℕ) : Type 0 where
-  pub positive : 0 < p
-  pub in_range : p ≤ largest_modulus
-  pub powers : Powers p once twice
-  pub pivots_in : Pivots width r pivots
-  pub near : g ≤ longest_row
-  pub ready : Ready width lo hi
+pub record GroupTaken (p : ℕ) (v : Pivots) (g : ℕ) (s : Limbs) (four : Four) : Type 0 where
+  pub row_a : IsPivotRow p v g s four.a
+  pub row_b : IsPivotRow p v (g + 1) s four.b
+  pub row_c : IsPivotRow p v (g + 2) s four.c
+  pub row_d : IsPivotRow p v (g + 3) s four.d
 
-pub record GroupTaken (p width r g : ℕ) (pivots lo hi : List ℕ) (four : Four) : Type 0 where
-  pub row_a : IsPivotRow p width r g pivots lo hi four.a
-  pub row_b : IsPivotRow p width r (g + 1) pivots lo hi four.b
-  pub row_c : IsPivotRow p width r (g + 2) pivots lo hi four.c
-  pub row_d : IsPivotRow p width r (g + 3) pivots lo hi four.d
-
--- no row of the group from g on has its pivot in front of v
-pub record NoPivotBefore (width r g : ℕ) (pivots : List ℕ) (v : ℕ) : Type 0 where
-  pub within : v ≤ width
-  pub least : (t : ℕ) → g ≤ t → t < g + 4 → t < r → v ≤ get_or pivots t 0
+-- no row of the group from g on has its pivot in front of `least`
+pub record NoPivotBefore (v : Pivots) (g least : ℕ) : Type 0 where
+  pub within : least ≤ v.width
+  pub none : (t : ℕ) → g ≤ t → t < g + 4 → t < v.rank → least ≤ get_or v.places.now t 0
 
 -- worked rows with room for all, below p
 pub record WorkedRoom (p : ℕ) (e : List ℕ) : Type 0 where
@@ -133,19 +101,16 @@ GroupsCleared p width r e pivots =
     → worked_rows p e width t (pivots_of pivots s) ≡ unit (residues p) s t
 
 -- what clearing a fresh row at all pivots asks
-pub record Clearable (p width r : ℕ) (e pivots lo hi : List ℕ) : Type 0 where
+pub record Clearable (p width r : ℕ) (e pivots : List ℕ) (s : Limbs) : Type 0 where
   pub proper : 1 < p
-  pub in_range : p ≤ largest_modulus
   pub room : WorkedRoom p e
-  pub pivots_in : Pivots width r pivots
+  pub pivots_in : PivotsInside width r pivots
   pub cleared : GroupsCleared p width r e pivots
   pub leading : Leading (residues p) r (worked_rows p e width) (pivots_of pivots)
-  pub long_lo : length lo ≡ widest_row
-  pub long_hi : length hi ≡ widest_row
-  pub small : (j : ℕ) → j < width → get_or lo j 0 < limb_base
-  pub fresh : (j : ℕ) → get_or hi j 0 ≡ 0
+  pub small : (j : ℕ) → j < width → get_or s.lo j 0 < limb_base
+  pub fresh : (j : ℕ) → get_or s.hi j 0 ≡ 0
 
 -- the row has multiples of the worked rows added, and is 0 at all pivots
-pub record PivotsCleared (p width r : ℕ) (e pivots lo hi los his : List ℕ) : Type 0 where
-  pub cleared : Cleared (residues p) 0 width (λ i. row_in p lo hi) r (worked_rows p e width) (pivots_of pivots) (row_in p los his)
-  pub ready : Ready width los his
+pub record PivotsCleared (p width r : ℕ) (e pivots : List ℕ) (s s' : Limbs) : Type 0 where
+  pub cleared : Cleared (residues p) 0 width (λ i. row_in p s) r (worked_rows p e width) (pivots_of pivots) (row_in p s')
+  pub ready : Ready width s'

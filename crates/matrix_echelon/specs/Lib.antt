@@ -1,4 +1,5 @@
 pub mod Grid
+pub mod Pivots
 pub mod Group
 pub mod Worked
 pub mod Forward

@@ -12,22 +12,22 @@ use Rattle.field.specs.Written.{numbers}
 use Rattle.matrix_mul.specs.Rows.{Each}
 use Rattle.matrix_echelon.specs.declared.Grid.{Grid}
 use Rattle.matrix_echelon.specs.Grid.{grid_of}
-use Rattle.matrix_echelon.specs.Group.{worked_rows, pivots_of, Pivots, WorkedRoom}
+use Rattle.matrix_echelon.specs.declared.pivots.Pivots.{Pivots}
+use Rattle.matrix_echelon.specs.Group.{worked_rows, pivots_of, WorkedRoom}
 use Rattle.matrix_echelon.specs.Forward.{IsRank}
 
--- r worked rows of `width` numbers and their pivots, of which row t is looked at
-pub record Lookable (p width r t : ℕ) (e pivots : List ℕ) : Type 0 where
+-- worked rows and their pivots, of which row t is looked at
+pub record Lookable (p : ℕ) (v : Pivots) (t : ℕ) (e : List ℕ) : Type 0 where
   pub positive : 0 < p
   pub in_range : p ≤ largest_modulus
   pub rows_in : WorkedRoom p e
-  pub pivots_in : Pivots width r pivots
-  pub one_of : t < r
+  pub one_of : t < v.rank
 
 -- the multipliers that make row t 0 at the pivots of the other rows
-pub record Multipliers (p width r t : ℕ) (e pivots by : List ℕ) : Type 0 where
+pub record Multipliers (p : ℕ) (v : Pivots) (t : ℕ) (e by : List ℕ) : Type 0 where
   pub long : length by ≡ longest_row
   pub below : Below p by
-  pub each : (s : ℕ) → s < r → reduce p (get_or by s 0) ≡ others (residues p) t (worked_rows p e width) (pivots_of pivots) s
+  pub each : (s : ℕ) → s < v.rank → reduce p (get_or by s 0) ≡ others (residues p) t (worked_rows p e v.width) (pivots_of v.places.now) s
 
 -- e has become e': from `at` on a unit row's `len` numbers, 1 at v, and the others as they were
 pub record UnitWritten (v len at : ℕ) (e e' : List ℕ) : Type 0 where
@@ -42,22 +42,22 @@ pub record FirstFree (at : List ℕ) (v : ℕ) : Type 0 where
   pub taken : (j : ℕ) → j < v → get_or at j 0 ≡ 0 → ⊥
 
 -- what reducing row t asks; `next` leads through all rows
-pub record Reducible (p width from r t : ℕ) (next e pivots : List ℕ) : Type 0 where
-  pub lookable : Lookable p width r t e pivots
+pub record Reducible (p : ℕ) (v : Pivots) (from t : ℕ) (next e : List ℕ) : Type 0 where
+  pub lookable : Lookable p v t e
   pub proper : 1 < p
-  pub within : from ≤ width
+  pub within : from ≤ v.width
   pub through : Each next
 
 -- the multipliers have been used on row t from the place `from` on; in front of it the row has a 1 at its own pivot, and 0 elsewhere
-pub record RowLessened (p width from r t : ℕ) (pivots e e' : List ℕ) : Type 0 where
+pub record RowLessened (p : ℕ) (v : Pivots) (from t : ℕ) (e e' : List ℕ) : Type 0 where
   pub room : WorkedRoom p e'
   pub row :
-      (j : ℕ) → from ≤ j → j < width
-      → worked_rows p e' width t j
-      ≡ worked_rows p e width t j
-      ⊕ mixed (residues p) r (others (residues p) t (worked_rows p e width) (pivots_of pivots)) (worked_rows p e width) j
-  pub front : (j : ℕ) → j < from → get_or e' (t * width + j) 0 ≡ choose (eqb j (get_or pivots t 0)) 1 0
-  pub rest : (s j : ℕ) → (s ≡ t → ⊥) → j < width → worked_rows p e' width s j ≡ worked_rows p e width s j
+      (j : ℕ) → from ≤ j → j < v.width
+      → worked_rows p e' v.width t j
+      ≡ worked_rows p e v.width t j
+      ⊕ mixed (residues p) v.rank (others (residues p) t (worked_rows p e v.width) (pivots_of v.places.now)) (worked_rows p e v.width) j
+  pub front : (j : ℕ) → j < from → get_or e' (t * v.width + j) 0 ≡ choose (eqb j (get_or v.places.now t 0)) 1 0
+  pub rest : (s j : ℕ) → (s ≡ t → ⊥) → j < v.width → worked_rows p e' v.width s j ≡ worked_rows p e v.width s j
 
 -- the reduced form: for some pivot inverse D of the table, the row of pivot c is row c of D A, with row c of D w behind it for
 -- each w of the `count` carried columns

@@ -4,35 +4,34 @@ ghost use Rattle.matrix_echelon.specs.Grid.{TableReadable, Readable};
 ghost use Rattle.matrix_echelon.specs.Forward.{Room, Settleable, RowSettled, Workable, Held, IsRank};
 
 use super::{Grid, group, worked};
-use matrix_mul::rows;
+use matrix_mul::limbs::{Limbs, Powers};
 use words::{ROW, WIDE, WIDE_TABLE, filled};
 
 // Makes the row that the sums of limbs stand for a worked row, unless it is 0 at its first n places. x is room for it, carried numbers
 // and all. Answers how many worked rows there are then.
 fn settle(
-    p: u32,
+    powers: Powers,
     n: usize,
     rank: usize,
-    lo: &[u64; WIDE],
-    hi: &[u64; WIDE],
+    limbs: &Limbs,
     x: &mut [u32],
     e: &mut [u32],
     pivots: &mut [u32],
 ) -> usize
-    requires { Settleable p n rank lo.now hi.now x.old e.old pivots.old }
-    ensures { RowSettled p n rank lo.now hi.now x.old e.old pivots.old result e.new pivots.new }
+    requires { Settleable powers.p n rank limbs.now x.old e.old pivots.old }
+    ensures { RowSettled powers.p n rank limbs.now x.old e.old pivots.old result e.new pivots.new }
 {
-    rows::fold_into(p, lo, hi, x);
+    limbs.fold_into(powers, x);
     let Some(v) = words::least_nonzero(&x[..n]) else {
         return rank;
     };
-    worked::grow(p, x, v, rank, e, pivots);
+    worked::grow(powers.p, x, v, rank, e, pivots);
     rank + 1
 }
 
 // Works row i off: adds it to the worked rows where it does not follow from those before it. Answers how many there are then.
 fn work_row(
-    p: u32,
+    powers: Powers,
     grid: Grid,
     i: usize,
     a: &[u32],
@@ -43,16 +42,16 @@ fn work_row(
     e: &mut [u32],
     pivots: &mut [u32],
 ) -> usize
-    requires { Workable p grid i a.now w.now step carried rank e.old pivots.old }
-    ensures { Held p grid (suc i) a.now w.now step carried result e.new pivots.new }
+    requires { Workable powers.p grid i a.now w.now step carried rank e.old pivots.old }
+    ensures { Held powers.p grid (suc i) a.now w.now step carried result e.new pivots.new }
 {
     let n = grid.columns;
     let width = n + carried;
-    let mut lo = group::row_limbs(grid, i, a, w, step, carried);
-    let mut hi: [u64; WIDE] = filled(0);
-    group::clear_pivots(p, width, rank, e, pivots, &mut lo, &mut hi);
+    let mut limbs = Limbs::new();
+    group::row_limbs(grid, i, a, w, step, carried, &mut limbs);
+    group::clear_pivots(powers, width, rank, e, pivots, &mut limbs);
     let mut x: [u32; WIDE] = filled(0);
-    settle(p, n, rank, &lo, &hi, &mut x[..width], e, pivots)
+    settle(powers, n, rank, &limbs, &mut x[..width], e, pivots)
 }
 
 // Works all rows off, as long as a column has no pivot yet. Answers the rank.
@@ -69,10 +68,11 @@ pub fn forward(
     requires { Readable p grid a.now w.now step carried × Room p e.old pivots.old }
     ensures { Held p grid grid.rows a.now w.now step carried result e.new pivots.new }
 {
+    let powers = Powers::of(p);
     let mut rank = 0;
     for i in 0..grid.rows {
         if rank < grid.columns {
-            rank = work_row(p, grid, i, a, w, step, carried, rank, e, pivots);
+            rank = work_row(powers, grid, i, a, w, step, carried, rank, e, pivots);
         }
     }
     rank

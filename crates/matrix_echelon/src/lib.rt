@@ -4,6 +4,7 @@
 
 pub mod forward;
 pub mod group;
+pub mod pivots;
 pub mod reduced;
 pub mod worked;
 

@@ -6,17 +6,19 @@ ghost use Rattle.matrix_echelon.specs.Reduced.{UnitWritten, FirstFree, Lookable,
 
 use super::Grid;
 use super::forward::forward;
-use matrix_mul::{Place, rows};
+use super::pivots::Pivots;
+use matrix_mul::Place;
+use matrix_mul::rows::{combine_listed, each_row};
 use words::{ROW, WIDE, WIDE_TABLE, filled};
 
 // The multipliers that make the worked row t 0 at the pivots of the other rows; 0 for itself.
-fn multipliers(p: u32, width: usize, rank: usize, t: usize, e: &[u32], pivots: &[u32]) -> [u32; ROW]
-    requires { Lookable p width rank t e.now pivots.now }
-    ensures { Multipliers p width rank t e.now pivots.now result }
+fn multipliers(p: u32, rows: Pivots, t: usize, e: &[u32]) -> [u32; ROW]
+    requires { Lookable p rows t e.now }
+    ensures { Multipliers p rows.entry t e.now result }
 {
     let mut by: [u32; ROW] = filled(0);
-    let at = t * width;
-    for (s, v) in pivots[..rank].iter().enumerate() {
+    let at = t * rows.width;
+    for (s, v) in rows.places[..rows.rank].iter().enumerate() {
         by[s] = field::arith::minus(p, 0, e[at + *v as usize]);
     }
     by[t] = 0;
@@ -43,32 +45,23 @@ fn first_free(at: &[u32]) -> Option<usize>
 
 // Makes the worked row t 0 at the pivots of the other rows. `next` leads through all rows. In front of `from` every column has a
 // pivot, so that nothing is to be worked out there.
-fn reduce_row(
-    p: u32,
-    width: usize,
-    from: usize,
-    rank: usize,
-    t: usize,
-    next: &[u32; ROW],
-    e: &mut [u32],
-    pivots: &[u32],
-)
-    requires { Reducible p width from rank t next.now e.old pivots.now }
-    ensures { RowLessened p width from rank t pivots.now e.old e.new }
+fn reduce_row(p: u32, rows: Pivots, from: usize, t: usize, next: &[u32; ROW], e: &mut [u32])
+    requires { Reducible p rows from t next.now e.old }
+    ensures { RowLessened p rows.entry from t e.old e.new }
 {
-    let by = multipliers(p, width, rank, t, e, pivots);
-    let at = t * width;
+    let by = multipliers(p, rows, t, e);
+    let at = t * rows.width;
     let start = at + from;
-    let len = width - from;
+    let len = rows.width - from;
     let mut x: [u32; WIDE] = filled(0);
     words::copy(e, start, len, &mut x);
     let place = Place {
         start: from,
-        stride: width,
+        stride: rows.width,
     };
-    rows::combine_listed(p, &by[..rank], next, e, place, &mut x[..len]);
+    combine_listed(p, &by[..rows.rank], next, e, place, &mut x[..len]);
     words::put(&x[..len], e, start);
-    write_unit(pivots[t] as usize, from, e, at);
+    write_unit(rows.places[t] as usize, from, e, at);
 }
 
 // The reduced form of the table with its carried columns: worked row t is 1 at its pivot and 0 at the others. Answers the rank.
@@ -90,9 +83,14 @@ pub fn reduced(
     let width = n + carried;
     let at = rows_by_pivot(rank, pivots);
     let from = first_free(&at[..n]).unwrap_or(n);
-    let next = rows::each_row();
+    let next = each_row();
     for t in (0..rank).rev() {
-        reduce_row(p, width, from, rank, t, &next, e, pivots);
+        let rows = Pivots {
+            width,
+            rank,
+            places: pivots,
+        };
+        reduce_row(p, rows, from, t, &next, e);
     }
     rank
 }

@@ -7,8 +7,10 @@ use mir.Val.{Fits}
 use mir.Syntax.{w64}
 use Rattle.field.specs.Limbs.{limb_base, low, high, whole}
 use Rattle.checks.specs.Prime.{largest_modulus}
-use Rattle.matrix_mul.specs.Rows.{Short, Powers}
+use Rattle.matrix_mul.specs.Rows.{Short}
+use Rattle.matrix_mul.specs.declared.limbs.Powers.{Powers}
 use Rattle.field.proofs.Residues.{modular, mod_times, times_mod}
+use Rattle.matrix_mul.proofs.RowsTaken.{mod_short}
 
 -- two such numbers have 64 bits together, with room for 2^32
 pub Half : ℕ → Type 0
@@ -33,22 +35,26 @@ pub half_fits : (n : ℕ) → Half n → Fits w64 n
 unfolding Half
 half_fits n h = omega arith
 
-module _ (p once twice : ℕ) (powers : Powers p once twice) (top lo : ℕ) (f : Fits w64 top) where
-  pub high_fits_times : Fits w64 (high top * twice)
-  high_fits_times = half_fits _ (half_high top twice f powers.short_twice)
+module _ (b : Powers) (top lo : ℕ) (f : Fits w64 top) where
+  half_twice : Half (high top * b.twice)
+  half_twice = half_high top b.twice f (rw b.is_twice (mod_short b.p (b.once * b.once) b.positive b.in_range))
 
-  pub low_fits_times : Fits w64 (low top * once)
-  low_fits_times = half_fits _ (half_low top once powers.short_once)
+  half_once : Half (low top * b.once)
+  half_once = half_low top b.once (rw b.is_once (mod_short b.p limb_base b.positive b.in_range))
 
-  pub two_fit_times : Fits w64 (high top * twice + low top * once)
+  pub high_fits_times : Fits w64 (high top * b.twice)
+  high_fits_times = half_fits _ half_twice
+
+  pub low_fits_times : Fits w64 (low top * b.once)
+  low_fits_times = half_fits _ half_once
+
+  pub two_fit_times : Fits w64 (high top * b.twice + low top * b.once)
   unfolding Half
-  two_fit_times =
-      omega (arith, half_high top twice f powers.short_twice, half_low top once powers.short_once)
+  two_fit_times = omega (arith, half_twice, half_once)
 
-  pub three_fit_times : Fits w64 (high top * twice + low top * once + low lo)
+  pub three_fit_times : Fits w64 (high top * b.twice + low top * b.once + low lo)
   unfolding Half low
-  three_fit_times =
-      omega (arith, half_high top twice f powers.short_twice, half_low top once powers.short_once)
+  three_fit_times = omega (arith, half_twice, half_once)
 
 -- summands may be changed to others with the same remainder
 mod_sum : (p x x' y y' : ℕ) → x % p ≡ x' % p → y % p ≡ y' % p → (x + y) % p ≡ (x' + y') % p
@@ -66,11 +72,11 @@ mod_powers p b r s x y z once twice =
     (ap (λ n. y * n % p) once ∙ times_mod y b p))
     refl
 
-pub folded_mod : (p once twice lo hi : ℕ) → Powers p once twice
-    → (high (hi + high lo) * twice + low (hi + high lo) * once + low lo) % p ≡ whole lo hi % p
+pub folded_mod : (b : Powers) (lo hi : ℕ)
+    → (high (hi + high lo) * b.twice + low (hi + high lo) * b.once + low lo) % b.p ≡ whole lo hi % b.p
 unfolding low high whole
-folded_mod p once twice lo hi powers =
-    mod_powers p limb_base once twice _ _ _ powers.once powers.twice ∙ ap (λ n. n % p) same
+folded_mod b lo hi =
+    mod_powers b.p limb_base b.once b.twice _ _ _ b.is_once b.is_twice ∙ ap (λ n. n % b.p) same
   where
     top : ℕ
     top = hi + lo / limb_base

@@ -10,11 +10,11 @@ use mir.Val.{Fits}
 use mir.Syntax.{w64}
 use Rattle.field.specs.Residue.{reduce, ◌⊕◌}
 use Rattle.words.specs.Lengths.{longest_row, widest_row}
-use Rattle.words.specs.Words.{Zeros}
 use Rattle.field.specs.Totals.{products}
 use Rattle.matrix_mul.specs.declared.Place.{Place}
+use Rattle.matrix_mul.specs.declared.limbs.Limbs.{Limbs}
 use Rattle.matrix_mul.specs.declared.rows.Four.{Four}
-use Rattle.matrix_mul.specs.Rows.{Shorts, PassesOver, Passes, FourTaken, Ready, Added, whole_at, Summed, CombinedInto}
+use Rattle.matrix_mul.specs.Rows.{Shorts, PassesOver, Passes, FourTaken, NoLimbs, Ready, Added, whole_at, Summed, CombinedInto}
 use Rattle.matrix_mul.specs.Rows.{product_at, four_at, part_at, sum_at, summed_number}
 use Rattle.field.proofs.Totals.{total_zero, reduce_products}
 use Rattle.field.proofs.Residues.{reduce_plus}
@@ -31,31 +31,22 @@ summed_same {p} {before = before} e s =
       summed_at = λ j h. s.summed_at j h ∙ ap (λ n. (reduce p (get_or before j 0 + n)).value) (e j h);
     }
 
--- lo and hi hold at the first `width` places the limbs of what the first t rows add there
-pub record RowsHeld (by table : List ℕ) (Y : Place) (width t : ℕ) (lo hi : List ℕ) : Type 0 where
-  pub long_lo : length lo ≡ widest_row
-  pub long_hi : length hi ≡ widest_row
-  pub held_at : (j : ℕ) → j < width → Sums t (get_or lo j 0) (get_or hi j 0) (part_at by table Y t j)
+-- the sums hold at the first `width` places the limbs of what the first t rows add there
+pub record RowsHeld (by table : List ℕ) (Y : Place) (width t : ℕ) (s : Limbs) : Type 0 where
+  pub held_at : (j : ℕ) → j < width → Sums t (get_or s.lo j 0) (get_or s.hi j 0) (part_at by table Y t j)
 
 module _ {by table : List ℕ} {Y : Place} {width : ℕ} where
   -- before the first row the sums are zeros
-  pub held_none : {lo hi : List ℕ} → Zeros widest_row lo → Zeros widest_row hi → RowsHeld by table Y width 0 lo hi
-  held_none z y =
-      record {
-        long_lo = z.0;
-        long_hi = y.0;
-        held_at = λ j h. rw (z.1 j, y.1 j, total_zero) sums_none;
-      }
+  pub held_none : {s : Limbs} → NoLimbs s → RowsHeld by table Y width 0 s
+  held_none none = record { held_at = λ j h. rw (none.low_zeros.1 j, none.high_zeros.1 j, total_zero) sums_none }
 
   -- the sums have room for four rows more
-  pub held_ready : {t : ℕ} {lo hi : List ℕ} → t ≤ longest_row → width ≤ widest_row → RowsHeld by table Y width t lo hi → Ready width lo hi
-  held_ready {t} {lo} {hi} b n h =
+  pub held_ready : {t : ℕ} {s : Limbs} → t ≤ longest_row → width ≤ widest_row → RowsHeld by table Y width t s → Ready width s
+  held_ready {t} {s} b n h =
       record {
         small = n;
-        long_lo = h.long_lo;
-        long_hi = h.long_hi;
-        fits_lo = λ j k. sums_low_fits t (get_or lo j 0) (get_or hi j 0) _ (omega arith) (h.held_at j k);
-        fits_hi = λ j k. sums_high_fits t (get_or lo j 0) (get_or hi j 0) _ (omega arith) (h.held_at j k);
+        fits_lo = λ j k. sums_low_fits t (get_or s.lo j 0) (get_or s.hi j 0) _ (omega arith) (h.held_at j k);
+        fits_hi = λ j k. sums_high_fits t (get_or s.lo j 0) (get_or s.hi j 0) _ (omega arith) (h.held_at j k);
       }
 
   -- four rows more
@@ -88,17 +79,15 @@ module _ {by table : List ℕ} {Y : Place} {width : ℕ} where
           (four_fit _ _ _ _ (quarter_product _ _ taken.first.short (short _)) (quarter_product _ _ taken.second.short (short _))
           (quarter_product _ _ taken.third.short (short _)) (quarter_product _ _ taken.fourth.short (short _)))
 
-      pub held_four : {lo hi los his : List ℕ} → t < length by → RowsHeld by table Y width t lo hi
-          → Added width (four_at table f) lo hi los his → RowsHeld by table Y width f.d.next los his
-      held_four {lo} {hi} l h s =
+      pub held_four : {s s' : Limbs} → t < length by → RowsHeld by table Y width t s → Added width (four_at table f) s s'
+          → RowsHeld by table Y width f.d.next s'
+      held_four {s} l h a =
           record {
-            long_lo = s.long_lo ∙ h.long_lo;
-            long_hi = s.long_hi ∙ h.long_hi;
             held_at =
-                λ j k. rw (s.low_at j k, s.high_at j k, ← sum_four j k)
+                λ j k. rw (a.low_at j k, a.high_at j k, ← sum_four j k)
                 (sums_widen (t + 1) f.d.next _ _ _
                 (omega (arith, taken.first.onward l, taken.second.later, taken.third.later, taken.fourth.later))
-                (sums_more t (get_or lo j 0) (get_or hi j 0) _ _ (h.held_at j k) (four_fits j)));
+                (sums_more t (get_or s.lo j 0) (get_or s.hi j 0) _ _ (h.held_at j k) (four_fits j)));
           }
 
       -- where no row is left, four rows from the first on are all
@@ -108,8 +97,8 @@ module _ {by table : List ℕ} {Y : Place} {width : ℕ} where
           omega (arith, sum_four j k) ∙ ap (λ n. part_at by table Y n j) last
 
   -- what the sums stand for in the end
-  pub held_whole : {lo hi : List ℕ} → RowsHeld by table Y width (length by) lo hi → (j : ℕ) → j < width
-      → whole_at lo hi j ≡ sum_at by table Y j
+  pub held_whole : {s : Limbs} → RowsHeld by table Y width (length by) s → (j : ℕ) → j < width
+      → whole_at s j ≡ sum_at by table Y j
   unfolding whole_at
   held_whole h j k = (h.held_at j k).same
 

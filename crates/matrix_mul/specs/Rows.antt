@@ -1,14 +1,15 @@
 -- Rows of a table that are added four at a time: numbers below 2^31 - 1, of which four products have 64 bits together, a list of
 -- the rows to visit, what `next_row` hands over, the sums of limbs, and what is left in the end.
-use Rattle.std.specs.Prelude.{◌≡◌, List, ℕ, ◌+◌, ◌*◌, ◌%◌, ◌^◌, ◌<◌, ◌≤◌, length, get_or}
+use Rattle.std.specs.Prelude.{◌≡◌, List, ℕ, ◌+◌, ◌*◌, ◌^◌, ◌<◌, ◌≤◌, length, get_or}
 use Rattle.field.specs.Residue.{reduce, ◌⊕◌}
 use Rattle.checks.specs.Prime.{largest_modulus}
 use Rattle.field.specs.Products.{sum_of_products}
 use Rattle.field.specs.Totals.{total, products}
 use Rattle.field.specs.Limbs.{limb_base, low, high, whole, LimbFits}
 use Rattle.words.specs.Lengths.{longest_row, widest_row}
-use Rattle.words.specs.Words.{Below}
+use Rattle.words.specs.Words.{Below, Zeros}
 use Rattle.matrix_mul.specs.declared.Place.{Place}
+use Rattle.matrix_mul.specs.declared.limbs.Limbs.{Limbs}
 use Rattle.matrix_mul.specs.declared.rows.Row.{Row}
 use Rattle.matrix_mul.specs.declared.rows.Four.{Four}
 
@@ -22,13 +23,6 @@ Shorts xs = (i : ℕ) → Short (get_or xs i 0)
 -- four such numbers have 64 bits together, with room for 2^32
 unfoldable pub Quarter : ℕ → Type 0
 Quarter n = 4 * n + limb_base ≤ 2 ^ 64
-
--- r and s are 2^32 and 2^64 modulo p
-pub record Powers (p r s : ℕ) : Type 0 where
-  pub short_once : Short r
-  pub short_twice : Short s
-  pub once : r ≡ limb_base % p
-  pub twice : s ≡ r * r % p
 
 -- k rows of `width` numbers at a place lie in n numbers
 abbrev pub RowsInside : (k : ℕ) → Place → (width n : ℕ) → Type 0
@@ -112,24 +106,25 @@ pub record FourTaken (by next : List ℕ) (Y : Place) (t : ℕ) (f : Four) : Typ
   pub third : RowTaken by next Y f.b.next f.c
   pub fourth : RowTaken by next Y f.c.next f.d
 
--- lo and hi are sums of limbs for the widest row, to which a limb can be added at the first n places
-pub record Ready (n : ℕ) (lo hi : List ℕ) : Type 0 where
+-- nothing has been added yet
+pub record NoLimbs (s : Limbs) : Type 0 where
+  pub low_zeros : Zeros widest_row s.lo
+  pub high_zeros : Zeros widest_row s.hi
+
+-- sums of limbs to which a limb can be added at the first n places
+pub record Ready (n : ℕ) (s : Limbs) : Type 0 where
   pub small : n ≤ widest_row
-  pub long_lo : length lo ≡ widest_row
-  pub long_hi : length hi ≡ widest_row
-  pub fits_lo : (j : ℕ) → j < n → LimbFits (get_or lo j 0)
-  pub fits_hi : (j : ℕ) → j < n → LimbFits (get_or hi j 0)
+  pub fits_lo : (j : ℕ) → j < n → LimbFits (get_or s.lo j 0)
+  pub fits_hi : (j : ℕ) → j < n → LimbFits (get_or s.hi j 0)
 
--- los and his are lo and hi, with the limbs of x's numbers added at the first n places
-pub record Added (n : ℕ) (x : ℕ → ℕ) (lo hi los his : List ℕ) : Type 0 where
-  pub long_lo : length los ≡ length lo
-  pub long_hi : length his ≡ length hi
-  pub low_at : (j : ℕ) → j < n → get_or los j 0 ≡ get_or lo j 0 + low (x j)
-  pub high_at : (j : ℕ) → j < n → get_or his j 0 ≡ get_or hi j 0 + high (x j)
+-- s' is s, with the limbs of x's numbers added at the first n places
+pub record Added (n : ℕ) (x : ℕ → ℕ) (s s' : Limbs) : Type 0 where
+  pub low_at : (j : ℕ) → j < n → get_or s'.lo j 0 ≡ get_or s.lo j 0 + low (x j)
+  pub high_at : (j : ℕ) → j < n → get_or s'.hi j 0 ≡ get_or s.hi j 0 + high (x j)
 
--- the numbers that lists of sums of limbs stand for
-unfoldable pub whole_at : List ℕ → List ℕ → ℕ → ℕ
-whole_at lo hi j = whole (get_or lo j 0) (get_or hi j 0)
+-- the numbers that sums of limbs stand for
+unfoldable pub whole_at : Limbs → ℕ → ℕ
+whole_at s j = whole (get_or s.lo j 0) (get_or s.hi j 0)
 
 -- v's number added to that of xs at place j, modulo p
 unfoldable pub summed_number : (p : ℕ) → (ℕ → ℕ) → List ℕ → ℕ → ℕ

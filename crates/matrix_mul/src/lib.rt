@@ -11,6 +11,7 @@ ghost use Rattle.matrix_mul.specs.Places.{place, shape, Negated, Factors, Multip
 
 use words::{ROW, filled};
 
+pub mod limbs;
 pub mod rows;
 
 // Where a block of numbers begins, and how far the starts of its rows are apart.

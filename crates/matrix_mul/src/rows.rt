@@ -1,19 +1,15 @@
 // Sums of rows modulo p: a row plus a combination of rows. Four rows are added at a time; the low and the high limbs of the sums
 // of their products, of 32 bits each, are added apart, and reduced once at the end.
 ghost use Rattle.std.specs.Prelude.{◌≡◌, ◌+◌, ◌<◌, ◌≤◌, length};
-ghost use Rattle.field.specs.Residue.{reduce};
-ghost use Rattle.checks.specs.Prime.{largest_modulus};
-ghost use Rattle.field.specs.Limbs.{whole, LimbFits};
-ghost use Rattle.words.specs.Lengths.{widest_row};
-ghost use Rattle.words.specs.Words.{Zeros};
+ghost use Rattle.field.specs.Limbs.{LimbFits};
 ghost use Rattle.matrix_mul.specs.Places.{place};
-ghost use Rattle.matrix_mul.specs.Rows.{Shorts, Inside, FourInside, Quarter, product_at, four_at, NothingBefore, Powers, Ready, Added, whole_at};
+ghost use Rattle.matrix_mul.specs.Rows.{Shorts, Inside, FourInside, Quarter, product_at, four_at};
 ghost use Rattle.matrix_mul.specs.Rows.{Each, Passes, Walkable, RowTaken, FourTaken, Summed, sum_at, Combinable, CombinedInto};
 
 use super::Place;
-use field::sums::BASE;
+use super::limbs::{Limbs, Powers};
 use std::array;
-use words::{ROW, WIDE, filled};
+use words::ROW;
 
 // A row of a table that is to be added: its multiplier, where it begins, and the row to look at after it.
 #[derive(Clone, Copy)]
@@ -89,7 +85,7 @@ fn product_at(table: &[u32], row: Row, j: usize) -> u64
 }
 
 // The sum of the products of four rows at place j: it has 64 bits with room for 2^32, as the numbers are below 2^31 - 1.
-fn four_at(table: &[u32], four: Four, j: usize) -> u64
+pub fn four_at(table: &[u32], four: Four, j: usize) -> u64
     requires { FourInside (j + 1) table.now four }
     ensures { (result ≡ four_at table.now four j) × LimbFits result }
 {
@@ -110,63 +106,20 @@ fn add_four(p: u32, table: &[u32], four: Four, out: &mut [u32])
     }
 }
 
-// Adds the limbs of the sums of products of four rows to the sums of limbs, at the first `width` places; in front of `from` the
-// rows add nothing.
-pub fn add_rows(
-    width: usize,
-    from: usize,
-    table: &[u32],
-    four: Four,
-    lo: &mut [u64; WIDE],
-    hi: &mut [u64; WIDE],
-)
-    requires { Ready width lo.old hi.old × FourInside width table.now four × NothingBefore width from table.now four }
-    ensures { Added width (four_at table.now four) lo.old hi.old lo.new hi.new }
-{
-    for j in from..width {
-        let x = four_at(table, four, j);
-        lo[j] += x % BASE;
-        hi[j] += x / BASE;
-    }
-}
-
-// The residue of lo + 2^32 × hi, with one division: `once` and `twice` are 2^32 and 2^64 modulo p.
-pub fn folded(p: u32, once: u64, twice: u64, lo: u64, hi: u64) -> u32
-    requires { (0 < p) × Powers p once twice × LimbFits hi }
-    ensures { result ≡ (reduce p (whole lo hi)).value }
-{
-    let top = hi + lo / BASE;
-    let x = top / BASE * twice + top % BASE * once + lo % BASE;
-    (x % (p as u64)) as u32
-}
-
-// Adds to each number of `out` what the sums of limbs stand for, modulo p.
-pub fn fold_into(p: u32, lo: &[u64; WIDE], hi: &[u64; WIDE], out: &mut [u32])
-    requires { (0 < p) × (p ≤ largest_modulus) × Ready (length out.old) lo.now hi.now }
-    ensures { Summed p (whole_at lo.now hi.now) out.old out.new }
-{
-    let once = BASE % (p as u64);
-    let twice = once * once % (p as u64);
-    for j in 0..out.len() {
-        out[j] = folded(p, once, twice, lo[j] + (out[j] as u64), hi[j]);
-    }
-}
-
 // Adds to `out` the combination of the rows of `table` with the multipliers `by`, four rows at a time, modulo p.
 fn add_all(p: u32, by: &[u32], next: &[u32], table: &[u32], rows: Place, out: &mut [u32])
     requires { Combinable p by.now table.now rows out.old × Passes (length by.now) next.now rows (length out.old) table.now }
     ensures { Summed p (sum_at by.now table.now rows) out.old out.new }
 {
     let width = out.len();
-    let mut lo: [u64; WIDE] = filled(0);
-    let mut hi: [u64; WIDE] = filled(0);
+    let mut limbs = Limbs::new();
     let mut t = 0;
     while t < by.len() {
         let four = next_four(by, next, rows, t);
-        add_rows(width, 0, table, four, &mut lo, &mut hi);
+        limbs.add_rows(width, 0, table, four);
         t = four.d.next;
     }
-    fold_into(p, &lo, &hi, out);
+    limbs.fold_into(Powers::of(p), out);
 }
 
 // Adds to `out` the combination of rows of `table` with the multipliers `by`: the rows lie at the place `rows` and are as long as

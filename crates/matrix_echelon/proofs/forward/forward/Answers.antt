@@ -12,6 +12,6 @@ pub loop-i-preserved : goal.loop-i-preserved
 loop-i-preserved c =
     rw (add-one c.loop-i.i)
     (elim c.if-rank-grid.branch [
-      | then-rank-grid w ↦ rw (w.e-is, w.pivots-is, w.rank-is) w.work_row-rank.ensures
+      | then-rank-grid w ↦ rw (w.e-is, w.pivots-is, w.rank-is, ← c.of-powers.ensures) w.work_row-rank.ensures
       | else-rank-grid w ↦ rw (w.e-is, w.pivots-is, w.rank-is) (held_follows c.requires.0 (omega (arith, w.if-rank-grid.false)) c.loop-i.invariant)
     ])

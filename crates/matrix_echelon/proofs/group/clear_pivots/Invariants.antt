@@ -5,13 +5,14 @@ use Prim.Native.Nat.{◌+◌, ◌*◌, ◌-◌, ◌/◌, ◌≤◌}
 use Rattle.algebra.specs.Echelon.{ClearedTo}
 use Rattle.field.specs.Residue.{residues}
 use Rattle.matrix_echelon.specs.Group.{row_in, worked_rows, pivots_of}
-use Rattle.matrix_echelon.proofs.Groups.{Limbs}
+use Rattle.matrix_echelon.proofs.Groups.{LimbsWithin}
 use Rattle.matrix_echelon.proofs.group.clear_pivots.Given as goal
 
 abbrev pub invariant-loop-g : goal.invariant-loop-g
 invariant-loop-g l =
-    (l.g ≡ 4 * (l.g / 4)) × (l.g ≤ l.rank) × Limbs (l.g / 4 + 1) l.width l.lo l.hi
-    × ClearedTo (residues l.p) (4 * (l.g / 4)) 0 l.width (λ i. row_in l.p l.initial.lo l.initial.hi) l.rank (worked_rows l.p l.e l.width) (pivots_of l.pivots) (row_in l.p l.lo l.hi)
+    (l.g ≡ 4 * (l.g / 4)) × (l.g ≤ l.rank) × LimbsWithin (l.g / 4 + 1) l.width l.limbs
+    × ClearedTo (residues l.powers.p) (4 * (l.g / 4)) 0 l.width (λ i. row_in l.powers.p l.initial.limbs) l.rank
+    (worked_rows l.powers.p l.e l.width) (pivots_of l.pivots) (row_in l.powers.p l.limbs)
 
 abbrev pub decreases-loop-g : goal.decreases-loop-g
 decreases-loop-g l = l.rank - l.g

@@ -1,78 +1,35 @@
 -- `reduced::reduce_row` meets its contract: the row is copied out, combined with the others and put back, and in front of that a unit
 -- row is written, as the laws of `ReduceRow` say.
-use mathlib.Core.Path.{◌≡◌, sym}
-use Prim.Native.Nat.{ℕ, ◌+◌, ◌-◌}
-use native.Mathlib.Omega.{arith}
-use Rattle.matrix_echelon.proofs.ReduceRow.{looked_inside, by_long, copy_long, combinable, passes, back_long, back_short, back_inside}
+use mathlib.Core.Path.{sym}
+use Rattle.matrix_echelon.proofs.ReduceRow.{by_long, copy_long, combinable, passes, back_long, back_short, back_inside}
 use Rattle.matrix_echelon.proofs.ReduceRow.{row_lessened}
 use Rattle.matrix_echelon.proofs.reduced.reduce_row.Goals as goal
-use Rattle.matrix_echelon.proofs.reduced.reduce_row.Goals.{Start}
-
--- the part in front of `from` and that from there on make the row
-abbrev from : (s : Start) → ℕ
-from s = s.args.from
-
-abbrev len : (s : Start) → ℕ
-len s = s.args.width - s.args.from
-
-parts : (s : Start) → s.args.from + (s.args.width - s.args.from) ≡ s.args.width
-parts s = omega (arith, s.requires.within)
-
-pub overflow_mul-at : goal.overflow_mul-at
-overflow_mul-at c = omega (arith, looked_inside c.requires.lookable c.args.t c.requires.lookable.one_of)
-
-pub overflow_add-start : goal.overflow_add-start
-overflow_add-start c = omega (arith, looked_inside c.requires.lookable c.args.t c.requires.lookable.one_of, c.requires.within)
-
-pub overflow_sub-len : goal.overflow_sub-len
-overflow_sub-len c = c.requires.within
-
-pub copy-requires : goal.copy-requires
-copy-requires c = (
-  omega (arith, looked_inside c.requires.lookable c.args.t c.requires.lookable.one_of, parts (goal.at.copy-requires c).Start),
-  omega (arith, c.filled-x.ensures.0, c.requires.lookable.pivots_in.narrow),
-)
 
 pub slice_bounds-combine_listed-end : goal.slice_bounds-combine_listed-end
-slice_bounds-combine_listed-end c = sym (by_long (from (goal.at.slice_bounds-combine_listed-end c).Start) (len (goal.at.slice_bounds-combine_listed-end c).Start) c.requires.lookable (parts (goal.at.slice_bounds-combine_listed-end c).Start) c.multipliers-by.ensures c.filled-x.ensures c.copy.ensures)
+slice_bounds-combine_listed-end c = sym (by_long c.requires c.multipliers-by.ensures c.filled-x.ensures c.copy.ensures)
 
 pub slice_bounds-combine_listed-end-3 : goal.slice_bounds-combine_listed-end-3
-slice_bounds-combine_listed-end-3 c = sym (copy_long (from (goal.at.slice_bounds-combine_listed-end-3 c).Start) (len (goal.at.slice_bounds-combine_listed-end-3 c).Start) c.requires.lookable (parts (goal.at.slice_bounds-combine_listed-end-3 c).Start) c.multipliers-by.ensures c.filled-x.ensures c.copy.ensures)
+slice_bounds-combine_listed-end-3 c = sym (copy_long c.requires c.multipliers-by.ensures c.filled-x.ensures c.copy.ensures)
 
 pub combine_listed-requires : goal.combine_listed-requires
 combine_listed-requires c = (
-  combinable (from (goal.at.combine_listed-requires c).Start) (len (goal.at.combine_listed-requires c).Start) c.requires.lookable (parts (goal.at.combine_listed-requires c).Start) c.multipliers-by.ensures c.filled-x.ensures c.copy.ensures,
-  passes (from (goal.at.combine_listed-requires c).Start) (len (goal.at.combine_listed-requires c).Start) c.requires.lookable (parts (goal.at.combine_listed-requires c).Start) c.multipliers-by.ensures c.filled-x.ensures c.copy.ensures
-      c.requires.through,
+  combinable c.requires c.multipliers-by.ensures c.filled-x.ensures c.copy.ensures,
+  passes c.requires c.multipliers-by.ensures c.filled-x.ensures c.copy.ensures,
 )
 
 pub slice_bounds-x-end-2 : goal.slice_bounds-x-end-2
 slice_bounds-x-end-2 c =
-    back_short (from (goal.at.slice_bounds-x-end-2 c).Start) (len (goal.at.slice_bounds-x-end-2 c).Start) c.requires.lookable (parts (goal.at.slice_bounds-x-end-2 c).Start) c.multipliers-by.ensures c.filled-x.ensures c.copy.ensures
-    c.combine_listed.new.out c.combine_listed.ensures
+    back_short c.requires c.multipliers-by.ensures c.filled-x.ensures c.copy.ensures c.combine_listed.new.out c.combine_listed.ensures
 
 pub slice_bounds-put-end : goal.slice_bounds-put-end
 slice_bounds-put-end c =
-    sym
-    (back_long (from (goal.at.slice_bounds-put-end c).Start) (len (goal.at.slice_bounds-put-end c).Start) c.requires.lookable (parts (goal.at.slice_bounds-put-end c).Start) c.multipliers-by.ensures c.filled-x.ensures c.copy.ensures
-    c.combine_listed.new.out c.combine_listed.ensures)
+    sym (back_long c.requires c.multipliers-by.ensures c.filled-x.ensures c.copy.ensures c.combine_listed.new.out c.combine_listed.ensures)
 
 pub put-requires : goal.put-requires
 put-requires c =
-    back_inside (from (goal.at.put-requires c).Start) (len (goal.at.put-requires c).Start) c.requires.lookable (parts (goal.at.put-requires c).Start) c.multipliers-by.ensures c.filled-x.ensures c.copy.ensures
-    c.combine_listed.new.out c.combine_listed.ensures
-
-pub bounds-pivots-t : goal.bounds-pivots-t
-bounds-pivots-t c = omega (arith, c.requires.lookable.pivots_in.long, c.requires.lookable.pivots_in.few, c.requires.lookable.one_of)
-
-pub overflow_cast-pivots : goal.overflow_cast-pivots
-overflow_cast-pivots c = omega (arith, c.requires.lookable.pivots_in.inside c.args.t c.requires.lookable.one_of, c.requires.lookable.pivots_in.narrow)
-
-pub write_unit-requires : goal.write_unit-requires
-write_unit-requires c = omega (arith, c.put.ensures.0, looked_inside c.requires.lookable c.args.t c.requires.lookable.one_of, c.requires.within)
+    back_inside c.requires c.multipliers-by.ensures c.filled-x.ensures c.copy.ensures c.combine_listed.new.out c.combine_listed.ensures
 
 pub returns : goal.returns
 returns c =
-    row_lessened (from (goal.at.returns c).Start) (len (goal.at.returns c).Start) c.requires.lookable (parts (goal.at.returns c).Start) c.multipliers-by.ensures c.filled-x.ensures c.copy.ensures
-    c.combine_listed.new.out c.combine_listed.ensures c.put.new.out _ c.put.ensures c.write_unit.ensures
-    c.requires.proper
+    row_lessened c.requires c.multipliers-by.ensures c.filled-x.ensures c.copy.ensures c.combine_listed.new.out c.combine_listed.ensures
+    c.put.new.out _ c.put.ensures c.write_unit.ensures

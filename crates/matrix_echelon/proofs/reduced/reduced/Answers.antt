@@ -43,22 +43,8 @@ rows_by_pivot-at-requires c =
       inside = λ t h. omega (arith, pivot_in_columns c.requires.0 held t h, c.requires.0.table.columns_most);
     }
 
-pub reduce_row-requires : goal.reduce_row-requires
-reduce_row-requires c =
-    let before = (goal.at.reduce_row-requires c).After-each_row-next in
-    record {
-      lookable =
-          record {
-            positive = omega (arith, proper before);
-            in_range = c.requires.0.table.is_modulus.in_range;
-            rows_in = c.loop-t.invariant.room;
-            pivots_in = pivots_held c.requires.0 c.forward-rank.ensures;
-            one_of = omega arith;
-          };
-      proper = proper before;
-      within = omega (arith, (first before).within, front_long before);
-      through = c.each_row-next.ensures;
-    }
+pub invariant_of-rows : goal.invariant_of-rows
+invariant_of-rows c = record { placed = pivots_held c.requires.0 c.forward-rank.ensures }
 
 pub loop-t-preserved : goal.loop-t-preserved
 loop-t-preserved c =

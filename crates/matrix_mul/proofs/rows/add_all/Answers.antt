@@ -7,7 +7,7 @@ use Rattle.matrix_mul.proofs.RowSums.{held_none, held_ready, held_four, held_who
 use Rattle.matrix_mul.proofs.rows.add_all.Goals as goal
 
 pub loop-t-init : goal.loop-t-init
-loop-t-init c = (omega arith, held_none c.filled-lo.ensures c.filled-hi.ensures)
+loop-t-init c = (omega arith, held_none c.new-limbs.ensures)
 
 pub next_four-four-requires : goal.next_four-four-requires
 next_four-four-requires c = walkable c.requires.0 (omega arith) c.requires.1 _ c.loop-t.invariant.0
@@ -45,14 +45,11 @@ pub fold_into-requires : goal.fold_into-requires
 fold_into-requires c =
     let l = c.loop-t in
     let pre = c.requires.0 in
-    (pre.positive, pre.in_range, held_ready (omega (arith, l.invariant.0, pre.few)) pre.narrow l.invariant.1)
-
-pub shape_of-out : goal.shape_of-out
-shape_of-out c = c.fold_into.ensures.long
+    held_ready (omega (arith, l.invariant.0, pre.few)) pre.narrow l.invariant.1
 
 pub returns : goal.returns
 returns c =
     let l = c.loop-t in
     let a = c.args in
     let e : l.t ≡ length a.by.now = omega arith in
-    summed_same (held_whole (rw e at l.invariant.1)) c.fold_into.ensures
+    summed_same (held_whole (rw e at l.invariant.1)) (rw c.of.ensures at c.fold_into.ensures)
