@@ -10,7 +10,7 @@ ghost use Rattle.checks.specs.Sizes.{Judges};
 
 use checks::Refusal;
 use matrix::table::Table;
-use matrix_check::absorbs;
+use matrix_check::Factors;
 use words::all_below;
 
 pub mod work;
@@ -191,10 +191,24 @@ pub fn check(p: u32, m: u32, n: u32, a: &[u32], d: &[u32]) -> Result<u32, Refusa
     pair_checks(p, m, n, a, d)?;
     let height = m as usize;
     let width = n as usize;
-    if !absorbs(p, height, width, a, d) {
+    let inner = Factors {
+        p,
+        height,
+        width,
+        a,
+        d,
+    };
+    if !inner.absorbs() {
         return Err(Refusal::NotInner);
     }
-    if !absorbs(p, width, height, d, a) {
+    let outer = Factors {
+        p,
+        height: width,
+        width: height,
+        a: d,
+        d: a,
+    };
+    if !outer.absorbs() {
         return Err(Refusal::NotOuter);
     }
     let table = Table {
