@@ -1,4 +1,5 @@
-// A table that has passed the checks, with what the calls do with it: its quasiinverse, the mix of a row, and what a column leaves over.
+// A table that has passed the checks, and a system of it, with what the calls do with them: the quasiinverse, the mix of a row, and
+// what a column leaves over.
 ghost use Rattle.std.specs.Prelude.{◌≡◌, ◌<◌, length};
 ghost use Rattle.algebra.specs.Solve.{mix_of, remainder};
 ghost use Rattle.checks.specs.Prime.{IsModulus};
@@ -68,20 +69,6 @@ impl Table<'_> {
         u[y] = field::arith::plus(self.p, u[y], 1);
     }
 
-    // What x leaves over of w, row after row: w - A x.
-    pub fn remainder(self, x: &[u32], w: &[u32], rest: &mut [u32])
-        requires { (length x.now ≡ self.width) × (length w.now ≡ self.height) × Below self.p w.now × (length rest.old ≡ self.height) }
-        ensures { let t = self.entry in rest.new
-            ≡ numbers t.height (remainder (residues t.p) t.width (table_of t.p t.height t.width t.numbers.now) (vector_of t.p x.now) (vector_of t.p w.now)) }
-    {
-        for i in 0..self.height {
-            let start = i * self.width;
-            let end = start + self.width;
-            let image = field::sums::dot(self.p, &self.numbers[start..end], x, 0, 1);
-            rest[i] = field::arith::minus(self.p, w[i], image);
-        }
-    }
-
     // D, I and J of the table, by Algorithm Q on memory that is cleared first.
     pub fn invert(self, d: &mut [u32], columns: &mut [u32], rows: &mut [u32])
         requires { InverseRoom self.height self.width d.old columns.old rows.old }
@@ -102,5 +89,30 @@ impl Table<'_> {
             columns,
             rows,
         );
+    }
+}
+
+// The system A x = w of a table: w has as many numbers as the table has rows.
+#[derive(Clone, Copy)]
+pub struct LinearSystem<'a, 'w> {
+    pub table: Table<'a>,
+    pub w: &'w [u32],
+    ghost right_side: { (length w.now ≡ table.height) × Below table.p w.now },
+}
+
+impl LinearSystem<'_, '_> {
+    // What x leaves over of w, row after row: w - A x.
+    pub fn remainder(self, x: &[u32], rest: &mut [u32])
+        requires { (length x.now ≡ self.table.width) × (length rest.old ≡ self.table.height) }
+        ensures { let t = self.entry.table in rest.new
+            ≡ numbers t.height (remainder (residues t.p) t.width (table_of t.p t.height t.width t.numbers.now) (vector_of t.p x.now) (vector_of t.p self.entry.w.now)) }
+    {
+        let table = self.table;
+        for i in 0..table.height {
+            let start = i * table.width;
+            let end = start + table.width;
+            let image = field::sums::dot(table.p, &table.numbers[start..end], x, 0, 1);
+            rest[i] = field::arith::minus(table.p, self.w[i], image);
+        }
     }
 }

@@ -9,7 +9,7 @@ ghost use Rattle.checks.specs.Outcome.{outcome};
 ghost use Rattle.checks.specs.Sizes.{Judges};
 
 use checks::Refusal;
-use matrix::table::Table;
+use matrix::table::{LinearSystem, Table};
 use matrix_check::Factors;
 use words::all_below;
 
@@ -136,7 +136,8 @@ pub fn solve(
         width: n as usize,
         numbers: a,
     };
-    work::solve_of(table, w, z, u)
+    let system = LinearSystem { table, w };
+    work::solve_of(system, z, u)
 }
 
 // The nearest fit z = D w, whether A x = w has a solution or not, with what it leaves over, w - A z, and the rank.
@@ -158,7 +159,8 @@ pub fn fit(
         width: n as usize,
         numbers: a,
     };
-    Ok(work::fit_of(table, w, z, rest))
+    let system = LinearSystem { table, w };
+    Ok(work::fit_of(system, z, rest))
 }
 
 // What check checks first: 1 and 2; 3 for a, then d; 4 for a, then d.

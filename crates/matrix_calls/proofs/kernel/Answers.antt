@@ -20,7 +20,9 @@ pub returns-then-a-height : goal.returns-then-a-height
 returns-then-a-height c = kernel_refused _ _ _ _ _ (past_sizes (sized (goal.at.returns-then-a-height c).In_ok-table_sizes) (fails_here c.if-a-height.true))
 
 pub returns-then-basis-width : goal.returns-then-basis-width
-returns-then-basis-width c = kernel_refused _ _ _ _ _ (past_sizes (sized (goal.at.returns-then-basis-width c).In_ok-table_sizes) (c.if-a-height.false then fails_here c.if-basis-width.true))
+returns-then-basis-width c =
+    kernel_refused _ _ _ _ _
+    (past_sizes (sized (goal.at.returns-then-basis-width c).In_ok-table_sizes) (c.if-a-height.false then fails_here c.if-basis-width.true))
 
 pub returns-then-not-all_below : goal.returns-then-not-all_below
 returns-then-not-all_below c =

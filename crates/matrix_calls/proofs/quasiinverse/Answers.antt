@@ -21,7 +21,9 @@ pub returns-then-a-height : goal.returns-then-a-height
 returns-then-a-height c = quasiinverse_refused _ _ _ _ _ _ _ (past_sizes (sized (goal.at.returns-then-a-height c).In_ok-table_sizes) (fails_here c.if-a-height.true))
 
 pub returns-then-d-width : goal.returns-then-d-width
-returns-then-d-width c = quasiinverse_refused _ _ _ _ _ _ _ (past_sizes (sized (goal.at.returns-then-d-width c).In_ok-table_sizes) (c.if-a-height.false then fails_here c.if-d-width.true))
+returns-then-d-width c =
+    quasiinverse_refused _ _ _ _ _ _ _
+    (past_sizes (sized (goal.at.returns-then-d-width c).In_ok-table_sizes) (c.if-a-height.false then fails_here c.if-d-width.true))
 
 pub returns-then-columns-width : goal.returns-then-columns-width
 returns-then-columns-width c =
@@ -49,8 +51,7 @@ checked c sized =
     passes_all (sized) c.if-a-height.false
     (guard_left c.all_below.ensures c.if-not-all_below.false-raw)
 
-room : (c : Else-not-all_below) → InverseRoom c.args.m c.args.n c.args.d.now c.args.columns.now
-    c.args.rows.now
+room : (c : Else-not-all_below) → InverseRoom c.args.m c.args.n c.args.d.now c.args.columns.now c.args.rows.now
 room c = record { d_long = c.if-d-width.false; columns_long = c.if-columns-width.false; rows_long = c.if-rows-height.false }
 
 -- so it is a table
@@ -61,4 +62,5 @@ invariant_of-table c =
 pub returns : goal.returns
 returns c =
     let e = c.invert_ranked.ensures in
-    quasiinverse_done _ _ _ _ _ _ _ _ _ _ _ (checked (goal.at.returns c).Else-not-all_below (sized (goal.at.returns c).In_ok-table_sizes)) (room (goal.at.returns c).Else-not-all_below) (λ ok. (e ok).0) (λ ok. (e ok).1)
+    let k = checked (goal.at.returns c).Else-not-all_below (sized (goal.at.returns c).In_ok-table_sizes) in
+    quasiinverse_done _ _ _ _ _ _ _ _ _ _ _ k (room (goal.at.returns c).Else-not-all_below) (λ ok. (e ok).0) (λ ok. (e ok).1)

@@ -66,4 +66,6 @@ system c =
     }
 
 pub returns : goal.returns
-returns c = system_hold _ _ _ _ _ _ _ (checked (goal.at.returns c).Else-not-all_below (sized (goal.at.returns c).In_ok-table_sizes)) (system (goal.at.returns c).Else-not-all_below-2)
+returns c =
+    let k = checked (goal.at.returns c).Else-not-all_below (sized (goal.at.returns c).In_ok-table_sizes) in
+    system_hold _ _ _ _ _ _ _ k (system (goal.at.returns c).Else-not-all_below-2)

@@ -11,4 +11,4 @@ pub returns : goal.returns
 returns c ok =
     let z = c.copy in
     solved_by_lem _ ok _ _ _ _ (c.fit_of-rank.ensures ok) _ _ c.in_default.ensures
-    (copied_whole _ (c.fit_of-rank.new.z) z.new.zs (c.fit_of-rank.auto.z ∙ c.requires.1) (z.ensures.same_length ∙ c.requires.0.z_long) z.ensures.front)
+    (copied_whole _ (c.fit_of-rank.new.z) z.new.zs (c.fit_of-rank.auto.z ∙ c.requires.0) (z.ensures.same_length ∙ c.requires.1) z.ensures.front)
