@@ -6,7 +6,7 @@ use mathlib.Core.List.{List}
 use Prim.Native.Nat.{ℕ, zero, suc, ◌+◌, ◌*◌, ◌≤◌}
 use native.Mathlib.Nat.{add-zero}
 use native.Mathlib.Omega.{arith}
-use lib.ListN.{length, get_or}
+use lib.ListN.{get_or}
 use Rattle.algebra.specs.Matrix.{product, transpose}
 use Rattle.algebra.specs.Quasiinverse.{IsPivotInverse}
 use Rattle.algebra.proofs.Step.{product_row}
@@ -20,41 +20,15 @@ use Rattle.field.specs.Residue.{residues, reduce}
 use Rattle.field.specs.Written.{marked}
 use Rattle.field.proofs.Field.{residues_ring}
 use Rattle.field.proofs.Written.{marked_no, marked_yes}
-use Rattle.matrix_echelon.specs.Grid.{grid_of, TableReadable, Readable}
+use Rattle.matrix_echelon.specs.Grid.{grid_of}
 use Rattle.matrix_echelon.specs.Forward.{IsRank}
 use Rattle.matrix_echelon.specs.Reduced.{ReducedForm, RowsByPivot}
-use Rattle.matrix_echelon.proofs.Grids.{grid_table, grid_turned, readable_one}
+use Rattle.matrix_echelon.proofs.Grids.{grid_table, grid_turned}
 use Rattle.matrix_echelon.proofs.ReducedRows.{no_pivot_outside}
 use Rattle.matrix.specs.Calls.{table_of, table_rank, inverse_of}
-use Rattle.matrix.specs.Parts.{Checked, plain, turned, ReducedRows, KernelVectors, StoresBasis}
-use Rattle.matrix.proofs.Memory.{place_inside}
+use Rattle.matrix.specs.Parts.{plain, turned, ReducedRows, KernelVectors, StoresBasis}
 use Rattle.matrix.proofs.Stored.{rank_is, inverse_so}
 use Rattle.matrix.proofs.Basis.{basis_stored}
-
--- a table that has passed the checks can be read, and with a column of numbers beside it
-module _ {p m n : ℕ} {a : List ℕ} (k : Checked p m n a) where
-  pub plain_table : TableReadable p (plain m n) a
-  plain_table =
-      record {
-        is_modulus = k.is_modulus;
-        rows_most = k.m_most;
-        columns_most = k.n_most;
-        inside = λ i j h b. omega (arith, place_inside i j m n h b, k.a_long);
-      }
-
-  pub plain_readable : {w : List ℕ} → m ≤ length w → Readable p (plain m n) a w 1 1
-  plain_readable l = readable_one plain_table (λ t h. omega arith)
-
-  pub turned_readable : {w : List ℕ} → n ≤ length w → Readable p (turned m n) a w 1 1
-  turned_readable l =
-      readable_one
-      (record {
-        is_modulus = k.is_modulus;
-        rows_most = k.n_most;
-        columns_most = k.m_most;
-        inside = λ i j h b. omega (arith, place_inside j i m n b h, k.a_long);
-      })
-      (λ t h. omega arith)
 
 module _ (p m n : ℕ) (a : List ℕ) where
   plain_same : grid_of p (plain m n) a ≡ table_of p m n a

@@ -1,8 +1,7 @@
 -- What a pivot inverse of a table in memory is: 01's D, I, J and r of that table, as the definitions name them, and no other.
 use mathlib.Core.Path.{◌≡◌, refl, sym, ap, ◌∙◌, fun_ext, subst}
 use mathlib.Core.List.{List}
-use Prim.Native.Nat.{ℕ, ◌+◌, ◌*◌, ◌≤◌, ◌<◌}
-use native.Mathlib.Omega.{arith}
+use Prim.Native.Nat.{ℕ, ◌*◌, ◌≤◌, ◌<◌}
 use lib.ListN.{length, get_or}
 use Rattle.algebra.specs.Choice.{choose}
 use Rattle.algebra.specs.Matrix.{Matrix}
@@ -12,13 +11,13 @@ use Rattle.algebra.proofs.Marked.{columns_are_chosen, rows_are_chosen, rank_coun
 use Rattle.checks.specs.Prime.{IsModulus}
 use Rattle.field.specs.Residue.{residues}
 use Rattle.field.specs.View.{table}
-use Rattle.words.specs.Words.{Below, Blank}
+use Rattle.words.specs.Words.{Below}
 use Rattle.field.specs.Written.{marks_of}
 use Rattle.field.proofs.Views.{table_sized}
-use Rattle.matrix_inverse.specs.Eliminated.{Eliminable, Eliminated}
+use Rattle.matrix_inverse.specs.Eliminated.{Eliminated}
 use Rattle.matrix.specs.Decide.{field, combinations, given_inverse}
 use Rattle.matrix.specs.Calls.{table_of, columns_of, row_marks_of, table_rank, inverse_of}
-use Rattle.matrix.specs.Parts.{Checked, InverseRoom, StoresInverse}
+use Rattle.matrix.specs.Parts.{InverseRoom, StoresInverse}
 use Rattle.matrix.proofs.Memory.{rows_written, marks_written}
 
 module _ (p : ℕ) (ok : IsModulus p) (m n : ℕ) (a : List ℕ) where
@@ -66,26 +65,7 @@ module _ (p : ℕ) (ok : IsModulus p) (m n : ℕ) (a : List ℕ) where
         rows_written = marks_written m J rows lr r ∙ ap (marks_of m) (rows_are Q);
       }
 
--- memory that was cleared is what the elimination asks for
-pub cleared_eliminable : (p m n : ℕ) (a d columns rows : List ℕ) → Checked p m n a → InverseRoom m n d columns rows
-    → Blank d → Eliminable p m n a d 0 m columns rows
-cleared_eliminable p m n a d columns rows k r z =
-    record {
-      is_modulus = k.is_modulus;
-      m_most = k.m_most;
-      n_most = k.n_most;
-      stride_most = k.m_most;
-      a_long = k.a_long;
-      a_below = k.a_below;
-      d_long = r.d_long;
-      d_below = λ i l. omega (arith, z i, k.is_modulus.prime.two_or_more);
-      fits = omega arith;
-      blank = λ i j h l. z (0 + i * m + j);
-      columns_long = omega (arith, r.columns_long);
-      rows_long = r.rows_long;
-    }
-
--- and what the elimination leaves in it is D, I and J
+-- what the elimination leaves in memory that was cleared is D, I and J
 pub eliminated_inverted : (p : ℕ) (ok : IsModulus p) (m n : ℕ) (a d columns rows d' columns' rows' : List ℕ) → InverseRoom m n d columns rows
     → ((c : ℕ) → get_or columns c 0 ≡ 0) → ((y : ℕ) → get_or rows y 0 ≡ 0)
     → Eliminated p m n a d 0 m columns rows d' columns' rows' → StoresInverse p ok m n a d' columns' rows'

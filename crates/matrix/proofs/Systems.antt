@@ -3,7 +3,7 @@
 use mathlib.Core.Path.{◌≡◌, sym, ap, ap₂, ◌∙◌}
 use mathlib.Core.Bool.{true}
 use mathlib.Core.List.{List}
-use Prim.Native.Nat.{ℕ, ◌≤◌, ◌<◌}
+use Prim.Native.Nat.{ℕ, ◌<◌}
 use native.Mathlib.Omega.{arith}
 use lib.ListN.{length, get_or}
 use Rattle.algebra.specs.Matrix.{Vector, apply}
@@ -90,9 +90,6 @@ module _ (p : ℕ) (m n : ℕ) (a w x : List ℕ) {r : ℕ} (s : SolutionFound p
   candidate_found ok =
       s.is_solution
       ∙ ap₂ (λ X v. numbers n (apply (residues p) m X v)) (plain_inverse p m n a s.rank ok) (vector_line p w)
-
-  pub solution_long : length x ≡ n
-  solution_long = ap length s.is_solution ∙ length_tabulate n _
 
   -- so what that leaves over makes it a fit
   pub fit_made : (rest : List ℕ) → rest ≡ numbers m (remainder (residues p) n (table_of p m n a) (vector_of p x) (vector_of p w))

@@ -1,18 +1,12 @@
-// What the calls on tables are made of: the quasiinverse of a table that has passed the checks, the vectors that its reduced form
-// gives, the mix of a row, and what a column leaves over. The calls of `matrix_calls` meet what each requires.
+// What the calls on tables are made of beside the methods of `Table`: the number of marks, and the kernel vectors that a reduced form
+// gives. The calls of `matrix_calls` meet what each requires.
 ghost use Rattle.std.specs.Prelude.{◌≡◌, ℕ, ◌*◌, ◌≤◌, ◌<◌, length, get_or};
 ghost use Rattle.algebra.specs.Kernel.{kernel_vector};
-ghost use Rattle.algebra.specs.Solve.{mix_of, remainder};
 ghost use Rattle.checks.specs.Largest.{largest};
-ghost use Rattle.checks.specs.Prime.{IsModulus};
 ghost use Rattle.field.specs.Residue.{residues};
 ghost use Rattle.field.specs.Written.{numbers};
 ghost use Rattle.field.proofs.Totals.{total};
-ghost use Rattle.words.specs.Words.{Below};
-ghost use Rattle.matrix.specs.Calls.{table_of, inverse_of, vector_of};
-ghost use Rattle.matrix.specs.Parts.{ReducedRows, IsFree, KernelVectors, Checked, InverseRoom, StoresInverse};
-
-use matrix_echelon::{Grid, reduced};
+ghost use Rattle.matrix.specs.Parts.{ReducedRows, IsFree, KernelVectors};
 
 // The sum of marks, each 0 or 1.
 pub fn count_marks(xs: &[u32]) -> u32
@@ -64,57 +58,4 @@ pub fn kernel_vectors(p: u32, n: usize, at: &[u32], e: &[u32], basis: &mut [u32]
     let rest = k * n;
     words::clear(&mut basis[rest..]);
     k as u32
-}
-
-// Row y of 1 - A D. Row y of A D is row y of A as a combination of the rows of J: the solution of the turned system that has row y
-// as its right side.
-pub fn row_mix(p: u32, m: usize, n: usize, a: &[u32], y: usize, u: &mut [u32])
-    requires { Checked p m n a.now × (y < m) × (length u.old ≡ m) }
-    ensures { (ok : IsModulus p) → u.new ≡ numbers m (mix_of (residues p) n (table_of p m n a.now) (inverse_of p ok m n a.now) y) }
-{
-    let turned = Grid {
-        start: 0,
-        down: 1,
-        along: n,
-        rows: n,
-        columns: m,
-    };
-    let from = y * n;
-    let end = from + n;
-    reduced::solution(p, turned, a, &a[from..end], 1, u);
-    matrix_mul::negate(p, u);
-    u[y] = field::arith::plus(p, u[y], 1);
-}
-
-// What x leaves over of w, row after row: w - A x.
-pub fn remainder(p: u32, m: usize, n: usize, a: &[u32], x: &[u32], w: &[u32], rest: &mut [u32])
-    requires { Checked p m n a.now × (length x.now ≡ n) × (length w.now ≡ m) × Below p w.now × (length rest.old ≡ m) }
-    ensures { rest.new
-        ≡ numbers m (remainder (residues p) n (table_of p m n a.now) (vector_of p x.now) (vector_of p w.now)) }
-{
-    for i in 0..m {
-        let start = i * n;
-        let end = start + n;
-        let image = field::sums::dot(p, &a[start..end], x, 0, 1);
-        rest[i] = field::arith::minus(p, w[i], image);
-    }
-}
-
-// D, I and J of a table that has passed the checks, by Algorithm Q on memory that is cleared first.
-pub fn invert(
-    p: u32,
-    m: usize,
-    n: usize,
-    a: &[u32],
-    d: &mut [u32],
-    columns: &mut [u32],
-    rows: &mut [u32],
-)
-    requires { Checked p m n a.now × InverseRoom m n d.old columns.old rows.old }
-    ensures { (ok : IsModulus p) → StoresInverse p ok m n a.now d.new columns.new rows.new }
-{
-    words::clear(d);
-    words::clear(columns);
-    words::clear(rows);
-    matrix_inverse::eliminate::eliminate(p, m, n, a, d, 0, m, columns, rows);
 }

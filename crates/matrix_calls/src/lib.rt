@@ -9,7 +9,8 @@ ghost use Rattle.checks.specs.Outcome.{outcome};
 ghost use Rattle.checks.specs.Sizes.{Judges};
 
 use checks::Refusal;
-use matrix_check::absorbs;
+use matrix::table::{LinearSystem, Table};
+use matrix_check::Factors;
 use words::all_below;
 
 pub mod work;
@@ -45,7 +46,13 @@ pub fn quasiinverse(
     if !all_below(p, a) {
         return Err(Refusal::Number);
     }
-    Ok(work::invert_ranked(p, height, width, a, d, columns, rows))
+    let table = Table {
+        p,
+        height,
+        width,
+        numbers: a,
+    };
+    Ok(work::invert_ranked(table, d, columns, rows))
 }
 
 // The kernel of the table: one vector for each column outside I, vector after vector at the front of the basis, the rest 0, and
@@ -65,7 +72,13 @@ pub fn kernel(p: u32, m: u32, n: u32, a: &[u32], basis: &mut [u32]) -> Result<u3
     if !all_below(p, a) {
         return Err(Refusal::Number);
     }
-    Ok(work::kernel_of(p, height, width, a, basis))
+    let table = Table {
+        p,
+        height,
+        width,
+        numbers: a,
+    };
+    Ok(work::kernel_of(table, basis))
 }
 
 // What solve and fit check: 1 and 2; 3 for a, w, z and the last slice, which is lent as many numbers as w has; 4 for a, then w.
@@ -117,7 +130,14 @@ pub fn solve(
     ensures { outcome (result_told result) (z.new, u.new) ≡ solve_call p m n a.now w.now z.old u.old }
 {
     system_checks(p, m, n, a, w, z, u)?;
-    work::solve_of(p, m as usize, n as usize, a, w, z, u)
+    let table = Table {
+        p,
+        height: m as usize,
+        width: n as usize,
+        numbers: a,
+    };
+    let system = LinearSystem { table, w };
+    work::solve_of(system, z, u)
 }
 
 // The nearest fit z = D w, whether A x = w has a solution or not, with what it leaves over, w - A z, and the rank.
@@ -133,7 +153,14 @@ pub fn fit(
     ensures { outcome (result_told result) (z.new, rest.new) ≡ fit_call p m n a.now w.now z.old rest.old }
 {
     system_checks(p, m, n, a, w, z, rest)?;
-    Ok(work::fit_of(p, m as usize, n as usize, a, w, z, rest))
+    let table = Table {
+        p,
+        height: m as usize,
+        width: n as usize,
+        numbers: a,
+    };
+    let system = LinearSystem { table, w };
+    Ok(work::fit_of(system, z, rest))
 }
 
 // What check checks first: 1 and 2; 3 for a, then d; 4 for a, then d.
@@ -166,11 +193,31 @@ pub fn check(p: u32, m: u32, n: u32, a: &[u32], d: &[u32]) -> Result<u32, Refusa
     pair_checks(p, m, n, a, d)?;
     let height = m as usize;
     let width = n as usize;
-    if !absorbs(p, height, width, a, d) {
+    let inner = Factors {
+        p,
+        height,
+        width,
+        a,
+        d,
+    };
+    if !inner.absorbs() {
         return Err(Refusal::NotInner);
     }
-    if !absorbs(p, width, height, d, a) {
+    let outer = Factors {
+        p,
+        height: width,
+        width: height,
+        a: d,
+        d: a,
+    };
+    if !outer.absorbs() {
         return Err(Refusal::NotOuter);
     }
-    Ok(work::rank_of(p, height, width, a))
+    let table = Table {
+        p,
+        height,
+        width,
+        numbers: a,
+    };
+    Ok(work::rank_of(table))
 }

@@ -4,7 +4,6 @@ use mathlib.Core.Path.{◌≡◌, refl, sym, ap, ap₂, ◌∙◌}
 use mathlib.Core.Bool.{Bool}
 use mathlib.Core.List.{List}
 use Prim.Native.Nat.{ℕ, ◌+◌, ◌*◌, ◌-◌, ◌≤◌, ◌<◌}
-use native.Mathlib.Nat.{mul-le-mul}
 use native.Mathlib.Omega.{arith}
 use lib.ListN.{length, get_or, take, drop}
 use lib.Seq.{ext_get_or}
@@ -77,10 +76,6 @@ module _ {p m n : ℕ} {a d : List ℕ} (P : Pair p m n a d) (i : ℕ) (h : i < 
   pub row_ends : i * n + n ≤ length a
   row_ends = omega (arith, P.a_long, row_inside i m n h)
 
-  -- tables have few numbers
-  pub row_few : i * n + n ≤ 4096
-  row_few = omega (arith, row_inside i m n h, mul-le-mul P.m_most P.n_most)
-
   pub row_long : length row ≡ n
   row_long = part_long a (i * n) n row_ends
 
@@ -89,19 +84,6 @@ module _ {p m n : ℕ} {a d : List ℕ} (P : Pair p m n a d) (i : ℕ) (h : i < 
 
   row_entry_lem : (t : ℕ) → t < n → line p row 0 1 t ≡ A i t
   row_entry_lem t l = part_line p a (i * n) n t l ∙ sym (row_line p a m n i t h l)
-
-  -- it can be multiplied by D
-  pub first_factors : (through : List ℕ) → length through ≡ m → RowFactors p row d through
-  first_factors through long =
-      record {
-        positive = P.positive;
-        in_range = P.in_range;
-        few = omega (arith, row_long, P.n_most);
-        narrow = omega (arith, P.m_most);
-        row_below = row_below;
-        table_below = P.d_below;
-        table_long = P.d_long ∙ ap₂ ◌*◌ (sym row_long) (sym long);
-      }
 
   module _ {through : List ℕ} (made : through ≡ numbers m (row_times p row d m)) where
     through_long : length through ≡ m
@@ -115,7 +97,7 @@ module _ {p m n : ℕ} {a d : List ℕ} (P : Pair p m n a d) (i : ℕ) (h : i < 
         ∙ ap (λ k. mixed (residues p) k (line p row 0 1) (matrix_of p d k m) t) row_long
         ∙ mixed_same (residues p) n (line p row 0 1) (A i) D row_entry_lem t
 
-    -- and can be multiplied by A
+    -- and it can be multiplied by A
     pub second_factors : (back : List ℕ) → length back ≡ n → RowFactors p through a back
     second_factors back long =
         record {

@@ -22,54 +22,50 @@ fn times(p: u32, row: &[u32], table: &[u32], out: &mut [u32])
     matrix_mul::rows::combine(p, row, table, 0, width, out);
 }
 
-// Whether row i of A D A is row i of A: the row times D, and that times A. `through` and `back` are room for both.
-fn row_kept(
-    p: u32,
-    n: usize,
-    a: &[u32],
-    d: &[u32],
-    i: usize,
-    through: &mut [u32],
-    back: &mut [u32],
-) -> bool
-    requires { Pair p (length through.old) n a.now d.now × (i < length through.old) × (length back.old ≡ n) }
-    ensures { Tells result (RowKept p (length through.old) n a.now d.now i) }
-{
-    let from = i * n;
-    let end = from + n;
-    times(p, &a[from..end], d, through);
-    times(p, through, a, back);
-    words::same(back, &a[from..end])
+// The factors of A D A in memory: A, `height` rows of `width` numbers, and D, `width` rows of `height` numbers, all below p.
+#[derive(Clone, Copy)]
+pub struct Factors<'a, 'd> {
+    pub p: u32,
+    pub height: usize,
+    pub width: usize,
+    pub a: &'a [u32],
+    pub d: &'d [u32],
+    ghost pair: { Pair p height width a.now d.now },
 }
 
-// Whether all rows are.
-fn rows_kept(
-    p: u32,
-    m: usize,
-    n: usize,
-    a: &[u32],
-    d: &[u32],
-    through: &mut [u32],
-    back: &mut [u32],
-) -> bool
-    requires { Pair p m n a.now d.now × Rooms m n through.old back.old }
-    ensures { Tells result (RowsKept p m n a.now d.now m) }
-{
-    for i in 0..m {
-        if !row_kept(p, n, a, d, i, through, back) {
-            return false;
-        }
+impl Factors<'_, '_> {
+    // Whether row i of A D A is row i of A: the row times D, and that times A. `through` and `back` are room for both.
+    fn row_kept(self, i: usize, through: &mut [u32], back: &mut [u32]) -> bool
+        requires { (i < self.height) × Rooms self.height self.width through.old back.old }
+        ensures { let f = self.entry in Tells result (RowKept f.p f.height f.width f.a.now f.d.now i) }
+    {
+        let from = i * self.width;
+        let end = from + self.width;
+        times(self.p, &self.a[from..end], self.d, through);
+        times(self.p, through, self.a, back);
+        words::same(back, &self.a[from..end])
     }
-    true
-}
 
-// Whether A D A = A, where A has m rows and n columns, and D has n rows and m columns: D is an inner inverse of A, and A an outer
-// inverse of D.
-pub fn absorbs(p: u32, m: usize, n: usize, a: &[u32], d: &[u32]) -> bool
-    requires { Pair p m n a.now d.now }
-    ensures { Tells result (Absorbs (residues p) m n (matrix_of p a.now m n) (matrix_of p d.now n m)) }
-{
-    let mut through: [u32; ROW] = filled(0);
-    let mut back: [u32; ROW] = filled(0);
-    rows_kept(p, m, n, a, d, &mut through[..m], &mut back[..n])
+    // Whether all rows are.
+    fn rows_kept(self, through: &mut [u32], back: &mut [u32]) -> bool
+        requires { Rooms self.height self.width through.old back.old }
+        ensures { let f = self.entry in Tells result (RowsKept f.p f.height f.width f.a.now f.d.now f.height) }
+    {
+        for i in 0..self.height {
+            if !self.row_kept(i, through, back) {
+                return false;
+            }
+        }
+        true
+    }
+
+    // Whether A D A = A: D is an inner inverse of A, and A an outer inverse of D.
+    pub fn absorbs(self) -> bool
+        ensures { let f = self.entry in Tells result
+            (Absorbs (residues f.p) f.height f.width (matrix_of f.p f.a.now f.height f.width) (matrix_of f.p f.d.now f.width f.height)) }
+    {
+        let mut through: [u32; ROW] = filled(0);
+        let mut back: [u32; ROW] = filled(0);
+        self.rows_kept(&mut through[..self.height], &mut back[..self.width])
+    }
 }

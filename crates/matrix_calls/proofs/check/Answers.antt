@@ -40,22 +40,22 @@ pairs c = let (k, l) = tables c in (pair_of k l, pair_of l k)
 pub returns-in_err-pair_checks : goal.returns-in_err-pair_checks
 returns-in_err-pair_checks c = rw (refused_on c.from_residual.result c.from_residual.ensures.1) (check_refused _ _ _ _ _ (c.in_err-pair_checks.ensures))
 
-pub absorbs-requires : goal.absorbs-requires
-absorbs-requires c = search ((pairs (goal.at.absorbs-requires c).In_ok-pair_checks).0, (pairs (goal.at.absorbs-requires c).In_ok-pair_checks).1)
+pub invariant_of-inner : goal.invariant_of-inner
+invariant_of-inner c = record { pair = (pairs (goal.at.invariant_of-inner c).In_ok-pair_checks).0 }
 
 pub returns-then-not-absorbs : goal.returns-then-not-absorbs
 returns-then-not-absorbs c = check_not_inner _ _ _ _ _ (passed (goal.at.returns-then-not-absorbs c).In_ok-pair_checks) (guard_taken c.absorbs.ensures c.if-not-absorbs.true-raw)
 
-pub absorbs-requires-2 : goal.absorbs-requires-2
-absorbs-requires-2 c = search ((pairs (goal.at.absorbs-requires-2 c).In_ok-pair_checks).0, (pairs (goal.at.absorbs-requires-2 c).In_ok-pair_checks).1)
+pub invariant_of-outer : goal.invariant_of-outer
+invariant_of-outer c = record { pair = (pairs (goal.at.invariant_of-outer c).In_ok-pair_checks).1 }
 
 pub returns-then-not-absorbs-2 : goal.returns-then-not-absorbs-2
 returns-then-not-absorbs-2 c =
     check_not_outer _ _ _ _ _ (passed (goal.at.returns-then-not-absorbs-2 c).In_ok-pair_checks) (guard_left c.absorbs.ensures c.if-not-absorbs.false-raw)
     (guard_taken c.absorbs-2.ensures c.if-not-absorbs-2.true-raw)
 
-pub rank_of-requires : goal.rank_of-requires
-rank_of-requires c = (tables (goal.at.rank_of-requires c).In_ok-pair_checks).0
+pub invariant_of-table : goal.invariant_of-table
+invariant_of-table c = record { checked = (tables (goal.at.invariant_of-table c).In_ok-pair_checks).0 }
 
 pub returns : goal.returns
 returns c =

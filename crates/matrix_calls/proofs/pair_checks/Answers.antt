@@ -1,12 +1,10 @@
 -- `matrix_calls::pair_checks` meets its contract: each return is the first check that fails, or that all hold.
 use Rattle.checks.proofs.PassedOn.{refused_on}
-use native.Mathlib.Omega.{arith}
 use Rattle.algebra.proofs.Answers.{guard_left, guard_taken}
 use Rattle.checks.specs.InOrder.{Given}
 use Rattle.checks.specs.Sizes.{table_sizes}
 use Rattle.checks.proofs.InOrder.{given, fails_here, ◌then◌, none_left, ◌and_then◌}
 use Rattle.checks.proofs.TableSizes.{past_sizes, sizes_first}
-use Rattle.matrix.proofs.Memory.{table_most}
 use Rattle.matrix_calls.proofs.pair_checks.Goals as goal
 use Rattle.matrix_calls.proofs.pair_checks.Goals.{In_ok-table_sizes}
 
@@ -16,20 +14,8 @@ sized c = given c.in_ok-table_sizes.ensures
 pub returns-in_err-table_sizes : goal.returns-in_err-table_sizes
 returns-in_err-table_sizes c = rw (refused_on c.from_residual.result c.from_residual.ensures.1) (sizes_first c.in_err-table_sizes.ensures)
 
-pub overflow_mul-height : goal.overflow_mul-height
-overflow_mul-height c =
-    let a = c.args in
-    let s = (sized (goal.at.overflow_mul-height c).In_ok-table_sizes).1.0 in
-    omega (arith, table_most a.m a.n s.0 s.1)
-
 pub returns-then-a-height : goal.returns-then-a-height
 returns-then-a-height c = past_sizes (sized (goal.at.returns-then-a-height c).In_ok-table_sizes) (fails_here c.if-a-height.true)
-
-pub overflow_mul-width : goal.overflow_mul-width
-overflow_mul-width c =
-    let a = c.args in
-    let s = (sized (goal.at.overflow_mul-width c).In_ok-table_sizes).1.0 in
-    omega (arith, table_most a.n a.m s.1 s.0)
 
 pub returns-then-d-width : goal.returns-then-d-width
 returns-then-d-width c = past_sizes (sized (goal.at.returns-then-d-width c).In_ok-table_sizes) (c.if-a-height.false then fails_here c.if-d-width.true)

@@ -1,7 +1,6 @@
 -- `matrix_calls::quasiinverse` meets its contract: each return is the refusal by the first check that fails, or D, I and J with the
 -- rank.
 use Rattle.checks.proofs.PassedOn.{refused_on}
-use native.Mathlib.Omega.{arith}
 use Rattle.algebra.proofs.Answers.{guard_left, guard_taken}
 use Rattle.checks.specs.InOrder.{Given}
 use Rattle.checks.specs.Sizes.{table_sizes}
@@ -9,7 +8,6 @@ use Rattle.checks.proofs.InOrder.{given, fails_here, ◌then◌}
 use Rattle.matrix.specs.Parts.{Checked, InverseRoom}
 use Rattle.checks.proofs.TableSizes.{past_sizes, sizes_first}
 use Rattle.matrix.proofs.Answers.{passes_all, quasiinverse_refused, quasiinverse_done}
-use Rattle.matrix.proofs.Memory.{table_most}
 use Rattle.matrix_calls.proofs.quasiinverse.Goals as goal
 use Rattle.matrix_calls.proofs.quasiinverse.Goals.{Else-not-all_below, In_ok-table_sizes}
 
@@ -19,23 +17,13 @@ sized c = given c.in_ok-table_sizes.ensures
 pub returns-in_err-table_sizes : goal.returns-in_err-table_sizes
 returns-in_err-table_sizes c = rw (refused_on c.from_residual.result c.from_residual.ensures.1) (quasiinverse_refused _ _ _ _ _ _ _ (sizes_first c.in_err-table_sizes.ensures))
 
-pub overflow_mul-height : goal.overflow_mul-height
-overflow_mul-height c =
-    let a = c.args in
-    let s = (sized (goal.at.overflow_mul-height c).In_ok-table_sizes).1.0 in
-    omega (arith, table_most a.m a.n s.0 s.1)
-
 pub returns-then-a-height : goal.returns-then-a-height
 returns-then-a-height c = quasiinverse_refused _ _ _ _ _ _ _ (past_sizes (sized (goal.at.returns-then-a-height c).In_ok-table_sizes) (fails_here c.if-a-height.true))
 
-pub overflow_mul-width : goal.overflow_mul-width
-overflow_mul-width c =
-    let a = c.args in
-    let s = (sized (goal.at.overflow_mul-width c).In_ok-table_sizes).1.0 in
-    omega (arith, table_most a.n a.m s.1 s.0)
-
 pub returns-then-d-width : goal.returns-then-d-width
-returns-then-d-width c = quasiinverse_refused _ _ _ _ _ _ _ (past_sizes (sized (goal.at.returns-then-d-width c).In_ok-table_sizes) (c.if-a-height.false then fails_here c.if-d-width.true))
+returns-then-d-width c =
+    quasiinverse_refused _ _ _ _ _ _ _
+    (past_sizes (sized (goal.at.returns-then-d-width c).In_ok-table_sizes) (c.if-a-height.false then fails_here c.if-d-width.true))
 
 pub returns-then-columns-width : goal.returns-then-columns-width
 returns-then-columns-width c =
@@ -63,23 +51,16 @@ checked c sized =
     passes_all (sized) c.if-a-height.false
     (guard_left c.all_below.ensures c.if-not-all_below.false-raw)
 
-room : (c : Else-not-all_below) → InverseRoom c.args.m c.args.n c.args.d.now c.args.columns.now
-    c.args.rows.now
+room : (c : Else-not-all_below) → InverseRoom c.args.m c.args.n c.args.d.now c.args.columns.now c.args.rows.now
 room c = record { d_long = c.if-d-width.false; columns_long = c.if-columns-width.false; rows_long = c.if-rows-height.false }
 
-pub invert_ranked-requires : goal.invert_ranked-requires
-invert_ranked-requires c = (checked (goal.at.invert_ranked-requires c).Else-not-all_below (sized (goal.at.invert_ranked-requires c).In_ok-table_sizes), room (goal.at.invert_ranked-requires c).Else-not-all_below)
-
-pub shape_of-d : goal.shape_of-d
-shape_of-d c = c.invert_ranked.auto.d
-
-pub shape_of-columns : goal.shape_of-columns
-shape_of-columns c = c.invert_ranked.auto.columns
-
-pub shape_of-rows : goal.shape_of-rows
-shape_of-rows c = c.invert_ranked.auto.rows
+-- so it is a table
+pub invariant_of-table : goal.invariant_of-table
+invariant_of-table c =
+    record { checked = checked (goal.at.invariant_of-table c).Else-not-all_below (sized (goal.at.invariant_of-table c).In_ok-table_sizes) }
 
 pub returns : goal.returns
 returns c =
     let e = c.invert_ranked.ensures in
-    quasiinverse_done _ _ _ _ _ _ _ _ _ _ _ (checked (goal.at.returns c).Else-not-all_below (sized (goal.at.returns c).In_ok-table_sizes)) (room (goal.at.returns c).Else-not-all_below) (λ ok. (e ok).0) (λ ok. (e ok).1)
+    let k = checked (goal.at.returns c).Else-not-all_below (sized (goal.at.returns c).In_ok-table_sizes) in
+    quasiinverse_done _ _ _ _ _ _ _ _ _ _ _ k (room (goal.at.returns c).Else-not-all_below) (λ ok. (e ok).0) (λ ok. (e ok).1)

@@ -1,6 +1,5 @@
 -- `matrix_calls::system_checks` meets its contract: each return is the first check that fails, or that all hold.
 use Rattle.checks.proofs.PassedOn.{refused_on}
-use native.Mathlib.Omega.{arith}
 use Rattle.algebra.proofs.Answers.{guard_left, guard_taken}
 use Rattle.checks.specs.InOrder.{Given}
 use Rattle.checks.specs.Sizes.{table_sizes}
@@ -8,7 +7,6 @@ use Rattle.checks.proofs.InOrder.{given, fails_here, ◌then◌}
 use Rattle.matrix.specs.Parts.{Checked, System}
 use Rattle.checks.proofs.TableSizes.{past_sizes, sizes_first}
 use Rattle.matrix.proofs.Answers.{passes_all, system_hold}
-use Rattle.matrix.proofs.Memory.{table_most}
 use Rattle.matrix_calls.proofs.system_checks.Goals as goal
 use Rattle.matrix_calls.proofs.system_checks.Goals.{Else-not-all_below, Else-not-all_below-2, In_ok-table_sizes}
 
@@ -17,12 +15,6 @@ sized c = given c.in_ok-table_sizes.ensures
 
 pub returns-in_err-table_sizes : goal.returns-in_err-table_sizes
 returns-in_err-table_sizes c = rw (refused_on c.from_residual.result c.from_residual.ensures.1) (sizes_first c.in_err-table_sizes.ensures)
-
-pub overflow_mul-height : goal.overflow_mul-height
-overflow_mul-height c =
-    let a = c.args in
-    let s = (sized (goal.at.overflow_mul-height c).In_ok-table_sizes).1.0 in
-    omega (arith, table_most a.m a.n s.0 s.1)
 
 pub returns-then-a-height : goal.returns-then-a-height
 returns-then-a-height c = past_sizes (sized (goal.at.returns-then-a-height c).In_ok-table_sizes) (fails_here c.if-a-height.true)
@@ -74,4 +66,6 @@ system c =
     }
 
 pub returns : goal.returns
-returns c = system_hold _ _ _ _ _ _ _ (checked (goal.at.returns c).Else-not-all_below (sized (goal.at.returns c).In_ok-table_sizes)) (system (goal.at.returns c).Else-not-all_below-2)
+returns c =
+    let k = checked (goal.at.returns c).Else-not-all_below (sized (goal.at.returns c).In_ok-table_sizes) in
+    system_hold _ _ _ _ _ _ _ k (system (goal.at.returns c).Else-not-all_below-2)
