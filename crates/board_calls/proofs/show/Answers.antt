@@ -9,13 +9,17 @@ use Rattle.algebra.proofs.Answers.{guard_taken}
 use Rattle.ledger.specs.Board.{IsBoard, size_word, values_word}
 use Rattle.ledger.proofs.WordsCalls.{show_off_board}
 use Rattle.board_words.proofs.TestBoard.{board_laid}
+use Rattle.board_solve.specs.Records.{BoardReduced}
 use Rattle.board_calls.proofs.CallShow.{show_no_marks, show_no_numbers, show_no_low, show_done}
 use Rattle.board_calls.proofs.show.Goals as goal
 use Rattle.board_calls.proofs.show.Goals.{Else-marks-header, Else-not-reduce_board, Else-numbers-header}
 
--- past the second test the words are a board
+-- past the second test the words are a board, and its rows are reduced
+held : (c : Else-not-reduce_board) → BoardReduced c.args.board.now c.reduce_board.new.e c.reduce_board.new.pivots
+held c = c.reduce_board.ensures.reduced (not-false _ c.if-not-reduce_board.false-raw)
+
 board : (c : Else-not-reduce_board) → IsBoard c.args.board.now
-board c = (c.reduce_board.ensures.reduced (not-false _ c.if-not-reduce_board.false-raw)).inverse.board
+board c = (held c).inverse.board
 
 -- what the tests of the lengths leave
 marks_long : (c : Else-marks-header) → length c.args.marks.now ≡ size_word c.args.board.now
@@ -46,6 +50,16 @@ returns-then-header-low c =
     show_no_low _ (board (goal.at.returns-then-header-low c).Else-not-reduce_board) _ _ _
     (marks_long (goal.at.returns-then-header-low c).Else-marks-header)
     (numbers_long (goal.at.returns-then-header-low c).Else-numbers-header) (omega arith)
+
+pub show_records-requires : goal.show_records-requires
+show_records-requires c =
+    let at = goal.at.show_records-requires c in
+    record {
+      reduced = held at.Else-not-reduce_board;
+      low_below = omega arith;
+      marks_long = marks_long at.Else-marks-header;
+      numbers_long = numbers_long at.Else-numbers-header;
+    }
 
 pub returns : goal.returns
 returns c =

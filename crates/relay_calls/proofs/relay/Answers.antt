@@ -65,6 +65,18 @@ returns-then-not-all_below c =
     (room at.Else-bytes-longest (most at.After-longest))
     (λ below. guard_taken c.all_below.ensures c.if-not-all_below.true-raw (rw (← c.of-header.ensures.modulus) at below))
 
+pub relay_row-requires : goal.relay_row-requires
+relay_row-requires c =
+    let at = goal.at.relay_row-requires c in
+    let wide_row = wide at.Else-not-candidate in
+    let below = guard_left c.all_below.ensures c.if-not-all_below.false-raw in
+    let small = rw c.of-header.ensures.modulus at below in
+    record {
+      findable = record { candidate = held at.Else-not-candidate; row = record { long = wide_row; below = λ j h. small j (omega arith) } };
+      mix_long = long at.Else-mix-header;
+      bytes_long = room at.Else-bytes-longest (most at.After-longest);
+    }
+
 pub returns : goal.returns
 returns c =
     let b = board (goal.at.returns c).Else-not-candidate in
