@@ -29,7 +29,6 @@ pub struct Header {
     pub k: usize,
     pub ghost few_records: { n ≤ largest },
     pub ghost few_words: { s ≤ most_words },
-    pub ghost few_rows: { k ≤ n },
 }
 
 impl Header {
@@ -43,6 +42,7 @@ impl Header {
         ensures records { result.n ≡ size_word board.now }
         ensures words { result.s ≡ values_word board.now }
         ensures rows { result.k ≡ count_word board.now }
+        ensures bound { result.k ≤ result.n }
     {
         Header {
             p: board[MODULUS],

@@ -25,7 +25,7 @@ pub drop_rows-requires : goal.drop_rows-requires
 drop_rows-requires c =
     let e = c.of-header.ensures in
     let inside = rows_inside _ (board_header (board (goal.at.drop_rows-requires c).Else-not-is_board)) in
-    (omega arith, rw (← e.records, ← e.words, ← e.rows) at inside)
+    (omega arith, rw (← e.records, ← e.words, ← e.rows) at inside, omega (arith, e.bound, (board (goal.at.drop_rows-requires c).Else-not-is_board).size.1, e.records))
 
 pub returns : goal.returns
 returns c =

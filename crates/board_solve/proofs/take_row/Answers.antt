@@ -30,7 +30,8 @@ append-requires c =
     let at = goal.at.append-requires c in
     let row = c.requires.findable.row in
     let e = c.of-header.ensures in
-    rw (e.records, e.words, e.rows) (row.long, c.requires.values_long, row_fits _ _ (board at.Start) row _ (none at.Then-not-find))
+    let (positive, small, few) = board_sizes _ (board at.Start) in
+    rw (e.records, e.words, e.rows) (row.long, c.requires.values_long, row_fits _ _ (board at.Start) row _ (none at.Then-not-find), few)
 
 pub returns-then-not-find : goal.returns-then-not-find
 returns-then-not-find c =
