@@ -2,9 +2,9 @@
 -- found. What `read_frame` answers tells what it found.
 use mathlib.Core.Path.{◌≡◌, refl, sym, ap, ap₂, ◌∙◌}
 use mathlib.Core.List.{List, ◌++◌}
-use Prim.Native.Nat.{ℕ, ◌≤◌, ◌<◌}
+use Prim.Native.Nat.{ℕ, ◌<◌}
 use native.Mathlib.Omega.{arith}
-use lib.ListN.{length, take, drop, length-append}
+use lib.ListN.{length, take, drop}
 use lib.Seq.{take_at}
 use Rattle.checks.specs.declared.Refusal.{Refusal}
 use Rattle.checks.specs.declared.Refusal.TheVariants.{Length}
@@ -62,9 +62,6 @@ numbers_found p n s frame lent written values r positive told t e =
 module _ (n : ℕ) (written : List ℕ) (long : length written ≡ n) (room : List ℕ) where
   row_front : take n (written ++ drop n room) ≡ written
   row_front = take_at written (drop n room) n long
-
-  pub row_inside : n ≤ length (written ++ drop n room)
-  row_inside = omega (arith, length-append written (drop n room), long)
 
   pub row_long : length (take n (written ++ drop n room)) ≡ n
   row_long = ap length row_front ∙ long
