@@ -23,6 +23,7 @@ pub struct Powers {
 }
 
 impl Powers {
+    // Those of p.
     pub fn of(p: u32) -> Powers
         requires { (0 < p) × (p ≤ largest_modulus) }
         ensures { result.p ≡ p }
@@ -55,6 +56,7 @@ pub struct Limbs {
 impl Limbs {
     ghost use Rattle.matrix_mul.specs.Rows.{FourInside, NothingBefore, four_at, NoLimbs, Ready, Added, whole_at, Summed};
 
+    // Nothing is added yet.
     pub fn new() -> Limbs
         ensures { NoLimbs result }
     {
