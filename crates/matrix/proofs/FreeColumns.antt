@@ -1,9 +1,9 @@
 -- The numbers of the kernel vector of a column without a pivot, from the reduced form: row j of D A is a row of it, or zeros.
 use mathlib.Core.Path.{◌≡◌, sym, ap, ap₂, ◌∙◌}
 use mathlib.Core.List.{List}
-use Prim.Native.Nat.{ℕ, suc, ◌+◌, ◌*◌, ◌-◌, ◌<◌}
+use Prim.Native.Nat.{ℕ, suc, ◌+◌, ◌*◌, ◌-◌}
 use native.Mathlib.Omega.{arith}
-use lib.ListN.{length, get_or}
+use lib.ListN.{get_or}
 use Rattle.algebra.specs.Matrix.{unit}
 use Rattle.algebra.specs.Kernel.{kernel_vector}
 use Rattle.algebra.proofs.Applied.{less_zero}
@@ -11,7 +11,6 @@ use Rattle.algebra.proofs.Sums.{unit_same, unit_other}
 use Rattle.field.specs.Residue.{Residue, residues, reduce, ◌⊕◌, negated}
 use Rattle.field.proofs.Field.{residues_ring}
 use Rattle.field.proofs.Residues.{reduce_small}
-use Rattle.matrix_echelon.proofs.WorkedClear.{row_inside}
 use Rattle.matrix.specs.Parts.{ReducedRows, IsFree}
 
 module _ {p n : ℕ} {at e : List ℕ} (h : ReducedRows p n at e) (c j : ℕ) where
@@ -34,12 +33,8 @@ module _ {p n : ℕ} {at e : List ℕ} (h : ReducedRows p n at e) (c j : ℕ) wh
       sym (reduce_small p 0 (omega (arith, h.is_modulus.prime.two_or_more)))
       ∙ ap (λ v. v.value) (sym (no_pivot z ∙ unit_other (residues p) j c d))
 
-  -- where j has a pivot: the place of its row's number at c, and what it gives
+  -- where j has a pivot: what its row's number at c gives
   module _ (pivot : get_or at j 0 ≡ 0 → ⊥) where
-    pub place_inside : c < n → (get_or at j 0 - 1) * n + c < length e
-    place_inside l =
-        omega (arith, row_inside (get_or at j 0 - 1) n (omega (arith, h.at_most j)) (omega (arith, h.n_most)), h.e_long)
-
     pub pivot_number : IsFree n at c → (r : ℕ) → r ≡ (reduce p 0 ⊕ negated (reduce p (get_or e ((get_or at j 0 - 1) * n + c) 0))).value
         → r ≡ entry.value
     unfolding kernel_vector
