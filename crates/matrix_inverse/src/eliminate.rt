@@ -285,7 +285,8 @@ fn halves_32(
     halves(p, m, n, a, d, at, stride, rows, &mut t, &mut c)
 }
 
-// Up to 8 rows in two halves, with scratch memory for these.
+// Up to 8 rows in two halves, with scratch memory for these. The two could be one function over the sizes, but of a cycle of calls whose
+// functions differ in their parameters no theorem can be stated yet.
 #[cycle(halves_halves_32_halves_8_lower_half)]
 fn halves_8(
     p: u32,
