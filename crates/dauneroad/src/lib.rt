@@ -33,7 +33,7 @@ fn take_number(answer: Result<Taken, Refusal>) -> u32
     }
 }
 
-// The number of what the other calls answer: 200 plus the result, or the refusal's.
+// The number of what the calls answer whose number tells the result: 200 plus it, or the refusal's.
 fn result_number(answer: Result<u32, Refusal>) -> u32
     requires { Small (result_told answer) }
     ensures { result ≡ (result_told answer).number }
