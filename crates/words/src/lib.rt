@@ -34,7 +34,9 @@ pub fn put(xs: &[u32], out: &mut [u32], at: usize)
     requires { at + length xs.now ≤ length out.old }
     ensures { PutAt xs.now at out.old out.new }
 {
-    out[at..at + xs.len()].copy_from_slice(xs);
+    for (j, x) in xs.iter().enumerate() {
+        out[at + j] = *x;
+    }
 }
 
 // Copies n numbers of xs, from start on, to the front of zs.
