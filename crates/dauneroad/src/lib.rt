@@ -79,6 +79,7 @@ pub extern "C" fn dauneroad_show(
 }
 
 #[unsafe(no_mangle)]
+#[tactic(auto, using(crate::proofs::Bounds::small_relay))]
 pub extern "C" fn dauneroad_relay(
     board: &[u32],
     wanted: &[u32],
@@ -92,6 +93,7 @@ pub extern "C" fn dauneroad_relay(
 }
 
 #[unsafe(no_mangle)]
+#[tactic(auto, using(crate::proofs::Bounds::small_read))]
 pub extern "C" fn dauneroad_read(
     p: u32,
     n: u32,
@@ -107,6 +109,7 @@ pub extern "C" fn dauneroad_read(
 }
 
 #[unsafe(no_mangle)]
+#[tactic(auto, using(crate::proofs::Bounds::small_write))]
 pub extern "C" fn dauneroad_write(
     p: u32,
     n: u32,
@@ -226,6 +229,7 @@ pub extern "C" fn dauneroad_check(p: u32, m: u32, n: u32, a: &[u32], d: &[u32]) 
 }
 
 #[unsafe(no_mangle)]
+#[tactic(auto, using(crate::proofs::Bounds::small_clash))]
 pub extern "C" fn dauneroad_clash(
     p: u32,
     m: u32,
