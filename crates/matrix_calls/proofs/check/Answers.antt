@@ -1,4 +1,5 @@
--- `matrix_calls::check` meets its contract: the refusal by the first check that fails, or the rank where both products are right.
+-- `matrix_calls::check` meets its contract: the refusal by the first check that fails, or the rank where both products are right. That
+-- the tables can be multiplied is found either way round, so that a pair of factors in the wrong order fails at what is told of it.
 use Rattle.checks.proofs.PassedOn.{refused_on}
 use mathlib.Core.List.{List}
 use Prim.Native.Nat.{ℕ}
@@ -41,13 +42,15 @@ pub returns-in_err-pair_checks : goal.returns-in_err-pair_checks
 returns-in_err-pair_checks c = rw (refused_on c.from_residual.result c.from_residual.ensures.1) (check_refused _ _ _ _ _ (c.in_err-pair_checks.ensures))
 
 pub invariant_of-inner : goal.invariant_of-inner
-invariant_of-inner c = record { pair = (pairs (goal.at.invariant_of-inner c).In_ok-pair_checks).0 }
+invariant_of-inner c =
+    let (inner, outer) = pairs (goal.at.invariant_of-inner c).In_ok-pair_checks in record { pair = search (inner, outer) }
 
 pub returns-then-not-absorbs : goal.returns-then-not-absorbs
 returns-then-not-absorbs c = check_not_inner _ _ _ _ _ (passed (goal.at.returns-then-not-absorbs c).In_ok-pair_checks) (guard_taken c.absorbs.ensures c.if-not-absorbs.true-raw)
 
 pub invariant_of-outer : goal.invariant_of-outer
-invariant_of-outer c = record { pair = (pairs (goal.at.invariant_of-outer c).In_ok-pair_checks).1 }
+invariant_of-outer c =
+    let (inner, outer) = pairs (goal.at.invariant_of-outer c).In_ok-pair_checks in record { pair = search (inner, outer) }
 
 pub returns-then-not-absorbs-2 : goal.returns-then-not-absorbs-2
 returns-then-not-absorbs-2 c =
