@@ -4,16 +4,19 @@ use mathlib.Core.Bool.{Bool, true, false}
 use Prim.Native.Nat.{ℕ, ◌<◌}
 use native.Mathlib.Omega.{arith}
 use lib.Dec.{eqb}
-use borrow.Author.Tests.{eq-eqb}
+use borrow.Author.Tests.{eq-eqb, ne_eqb}
 use Rattle.algebra.specs.Choice.{choose}
 use Rattle.algebra.specs.Matrix.{Vector, unit}
 use Rattle.field.specs.Residue.{reduce, residues}
 use Rattle.field.proofs.Residues.{residue_path, reduce_small}
 use Rattle.board_solve.specs.Records.{unit_number}
 
--- the unit row of j has 1 at j
+-- the unit row of j has 1 at j, and 0 at another place
 pub unit_here : (j t : ℕ) → t ≡ j → unit_number j t ≡ 1
 unit_here j t e = ap (λ b. choose {A = ℕ} b 1 0) (eq-eqb j t (sym e))
+
+pub unit_elsewhere : (j t : ℕ) → (t ≡ j → ⊥) → unit_number j t ≡ 0
+unit_elsewhere j t f = ap (λ b. choose {A = ℕ} b 1 0) (ne_eqb j t (λ e. f (sym e)))
 
 -- modulo p the unit row has the same numbers, since 1 is below p
 unit_value : (p j t : ℕ) → 1 < p → (unit (residues p) j t).value ≡ unit_number j t

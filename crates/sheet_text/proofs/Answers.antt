@@ -4,9 +4,8 @@ use Rattle.std.specs.Prelude.{Ok}
 use mathlib.Core.Path.{◌≡◌, refl}
 use Prim.Native.Nat.{ℕ}
 use native.Mathlib.Omega.{arith}
-use borrow.Author.Tests.{ne_eqb}
+use borrow.Author.Tests.{eq-eqb, ne_eqb}
 use Rattle.checks.specs.declared.Refusal.{Refusal}
-use Rattle.checks.specs.declared.Refusal.TheVariants.{Conflict}
 use Rattle.checks.specs.Refusal.{refusal_number}
 use Rattle.checks.specs.Told.{refused}
 use Rattle.checks.proofs.Refusals.{refusal_number_lem}
@@ -30,10 +29,10 @@ module _ (k : Refusal) (count : ℕ) where
   refusal_not_repeat : refusal_number k ≡ 100 → ⊥
   refusal_not_repeat e = omega (arith, (refusal_number_lem k).1)
 
+  pub conflict_answer : refusal_number k ≡ 9 → frame_line (refused k) count ≡ conflict_line count
+  unfolding frame_line
+  conflict_answer e = rw (ne_eqb (refusal_number k) 0 refusal_not_new, ne_eqb (refusal_number k) 100 refusal_not_repeat, eq-eqb (refusal_number k) 9 e)
+
   pub refused_answer : (refusal_number k ≡ 9 → ⊥) → frame_line (refused k) count ≡ refused_line (refusal_number k)
   unfolding frame_line
   refused_answer f = rw (ne_eqb (refusal_number k) 0 refusal_not_new, ne_eqb (refusal_number k) 100 refusal_not_repeat, ne_eqb (refusal_number k) 9 f)
-
-pub conflict_answer : (count : ℕ) → frame_line (refused Conflict) count ≡ conflict_line count
-unfolding frame_line
-conflict_answer count = refl
